@@ -1,0 +1,1 @@
+// Laws of the definitions, in proofs/. No code.

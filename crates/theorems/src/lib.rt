@@ -1,0 +1,1 @@
+// Theorems about the definitions, in proofs/. No code.
