@@ -1,0 +1,3 @@
+pub mod Lowest
+pub mod Naming
+pub mod Comparing

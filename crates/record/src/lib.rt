@@ -1,0 +1,180 @@
+// Records of 24 bytes: reading them, and refusals 3 and 4 over a list of them.
+use paper::Kind;
+ghost use mathlib.Core.Path.{_≡_};
+ghost use mathlib.Core.Bool.{true};
+ghost use Prim.Native.Nat.{_+_, _*_, _≤_, _<_};
+ghost use lib.ListN.{length};
+ghost use Rattle.paper.specs.Answer.{lowest, same};
+ghost use Rattle.paper.specs.Bytes.{word16, word32, ok-bytes, in-pool, name-of, rec-at, kids-fit, kind-at, kind-from, kids-at};
+ghost use Rattle.record.specs.Says.{tested};
+
+// The bit pattern of an id; its signed reading is what people see.
+pub struct FieldId(pub u32);
+
+// A place in today's list of records.
+pub struct Slot(pub usize);
+
+pub struct Refusal {
+    pub number: u32,
+    pub list: u32,
+    pub place: u32,
+}
+
+pub enum Check {
+    Fine,
+    Refused(Refusal),
+}
+
+pub fn wide(x: u8) -> u32
+    ensures { λ r. ⌜ (r ≡ x) × (r < 256) ⌝ }
+{
+    x as u32
+}
+
+pub fn le16(s: &[u8], at: usize) -> u32
+    requires { ⌜ at + 2 ≤ length (now s) ⌝ }
+    ensures { λ r. ⌜ (r ≡ word16 (now (s .entry)) at) × (r < 65536) ⌝ }
+{
+    wide(s[at]) + wide(s[at + 1]) * 256
+}
+
+pub fn le32(s: &[u8], at: usize) -> u32
+    requires { ⌜ at + 4 ≤ length (now s) ⌝ }
+    ensures { λ r. ⌜ r ≡ word32 (now (s .entry)) at ⌝ }
+{
+    wide(s[at]) + wide(s[at + 1]) * 256 + wide(s[at + 2]) * 65536 + wide(s[at + 3]) * 16777216
+}
+
+// Number of direct children of a record.
+pub fn kids_at(recs: &[u8], slot: usize) -> u32
+    requires { ⌜ slot * 24 + 24 ≤ length (now recs) ⌝ }
+    ensures { λ r. ⌜ (r ≡ kids-at (now (recs .entry)) slot) × (r < 65536) ⌝ }
+{
+    le16(recs, slot * 24 + 12)
+}
+
+pub fn kind_of(b: u8) -> Kind
+    ensures { λ r. ⌜ r ≡ kind-from b ⌝ }
+{
+    if b == 0 {
+        return Kind::Primitive;
+    }
+    if b == 1 {
+        return Kind::Structure;
+    }
+    if b == 2 {
+        return Kind::Listing;
+    }
+    Kind::Mapping
+}
+
+pub fn kind_at(recs: &[u8], slot: usize) -> Kind
+    requires { ⌜ slot * 24 + 24 ≤ length (now recs) ⌝ }
+    ensures { λ r. ⌜ r ≡ kind-at (now (recs .entry)) slot ⌝ }
+{
+    kind_of(recs[slot * 24 + 9])
+}
+
+pub fn kids_fit(kind: u8, kids: u32) -> bool
+    ensures { λ r. ⌜ r ≡ kids-fit kind kids ⌝ }
+{
+    (kind == 0) & (kids == 0) | (kind == 1) | (kind == 2) & (kids == 1) | (kind == 3) & (kids == 2)
+}
+
+pub fn bytes_ok(recs: &[u8], slot: usize) -> bool
+    requires { ⌜ slot * 24 + 24 ≤ length (now recs) ⌝ }
+    ensures { λ r. ⌜ r ≡ ok-bytes (now (recs .entry)) slot ⌝ }
+{
+    let at = slot * 24;
+    let kind = recs[at + 9];
+    let flags = recs[at + 10];
+    let pad = recs[at + 11];
+    let kids = le16(recs, at + 12);
+    let pad2 = le16(recs, at + 14);
+    let code = le32(recs, at + 16);
+    kids_fit(kind, kids) & (flags < 4) & (pad == 0) & (pad2 == 0) & ((kind == 0) | (code == 0))
+}
+
+// Refusal 3.
+pub fn check_bytes(recs: &[u8], n: usize, list: u32) -> Check
+    requires { ⌜ (n * 24 ≤ length (now recs)) × (n ≤ 1024) ⌝ }
+    ensures { λ r. ⌜ r ≡ tested 3 list (lowest (ok-bytes (now (recs .entry))) 0 n) ⌝ }
+{
+    let mut i = 0;
+    while i < n {
+        if !bytes_ok(recs, i) {
+            return Check::Refused(Refusal {
+                number: 3,
+                list,
+                place: i as u32,
+            });
+        }
+        i += 1;
+    }
+    Check::Fine
+}
+
+fn size(x: u32) -> usize
+    ensures { λ r. ⌜ r ≡ x ⌝ }
+{
+    x as usize
+}
+
+fn length_of(x: u8) -> usize
+    ensures { λ r. ⌜ (r ≡ x) × (r ≤ 255) ⌝ }
+{
+    x as usize
+}
+
+pub fn name_ok(recs: &[u8], pool: usize, slot: usize) -> bool
+    requires { ⌜ slot * 24 + 24 ≤ length (now recs) ⌝ }
+    ensures { λ r. ⌜ r ≡ in-pool pool (now (recs .entry)) slot ⌝ }
+{
+    size(le32(recs, slot * 24 + 4)) + length_of(recs[slot * 24 + 8]) <= pool
+}
+
+// Refusal 4.
+pub fn check_bounds(recs: &[u8], n: usize, pool: usize, list: u32) -> Check
+    requires { ⌜ (n * 24 ≤ length (now recs)) × (n ≤ 1024) ⌝ }
+    ensures { λ r. ⌜ r ≡ tested 4 list (lowest (in-pool pool (now (recs .entry))) 0 n) ⌝ }
+{
+    let mut i = 0;
+    while i < n {
+        if !name_ok(recs, pool, i) {
+            return Check::Refused(Refusal {
+                number: 4,
+                list,
+                place: i as u32,
+            });
+        }
+        i += 1;
+    }
+    Check::Fine
+}
+
+// A record's name: the very part of the pool that holds it.
+pub fn name_at<'a>(pool: &'a [u8], recs: &[u8], slot: usize) -> &'a [u8]
+    requires { ⌜ (slot * 24 + 24 ≤ length (now recs)) × (in-pool (length (now pool)) (now recs) slot ≡ true) ⌝ }
+    ensures { λ r. ⌜ now r ≡ name-of (now (pool .entry)) (now (recs .entry)) slot ⌝ }
+{
+    let from = size(le32(recs, slot * 24 + 4));
+    let len = length_of(recs[slot * 24 + 8]);
+    &pool[from..from + len]
+}
+
+pub fn equal(a: &[u8], b: &[u8]) -> bool
+    ensures { λ r. ⌜ r ≡ same (now (a .entry)) (now (b .entry)) ⌝ }
+{
+    let n = a.len();
+    if n != b.len() {
+        return false;
+    }
+    let mut i = 0;
+    while i < n {
+        if a[i] != b[i] {
+            return false;
+        }
+        i += 1;
+    }
+    true
+}

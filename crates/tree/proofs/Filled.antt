@@ -1,0 +1,100 @@
+-- What is read from a slot on: how many trees, and which slots with which counts.
+use mathlib.Core.Path.{_≡_, refl, sym, ap, _∙_}
+use mathlib.Core.Logic.{_⊎_, inl, inr, ⊎-elim}
+use mathlib.Core.List.{List, [], _∷_, _++_}
+use mathlib.Core.Bool.{Bool, true, false}
+use Prim.Native.Nat.{ℕ, zero, suc, _+_, _-_, _<_, _≤_}
+use native.Mathlib.Nat.{add-zero, add-suc, suc-add}
+use native.Mathlib.Numerals.{add-one, sub-one}
+use native.Mathlib.Omega.{arith}
+use borrow.Author.Tests.{lt-ltb, le-ltb, ltb-true, ltb-false}
+use lib.Dec.{ltb}
+use Rattle.paper.specs.Answer.{Answer, ok, refused, _>>=_}
+use Rattle.paper.specs.Forest.{Forest, empty, node, size, siblings, preorder, counts}
+use Rattle.paper.specs.Bytes.{from}
+use Rattle.paper.specs.Layout.{Part, nothing, before, row}
+use Rattle.tree.specs.Read.{got, fine, part, reads, itself}
+use Rattle.tree.specs.declared.Walked.{Walked}
+use Rattle.tree.specs.declared.Walked.the-variants.{End, Refused}
+use Rattle.tree.specs.Says.{ended}
+use Rattle.tree.proofs.Reading.{row-none, row-deep, row-past, row-in}
+
+pub lt-or-le : (a b : ℕ) → (a < b) ⊎ (b ≤ a)
+lt-or-le a b = go (ltb a b) refl
+  where
+    go : (t : Bool) → ltb a b ≡ t → (a < b) ⊎ (b ≤ a)
+    go true e = inl (ltb-true a b e)
+    go false e = inr (ltb-false a b e)
+
+pub refused≢ok : {A : Type 0} {n l p : ℕ} {a : A} → refused n l p ≡ ok a → ⊥
+refused≢ok e = let z : _≡_ {A = ℕ} 0 1 = cc in omega arith
+
+pub unbind : {A B P : Type 0} (x : Answer A) (f : A → Answer B) {b : B} → (x >>= f) ≡ ok b → ((a : A) → x ≡ ok a → f a ≡ ok b → P) → P
+unfolding _>>=_
+unbind (ok a) f e k = k a refl e
+unbind (refused n l p) f e k = absurd (refused≢ok e)
+
+pub ok-is : {A : Type 0} {a b : A} → ok a ≡ ok b → a ≡ b
+ok-is e = cc
+
+pub from-append : (g : ℕ → ℕ) (k a b : ℕ) → from g k (a + b) ≡ from g k a ++ from g (k + a) b
+unfolding from
+from-append g k zero b = let e : 0 + b ≡ b = omega arith in rw (e, add-zero k)
+from-append g k (suc a) b = let e : k + suc a ≡ suc k + a = omega arith in rw (suc-add a b, e) (ap (λ (l : List ℕ). g k ∷ l) (from-append g (suc k) a b))
+
+-- p has c trees, a record for each slot from k on, and with each its number of members
+pub record Full (kids : ℕ → ℕ) (n c k : ℕ) (p : Part) : Type 0 where
+  pub next : p .next ≡ k + size (p .trees)
+  pub most : k ≤ n → p .next ≤ n
+  pub trees : siblings (p .trees) ≡ c
+  pub slots : preorder (p .trees) ≡ from itself k (size (p .trees))
+  pub sizes : counts (p .trees) ≡ from kids k (size (p .trees))
+
+full-none : (kids : ℕ → ℕ) (n k : ℕ) → Full kids n 0 k (nothing k)
+unfolding size siblings preorder counts from
+full-none kids n k = record { next = omega arith; most = λ h. h; trees = refl; slots = refl; sizes = refl }
+
+pub full-join : (kids : ℕ → ℕ) (n m c k : ℕ) (a b : Part) → k < n → m ≡ kids k → Full kids n m (suc k) a → Full kids n c (a .next) b → Full kids n (suc c) k (before k a b)
+unfolding size siblings preorder counts from
+full-join kids n m c k a b l e f g =
+    record {
+      next = omega (arith, f .next, g .next);
+      most = λ h. g .most (f .most l);
+      trees = ap suc (g .trees);
+      slots = rw (f .slots, g .slots, f .next, from-append itself (suc k) (size (a .trees)) (size (b .trees)));
+      sizes = rw (f .trees, f .sizes, g .sizes, f .next, from-append kids (suc k) (size (a .trees)) (size (b .trees)), e);
+    }
+
+module _ (li : ℕ) (kids : ℕ → ℕ) (n : ℕ) where
+  -- how an answer came to be
+  pub row-parts : (P : Type 0) (lv c k : ℕ) (p : Part) → (c ≡ 0 → ⊥) → row li kids n lv c k ≡ ok p
+      → ((a b : Part) → (lv ≡ 0 → ⊥) → k < n → row li kids n (lv - 1) (kids k) (k + 1) ≡ ok a → row li kids n lv (c - 1) (a .next) ≡ ok b → before k a b ≡ p → P) → P
+  row-parts P zero c k p h e f = absurd (refused≢ok (sym (row-deep li kids n 0 c k refl h) ∙ e))
+  row-parts P (suc lv) c k p h e f =
+      ⊎-elim
+      (λ l. unbind _ _ (sym (row-in li kids n (suc lv) c k (λ z. omega arith) h l) ∙ e) λ a ea e₁. unbind _ _ e₁ λ b eb e₂. f a b (λ z. omega arith) l ea eb (ok-is e₂))
+      (λ l. absurd (refused≢ok (sym (row-past li kids n (suc lv) c k (λ z. omega arith) h l) ∙ e)))
+      (lt-or-le k n)
+
+  full-row : (lv : ℕ) → ((c k : ℕ) (p : Part) → row li kids n lv c k ≡ ok p → Full kids n c k p) → (c k : ℕ) (p : Part) → row li kids n (suc lv) c k ≡ ok p → Full kids n c k p
+  full-row lv ih zero k p e = rw (sym (ok-is (sym (row-none li kids n (suc lv) 0 k refl) ∙ e))) (full-none kids n k)
+  full-row lv ih (suc c) k p e =
+      row-parts _ (suc lv) (suc c) k p (λ z. omega arith) e λ a b q l ea eb ej.
+      rw (← ej) (full-join kids n (kids k) c k a b l refl (ih (kids k) (suc k) a (rw (sub-one (suc lv), add-one k) at ea)) (full-row lv ih c (a .next) b (rw (sub-one (suc c)) at eb)))
+
+  pub full : (lv c k : ℕ) (p : Part) → row li kids n lv c k ≡ ok p → Full kids n c k p
+  full zero zero k p e = rw (sym (ok-is (sym (row-none li kids n 0 0 k refl) ∙ e))) (full-none kids n k)
+  full zero (suc c) k p e = absurd (refused≢ok (sym (row-deep li kids n 0 (suc c) k refl (λ z. omega arith)) ∙ e))
+  full (suc lv) c k p e = full-row lv (full lv) c k p e
+
+-- a row that ends, ends within the list, at or after the slot where it began
+pub ended-ok : (P : Type 0) (x : Answer Part) (w : Walked) (j : ℕ) → w ≡ ended x → w ≡ End j → ((p : Part) → x ≡ ok p → p .next ≡ j → P) → P
+unfolding ended
+ended-ok P (ok p) w j e d f = f p refl cc
+ended-ok P (refused n l k) w j e d f = let z : _≡_ {A = ℕ} 0 1 = cc in absurd (omega arith)
+
+pub end-room : (li : ℕ) (kids : ℕ → ℕ) (n lv c k j : ℕ) (w : Walked) → w ≡ ended (row li kids n lv c k) → w ≡ End j → (k ≤ j) × (k ≤ n → j ≤ n)
+end-room li kids n lv c k j w e d = ended-ok _ (row li kids n lv c k) w j e d λ p ep en. let f = full li kids n lv c k p ep in (omega (arith, f .next), λ h. rw en at (f .most h))
+
+pub next-within : (li : ℕ) (kids : ℕ → ℕ) (n lv c k j : ℕ) (w : Walked) → w ≡ ended (row li kids n lv c (k + 1)) → w ≡ End j → k < n → j ≤ n
+next-within li kids n lv c k j w e d h = end-room li kids n lv c (k + 1) j w e d .1 (omega arith)

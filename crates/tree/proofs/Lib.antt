@@ -1,0 +1,7 @@
+pub mod Reading
+pub mod Filled
+pub mod Ending
+pub mod Roots
+pub mod Steps
+pub mod Labels
+pub mod Deciding

@@ -1,0 +1,77 @@
+-- A row that is read: its first record, the row inside it and the rest. For walks that come after refusal 5 was tested.
+use mathlib.Core.Path.{_≡_, refl, sym, ap, _∙_}
+use mathlib.Core.Bool.{Bool, true, false, true≢false}
+use mathlib.Core.Option.{Option, none, some}
+use Prim.Native.Nat.{ℕ, zero, suc, _+_, _-_, _<_, _≤_}
+use native.Mathlib.Omega.{arith}
+use Rattle.paper.specs.Answer.{Answer, ok, refused, lowest}
+use Rattle.paper.specs.Layout.{Part, nothing, before, row}
+use Rattle.tree.specs.Read.{got, fine, part, reads}
+use Rattle.tree.proofs.Reading.{row-none}
+use Rattle.tree.proofs.Filled.{Full, full, row-parts, lt-or-le}
+use mathlib.Core.Logic.{⊎-elim}
+
+fine-got : (x : Answer Part) → fine x ≡ true → x ≡ ok (got x)
+fine-got (ok p) e = refl
+fine-got (refused n l k) e = absurd (true≢false (sym e))
+
+got-is : (x : Answer Part) (p : Part) → x ≡ ok p → got x ≡ p
+got-is x p e = rw e
+
+fine-is : (x : Answer Part) (p : Part) → x ≡ ok p → fine x ≡ true
+fine-is x p e = rw e
+
+pub part-is : (li : ℕ) (kids : ℕ → ℕ) (n lv c k : ℕ) (p : Part) → row li kids n lv c k ≡ ok p → part li kids n lv c k ≡ p
+unfolding part
+part-is li kids n lv c k p e = got-is (row li kids n lv c k) p e
+
+pub reads-is : (li : ℕ) (kids : ℕ → ℕ) (n lv c k : ℕ) (p : Part) → row li kids n lv c k ≡ ok p → reads li kids n lv c k ≡ true
+unfolding reads
+reads-is li kids n lv c k p e = fine-is (row li kids n lv c k) p e
+
+pub part-none : (li : ℕ) (kids : ℕ → ℕ) (n lv c k : ℕ) → c ≡ 0 → part li kids n lv c k ≡ nothing k
+part-none li kids n lv c k e = part-is li kids n lv c k (nothing k) (row-none li kids n lv c k e)
+
+module _ (li : ℕ) (kids : ℕ → ℕ) (n lv c k : ℕ) (s : reads li kids n lv c k ≡ true) where
+  pub was-read : row li kids n lv c k ≡ ok (part li kids n lv c k)
+  unfolding reads part
+  was-read = fine-got (row li kids n lv c k) s
+
+  pub part-full : Full kids n c k (part li kids n lv c k)
+  part-full = full li kids n lv c k (part li kids n lv c k) was-read
+
+  pub no-deep : (c ≡ 0 → ⊥) → lv ≡ 0 → ⊥
+  no-deep h = row-parts li kids n (lv ≡ 0 → ⊥) lv c k (part li kids n lv c k) h was-read λ a b q l ea eb ej. q
+
+  pub no-past : (c ≡ 0 → ⊥) → n ≤ k → ⊥
+  no-past h = row-parts li kids n (n ≤ k → ⊥) lv c k (part li kids n lv c k) h was-read λ a b q l ea eb ej g. omega arith
+
+  module _ (m : ℕ) (h : c ≡ 0 → ⊥) (em : m ≡ kids k) where
+    pub part-in : part li kids n lv c k ≡ before k (part li kids n (lv - 1) m (k + 1)) (part li kids n lv (c - 1) (part li kids n (lv - 1) m (k + 1) .next))
+    part-in = row-parts li kids n _ lv c k (part li kids n lv c k) h was-read λ a b q l ea eb ej.
+        let pa = part-is li kids n (lv - 1) (kids k) (k + 1) a ea in
+        sym ej ∙ rw (em, pa, part-is li kids n lv (c - 1) (a .next) b eb)
+
+    pub reads-inner : reads li kids n (lv - 1) m (k + 1) ≡ true
+    reads-inner = row-parts li kids n _ lv c k (part li kids n lv c k) h was-read λ a b q l ea eb ej. rw em (reads-is li kids n (lv - 1) (kids k) (k + 1) a ea)
+
+    pub reads-rest : (j : ℕ) → j ≡ part li kids n (lv - 1) m (k + 1) .next → reads li kids n lv (c - 1) j ≡ true
+    reads-rest j ej = row-parts li kids n _ lv c k (part li kids n lv c k) h was-read λ a b q l ea eb _.
+        rw (ej, em, part-is li kids n (lv - 1) (kids k) (k + 1) a ea) (reads-is li kids n lv (c - 1) (a .next) b eb)
+
+    -- the slot after the inside is within the list
+    pub next-in : (j : ℕ) → k < n → j ≡ part li kids n (lv - 1) m (k + 1) .next → j ≤ n
+    next-in j l ej = row-parts li kids n _ lv c k (part li kids n lv c k) h was-read λ a b q _ ea eb _.
+        rw (ej, em, part-is li kids n (lv - 1) (kids k) (k + 1) a ea) (full li kids n (lv - 1) (kids k) (k + 1) a ea .most (omega arith))
+
+pub ruleset steps = (reads-inner, reads-rest, next-in)
+
+-- A test that fails at no place holds at each.
+pub lowest-none : (t : ℕ → Bool) (n i k : ℕ) → lowest t i n ≡ none → i ≤ k → k < i + n → t k ≡ true
+unfolding lowest
+lowest-none t zero i k e l h = absurd (omega arith)
+lowest-none t (suc n) i k e l h = go (t i) refl (λ d w. lowest-none t n (suc i) k d w (omega arith))
+  where
+    go : (b : Bool) → t i ≡ b → (lowest t (suc i) n ≡ none → suc i ≤ k → t k ≡ true) → t k ≡ true
+    go false q ih = let z : some i ≡ none = sym (rw (q, lowest)) ∙ e in let y : _≡_ {A = ℕ} 0 1 = cc in absurd (omega arith)
+    go true q ih = ⊎-elim (λ w. ih (rw (q, lowest) at e) w) (λ w. let g : i ≡ k = omega arith in rw (← g) q) (lt-or-le i k)

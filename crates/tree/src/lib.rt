@@ -1,0 +1,197 @@
+// Trees of records: refusals 5 and 6, and 3 to 6 together.
+use paper::Role;
+use paper::first_role;
+use paper::next_role;
+use record::Check;
+use record::Refusal;
+use record::check_bounds;
+use record::check_bytes;
+use record::equal;
+use record::kids_at;
+use record::kind_at;
+use record::name_at;
+ghost use mathlib.Core.Path.{_≡_};
+ghost use mathlib.Core.Bool.{true};
+ghost use mathlib.Core.Option.{none};
+ghost use Prim.Native.Nat.{_+_, _*_, _/_, _≤_, _<_};
+ghost use lib.ListN.{length};
+ghost use Rattle.paper.specs.Answer.{lowest};
+ghost use Rattle.paper.specs.Field.{first};
+ghost use Rattle.paper.specs.Sound.{fitting};
+ghost use Rattle.paper.specs.Bytes.{in-pool, name-of, kind-at, kids-at};
+ghost use Rattle.paper.specs.Layout.{row, roots};
+ghost use Rattle.paper.specs.Decode.{decode};
+ghost use Rattle.tree.specs.Read.{reads};
+ghost use Rattle.tree.specs.Says.{ended, rooted, decoded, Labelled};
+
+pub enum Walked {
+    End(usize),
+    Refused(Refusal),
+}
+
+pub enum Shaped {
+    Roots(u32),
+    Refused(Refusal),
+}
+
+// Where `count` trees from `slot` on end, with `levels` levels left for them. A loop over the siblings.
+pub fn row_end(recs: &[u8], n: usize, slot: usize, count: u32, levels: usize, list: u32) -> Walked
+    requires { ⌜ (n * 24 ≤ length (now recs)) × (n ≤ 1024) × (slot ≤ n) ⌝ }
+    ensures { λ r. ⌜ r ≡ ended (row list (kids-at (now (recs .entry))) n levels count slot) ⌝ }
+{
+    let mut at = slot;
+    let mut left = count;
+    while 0 < left {
+        if levels == 0 {
+            return Walked::Refused(Refusal {
+                number: 5,
+                list,
+                place: at as u32,
+            });
+        }
+        if n <= at {
+            return Walked::Refused(Refusal {
+                number: 5,
+                list,
+                place: at as u32,
+            });
+        }
+        let kids = kids_at(recs, at);
+        match row_end(recs, n, at + 1, kids, levels - 1, list) {
+            Walked::End(next) => {
+                at = next;
+            }
+            Walked::Refused(r) => {
+                return Walked::Refused(r);
+            }
+        }
+        left -= 1;
+    }
+    Walked::End(at)
+}
+
+// Refusal 5, or the number of roots.
+pub fn check_shape(recs: &[u8], n: usize, list: u32) -> Shaped
+    requires { ⌜ (n * 24 ≤ length (now recs)) × (n ≤ 1024) ⌝ }
+    ensures { λ r. ⌜ r ≡ rooted 0 (roots list (kids-at (now (recs .entry))) n n 0) ⌝ }
+{
+    let mut slot = 0;
+    let mut count: u32 = 0;
+    while slot < n {
+        let kids = kids_at(recs, slot);
+        match row_end(recs, n, slot + 1, kids, 15, list) {
+            Walked::End(next) => {
+                slot = next;
+                count += 1;
+            }
+            Walked::Refused(r) => {
+                return Shaped::Refused(r);
+            }
+        }
+    }
+    Shaped::Roots(count)
+}
+
+// Whether a record of this role may have this name.
+pub fn fits_role(name: &[u8], role: Role) -> bool
+    ensures { λ r. ⌜ r ≡ fitting role (now (name .entry)) ⌝ }
+{
+    match role {
+        Role::Member => true,
+        Role::Element => equal(name, b"element"),
+        Role::Key => equal(name, b"key"),
+        Role::Value => equal(name, b"value"),
+    }
+}
+
+// The role of a record's first member.
+pub fn inside_role(recs: &[u8], slot: usize) -> Role
+    requires { ⌜ slot * 24 + 24 ≤ length (now recs) ⌝ }
+    ensures { λ r. ⌜ r ≡ first (kind-at (now (recs .entry)) slot) ⌝ }
+{
+    first_role(kind_at(recs, slot))
+}
+
+fn label_ok(recs: &[u8], pool: &[u8], slot: usize, role: Role) -> bool
+    requires { ⌜ (slot * 24 + 24 ≤ length (now recs)) × (in-pool (length (now pool)) (now recs) slot ≡ true) ⌝ }
+    ensures { λ r. ⌜ r ≡ fitting role (name-of (now (pool .entry)) (now (recs .entry)) slot) ⌝ }
+{
+    fits_role(name_at(pool, recs, slot), role)
+}
+
+// Refusal 6 in a row of trees, or where the row ends.
+pub fn check_labels(
+    recs: &[u8],
+    pool: &[u8],
+    n: usize,
+    slot: usize,
+    count: u32,
+    levels: usize,
+    role: Role,
+    list: u32,
+) -> Walked
+    requires { ⌜ (n * 24 ≤ length (now recs)) × (n ≤ 1024) × (slot ≤ n) × (reads list (kids-at (now recs)) n levels count slot ≡ true) × (lowest (in-pool (length (now pool)) (now recs)) 0 n ≡ none) ⌝ }
+    ensures { λ r. ⌜ Labelled (now (pool .entry)) (now (recs .entry)) list n levels count slot role r ⌝ }
+{
+    if count == 0 {
+        return Walked::End(slot);
+    }
+    if levels == 0 {
+        return Walked::End(slot);
+    }
+    if n <= slot {
+        return Walked::End(slot);
+    }
+    if !label_ok(recs, pool, slot, role) {
+        return Walked::Refused(Refusal {
+            number: 6,
+            list,
+            place: slot as u32,
+        });
+    }
+    let kids = kids_at(recs, slot);
+    let inside = inside_role(recs, slot);
+    match check_labels(recs, pool, n, slot + 1, kids, levels - 1, inside, list) {
+        Walked::End(next) => check_labels(
+            recs,
+            pool,
+            n,
+            next,
+            count - 1,
+            levels,
+            next_role(role),
+            list,
+        ),
+        Walked::Refused(r) => Walked::Refused(r),
+    }
+}
+
+// Refusals 3 to 6, or the number of roots.
+pub fn check_tree(recs: &[u8], pool: &[u8], list: u32) -> Shaped
+    requires { ⌜ length (now recs) ≤ 24576 ⌝ }
+    ensures { λ r. ⌜ r ≡ decoded (decode list (now (recs .entry)) (now (pool .entry))) ⌝ }
+{
+    let n = recs.len() / 24;
+    if let Check::Refused(r) = check_bytes(recs, n, list) {
+        return Shaped::Refused(r);
+    }
+    if let Check::Refused(r) = check_bounds(recs, n, pool.len(), list) {
+        return Shaped::Refused(r);
+    }
+    match check_shape(recs, n, list) {
+        Shaped::Roots(count) => match check_labels(
+            recs,
+            pool,
+            n,
+            0,
+            count,
+            16,
+            Role::Member,
+            list,
+        ) {
+            Walked::End(_) => Shaped::Roots(count),
+            Walked::Refused(r) => Shaped::Refused(r),
+        },
+        Shaped::Refused(r) => Shaped::Refused(r),
+    }
+}
