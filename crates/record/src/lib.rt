@@ -14,14 +14,41 @@ pub struct FieldId(pub u32);
 // A place in today's list of records.
 pub struct Slot(pub usize);
 
+// Why a request is turned down: 01's number, the list and the place in it.
 pub struct Refusal {
     pub number: u32,
     pub list: u32,
     pub place: u32,
 }
 
+// A test over a list.
 pub enum Check {
     Fine,
+    Refused(Refusal),
+}
+
+// What a look-up in a tree finds.
+pub enum Found {
+    At(FieldId, Slot),
+    Nothing,
+}
+
+// What a look-up in lent bytes answers.
+pub enum Sought {
+    Looked(Found),
+    Refused(Refusal),
+}
+
+// How much an accepted answer holds: records, name bytes, and for an update the last id consumed.
+pub struct Sizes {
+    pub records: u32,
+    pub names: u32,
+    pub last_id: u32,
+}
+
+// What update, pruning and renumbering answer; the bytes stand in the lent buffers.
+pub enum Changed {
+    Done(Sizes),
     Refused(Refusal),
 }
 
