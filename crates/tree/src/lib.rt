@@ -1,4 +1,5 @@
 // Trees of records: refusals 5 and 6, and 3 to 6 together.
+use limits::sized;
 use paper::Role;
 use paper::first_role;
 use paper::next_role;
@@ -23,6 +24,7 @@ ghost use Rattle.paper.specs.Layout.{row, roots};
 ghost use Rattle.paper.specs.Decode.{decode};
 ghost use Rattle.tree.specs.Read.{reads};
 ghost use Rattle.tree.specs.Says.{ended, rooted, decoded, Labelled};
+ghost use Rattle.tree.specs.Only.{only-read};
 
 pub enum Walked {
     End(usize),
@@ -160,7 +162,7 @@ pub fn check_labels(
     Walked::End(at)
 }
 
-// Refusals 3 to 6, or the number of roots.
+// Refusals 3 to 6, or the number of roots: what `decode` gives. Refusal 2 is tested before it, for everything at once, hence the length.
 pub fn check_tree(recs: &[u8], pool: &[u8], list: u32) -> Shaped
     requires { ⌜ length (now recs) ≤ 24576 ⌝ }
     ensures { λ r. ⌜ r ≡ decoded (decode list (now (recs .entry)) (now (pool .entry))) ⌝ }
@@ -188,4 +190,19 @@ pub fn check_tree(recs: &[u8], pool: &[u8], list: u32) -> Shaped
         },
         Shaped::Refused(r) => Shaped::Refused(r),
     }
+}
+
+// Refusals 2 to 6, or the number of roots, of a tree that is only read.
+pub fn read_tree(recs: &[u8], pool: &[u8]) -> Shaped
+    ensures { λ r. ⌜ r ≡ decoded (only-read (now (recs .entry)) (now (pool .entry))) ⌝ }
+{
+    if !sized(recs, pool) {
+        // refusal 2
+        return Shaped::Refused(Refusal {
+            number: 2,
+            list: 0,
+            place: 0,
+        });
+    }
+    check_tree(recs, pool, 0)
 }
