@@ -1,13 +1,13 @@
 -- Refusals 3 and 4 over a list of entries, once for both lists: whatever the rule is. `search listing`.
-use mathlib.Core.Path.{_≡_, refl, sym, ap, _∙_}
+use mathlib.Core.Path.{_≡_, sym, ap, _∙_}
 use mathlib.Core.List.{List}
-use mathlib.Core.Bool.{Bool, true, false}
-use Prim.Native.Nat.{ℕ, _+_, _-_, _/_, _≤_, _<_}
+use mathlib.Core.Bool.{Bool, true}
+use Prim.Native.Nat.{ℕ, _+_, _-_, _≤_, _<_}
 use native.Mathlib.Nat.{add-sub-cancel-left}
 use native.Mathlib.Omega.{arith}
 use borrow.Author.Tests.{leb-true}
 use lib.ListN.{length, take, drop}
-use Rattle.paper.specs.Answer.{ok, lowest}
+use Rattle.paper.specs.Answer.{lowest}
 use Rattle.paper.specs.Lists.{entry-at, path-in, path-of, entries, entries-ok}
 use Rattle.laws.proofs.Basics.{unbind, fault-ok}
 use Rattle.laws.proofs.Fitting.{lowest-none}
