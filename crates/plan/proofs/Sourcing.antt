@@ -1,21 +1,19 @@
 -- A planned record is one of two lists': below 1,024 the base's, else the additions'. `search sourcing`.
 use Prim.Native.Nat.{ℕ, _+_, _-_, _*_, _/_, _%_, _<_, _≤_}
-use mathlib.Core.Path.{_≡_, refl, sym, ap, _∙_}
-use mathlib.Core.Bool.{Bool, true, false, cond}
+use mathlib.Core.Path.{_≡_}
+use mathlib.Core.Bool.{true}
 use mathlib.Core.Logic.{⊎-elim}
 use mathlib.Core.List.{List}
 use native.Mathlib.Omega.{arith}
 use borrow.Author.Tests.{leb-true, lt-ltb, le-ltb}
-use lib.Dec.{ltb}
-use lib.ListN.{length, take, drop, length-drop}
+use lib.ListN.{length, drop, length-drop}
 use lib.Seq.{length-take-le}
 use Rattle.paper.specs.declared.Kind.{Kind}
-use Rattle.paper.specs.Field.{Field}
 use Rattle.paper.specs.Bytes.{turned, rec-at, kind-at, name-of, in-pool, field-at}
-use Rattle.paper.specs.Encode.{bytes32, kind-byte, row24, rec-bytes}
+use Rattle.paper.specs.Encode.{bytes32, row24, rec-bytes}
 use Rattle.tree.proofs.Filled.{lt-or-le}
-use Rattle.plan.specs.Plan.{Lent, lent, source-field, planned-field, Sits}
-use Rattle.plan.specs.Sources.{source-kind, source-len, row-of, source-row, In, Inside}
+use Rattle.plan.specs.Plan.{Lent, source-field, planned-field, Sits}
+use Rattle.plan.specs.Sources.{source-kind, source-len, row-of, source-row, In}
 
 -- ---- what the code reads
 

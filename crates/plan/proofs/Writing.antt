@@ -1,13 +1,13 @@
 -- Bytes one after another, `search putting`; planned records one after another: what is left to write gives the whole.
-use Prim.Native.Nat.{ℕ, zero, suc, _+_, _*_, _-_, _<_, _≤_}
+use Prim.Native.Nat.{ℕ, suc, _+_, _*_, _-_, _<_, _≤_}
 use mathlib.Core.Path.{_≡_, refl, sym, ap, _∙_}
-use mathlib.Core.List.{List, [], _∷_, _++_}
+use mathlib.Core.List.{List, _++_}
 use native.Mathlib.Nat.{add-zero}
 use native.Mathlib.Numerals.{add-one}
 use native.Mathlib.Omega.{arith}
 use lib.ListN.{length, set, drop, getD, length-append}
 use lib.Seq.{sets, length-sets, drop-cons, drop-length}
-use Rattle.paper.specs.Forest.{Forest, size, preorder, counts}
+use Rattle.paper.specs.Forest.{size, preorder, counts}
 use Rattle.paper.specs.Field.{Field}
 use Rattle.paper.specs.Bytes.{from}
 use Rattle.paper.specs.Encode.{row24, rec-bytes, encode-records, encode-names, record-bytes, pool-bytes}
