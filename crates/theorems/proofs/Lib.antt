@@ -1,13 +1,9 @@
 -- The theorems of document 01.
+pub mod Steps
+pub mod Counting
+pub mod Columns
 pub mod Evolution
-pub mod Lookup
-pub mod Numbering
-pub mod Pruning
 pub mod Shaped
 pub mod Rebuilt
-pub mod Storing
+pub mod Numbering
 pub mod Renumbered
-pub mod Pruned
-pub mod Beginning
-pub mod Again
-pub mod Twice
