@@ -6,4 +6,5 @@ pub mod Lies
 pub mod Written
 pub mod RoundTrip
 pub mod Fitting
+pub mod Whole
 pub mod Natural

@@ -2,12 +2,14 @@
 use Prim.Native.Nat.{ℕ, zero, suc, _+_, _<_, _≤_}
 use mathlib.Core.Path.{_≡_, refl, sym, ap, _∙_}
 use mathlib.Core.Logic.{_⊎_, inl, inr}
-use mathlib.Core.Bool.{Bool, true, false, cond}
+use mathlib.Core.Bool.{Bool, true, false, _||_, cond}
+use mathlib.Core.Option.{none}
 use mathlib.Core.List.{List, [], _∷_, _++_}
 use native.Mathlib.Omega.{arith}
 use native.Mathlib.Nat.{suc-add, add-suc, zero-add, add-zero}
-use lib.Dec.{eqb}
-use borrow.Author.Tests.{eq-eqb, eqb-true, eqb-false}
+use lib.Dec.{eqb, leb}
+use borrow.Author.Tests.{eq-eqb, eqb-true, eqb-false, leb-true, leb-false}
+use Rattle.paper.specs.Answer.{any, repeated}
 use Rattle.laws.specs.Members.{_∈_}
 use Rattle.theorems.specs.Numbers.{range, tally}
 
@@ -64,3 +66,46 @@ once i c (suc n) = go (eqb i c) refl (once i (suc c) n)
           below = λ l. let z = r .below (omega arith) in rw e (omega arith);
           past = λ l. let z = r .past (omega arith) in rw e (omega arith);
         }
+
+pub at-most-once : (i c n : ℕ) → tally i (range c n) ≤ 1
+at-most-once i c n = low (leb c i) refl
+  where
+    high : (b : Bool) → leb (c + n) i ≡ b → c ≤ i → tally i (range c n) ≤ 1
+    high true q l = let z = once i c n .past (leb-true (c + n) i q) in omega arith
+    high false q l = let z = once i c n .inside l (leb-false (c + n) i q) in omega arith
+
+    low : (b : Bool) → leb c i ≡ b → tally i (range c n) ≤ 1
+    low true q = high (leb (c + n) i) refl (leb-true c i q)
+    low false q = let z = once i c n .below (leb-false c i q) in omega arith
+
+pub inside-low : (x c n : ℕ) → 1 ≤ tally x (range c n) → c ≤ x
+inside-low x c n h = go (leb c x) refl
+  where
+    go : (b : Bool) → leb c x ≡ b → c ≤ x
+    go true q = leb-true c x q
+    go false q = let z = once x c n .below (leb-false c x q) in absurd (omega arith)
+
+pub inside-high : (x c n : ℕ) → 1 ≤ tally x (range c n) → x < c + n
+inside-high x c n h = go (leb (c + n) x) refl
+  where
+    go : (b : Bool) → leb (c + n) x ≡ b → x < c + n
+    go true q = let z = once x c n .past (leb-true (c + n) x q) in absurd (omega arith)
+    go false q = leb-false (c + n) x q
+
+-- ---- lists in which each number stands at most once have no equal elements
+
+not-seen : (x : ℕ) (seen : List ℕ) → tally x seen ≡ 0 → any (eqb x) seen ≡ false
+not-seen x [] e = refl
+not-seen x (y ∷ seen) e = go (eqb x y) e (not-seen x seen)
+  where
+    go : (b : Bool) → cond b 1 0 + tally x seen ≡ 0 → (tally x seen ≡ 0 → any (eqb x) seen ≡ false)
+        → (b || any (eqb x) seen) ≡ false
+    go true q r = absurd (omega arith)
+    go false q r = r (omega arith)
+
+pub none-repeated : (seen : List ℕ) (k : ℕ) (s : List ℕ) → ((i : ℕ) → tally i seen + tally i s ≤ 1)
+    → repeated eqb seen k s ≡ none
+none-repeated seen k [] h = refl
+none-repeated seen k (x ∷ s) h =
+    let a = rw (eq-eqb x x refl) at (h x) in
+    rw (not-seen x seen (omega arith)) (none-repeated (x ∷ seen) (suc k) s (λ i. let b = h i in omega arith))

@@ -7,3 +7,7 @@ pub mod Shaped
 pub mod Rebuilt
 pub mod Numbering
 pub mod Renumbered
+pub mod Parts
+pub mod Pruned
+pub mod Opened
+pub mod Again

@@ -2,4 +2,5 @@
 pub mod Numbers
 pub mod Run
 pub mod Stored
+pub mod Again
 pub mod Changed
