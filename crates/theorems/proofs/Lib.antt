@@ -11,3 +11,4 @@ pub mod Parts
 pub mod Pruned
 pub mod Opened
 pub mod Again
+pub mod Storing
