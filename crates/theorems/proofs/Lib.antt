@@ -12,3 +12,5 @@ pub mod Pruned
 pub mod Opened
 pub mod Again
 pub mod Storing
+pub mod Beginning
+pub mod Wrong

@@ -4,3 +4,4 @@ pub mod Run
 pub mod Stored
 pub mod Again
 pub mod Changed
+pub mod Wrong
