@@ -7,4 +7,5 @@ pub mod Written
 pub mod RoundTrip
 pub mod Fitting
 pub mod Whole
+pub mod Octets
 pub mod Natural

@@ -14,3 +14,5 @@ pub mod Again
 pub mod Storing
 pub mod Beginning
 pub mod Wrong
+pub mod One
+pub mod Ends

@@ -5,3 +5,4 @@ pub mod Stored
 pub mod Again
 pub mod Changed
 pub mod Wrong
+pub mod One
