@@ -16,3 +16,4 @@ pub mod Beginning
 pub mod Wrong
 pub mod One
 pub mod Ends
+pub mod Promises
