@@ -1,12 +1,11 @@
 -- The records of a fit tree, written, are bytes: words are cut into bytes, and lengths, kinds and flags are small.
 use Prim.Native.Nat.{ℕ, zero, suc, _+_, _/_, _%_, _<_}
-use mathlib.Core.Path.{_≡_, refl}
 use mathlib.Core.List.{List, [], _∷_, _++_, append-assoc, append-nil}
 use native.Mathlib.Omega.{arith}
-use lib.ListN.{length, getD}
+use lib.ListN.{length}
 use Rattle.paper.specs.declared.Kind.{Kind}
 use Rattle.paper.specs.declared.Kind.the-variants.{Primitive, Structure, Listing, Mapping}
-use Rattle.paper.specs.Forest.{Forest, empty, node, siblings, preorder, counts}
+use Rattle.paper.specs.Forest.{Forest, empty, node, preorder, counts}
 use Rattle.paper.specs.Field.{Field}
 use Rattle.paper.specs.Bytes.{turned}
 use Rattle.paper.specs.Encode.{kind-byte, bytes16, bytes32, row24, rec-bytes, encode-records, record-bytes}

@@ -1,19 +1,19 @@
 -- `decode` leaves no record out: each root takes one record at least, and the roots go on until none is left.
 use Prim.Native.Nat.{ℕ, zero, suc, _+_, _≤_}
-use mathlib.Core.Path.{_≡_, refl, sym, ap, _∙_}
+use mathlib.Core.Path.{_≡_, refl, ap}
 use mathlib.Core.Bool.{Bool, true, false}
 use mathlib.Core.List.{List}
 use native.Mathlib.Omega.{arith}
 use lib.Dec.{ltb}
 use borrow.Author.Tests.{ltb-false}
 use Rattle.paper.specs.Answer.{Answer, ok, _>>=_}
-use Rattle.paper.specs.Forest.{Forest, empty, node, size, mapped}
+use Rattle.paper.specs.Forest.{Forest, size, mapped}
 use Rattle.paper.specs.Field.{Field}
 use Rattle.paper.specs.Bytes.{field-at, kids-at, slots}
 use Rattle.paper.specs.Layout.{Part, nothing, before, row, roots}
 use Rattle.paper.specs.Decode.{fields, decode}
 use Rattle.laws.proofs.Basics.{unbind, ok-is}
-use Rattle.laws.proofs.Taken.{Took, roots-take}
+use Rattle.laws.proofs.Taken.{roots-take}
 use Rattle.laws.proofs.Fitting.{size-mapped}
 
 -- Of a walk from k on that took p after a: what was taken before b.

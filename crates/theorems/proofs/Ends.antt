@@ -1,10 +1,10 @@
 -- A renumbering ends a run, and another may begin. Across it an id may come to name another column: T, renumbered from 4,
 -- has `node` where `button` was.
-use Prim.Native.Nat.{ℕ, suc, _+_, _≤_, _<_}
+use Prim.Native.Nat.{ℕ, suc, _+_, _≤_}
 use mathlib.Core.Path.{_≡_, refl, sym, ap, subst, _∙_}
 use mathlib.Core.Logic.{inl, inr}
 use mathlib.Core.List.{List, []}
-use mathlib.Core.Option.{Option, none, some}
+use mathlib.Core.Option.{none, some}
 use native.Mathlib.Omega.{arith}
 use Rattle.paper.specs.declared.Kind.the-variants.{Primitive, Structure}
 use Rattle.paper.specs.Answer.{Answer, ok, refused, _>>=_, lowest}
@@ -26,7 +26,7 @@ use Rattle.laws.proofs.Basics.{none≢some}
 use Rattle.laws.proofs.Fitting.{size-mapped}
 use Rattle.laws.proofs.Octets.{written-bytes}
 use Rattle.theorems.specs.Run.{Column, Stands, Has, Lasting}
-use Rattle.theorems.specs.Stored.{Stored, BeginsStored}
+use Rattle.theorems.specs.Stored.{BeginsStored}
 use Rattle.theorems.proofs.Again.{renumber-entry-fit, renumber-again, renumber-numbers}
 
 abbrev T-from-4 : Answer Result

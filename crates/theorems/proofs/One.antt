@@ -1,11 +1,9 @@
 -- No second answer fits: each promise is an equation with a function of what was lent, and two things that equal a third
 -- are equal. And no second tree fits the bytes of an answer, since they are read as one tree.
-use mathlib.Core.Path.{_≡_, refl, sym, ap₂, _∙_}
+use mathlib.Core.Path.{_≡_, sym, ap₂, _∙_}
 use mathlib.Core.List.{List}
 use Prim.Native.Nat.{ℕ}
-use Rattle.paper.specs.Answer.{Answer, ok}
-use Rattle.paper.specs.Forest.{Forest}
-use Rattle.paper.specs.Field.{Field}
+use Rattle.paper.specs.Answer.{Answer}
 use Rattle.paper.specs.Decode.{decode}
 use Rattle.paper.specs.Encode.{record-bytes, pool-bytes}
 use Rattle.paper.specs.Entries.{Result}

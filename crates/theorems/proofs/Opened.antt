@@ -1,16 +1,16 @@
 -- An accepted entry, taken apart: the trees that it read, and what the forests' operation gave.
 use Prim.Native.Nat.{ℕ}
-use mathlib.Core.Path.{_≡_, refl, sym, ap}
-use mathlib.Core.Bool.{Bool, true, false, not, _&&_}
+use mathlib.Core.Path.{_≡_, refl, sym}
+use mathlib.Core.Bool.{Bool, true, not, _&&_}
 use mathlib.Core.List.{List, []}
 use lib.Dec.{eqb}
-use Rattle.paper.specs.Answer.{Answer, ok, refused, _>>=_, fault, fault-if, same, repeated}
+use Rattle.paper.specs.Answer.{ok, fault-if, same, repeated}
 use Rattle.paper.specs.Forest.{Forest}
 use Rattle.paper.specs.Field.{Field}
 use Rattle.paper.specs.Sound.{ids, names, sound}
 use Rattle.paper.specs.Prune.{prune}
-use Rattle.paper.specs.Renumber.{Renumbered, renumber}
-use Rattle.paper.specs.Update.{Request, Schema, planned}
+use Rattle.paper.specs.Renumber.{renumber}
+use Rattle.paper.specs.Update.{Schema, planned}
 use Rattle.paper.specs.Rebuild.{update}
 use Rattle.paper.specs.Bytes.{turned}
 use Rattle.paper.specs.Lists.{deletion-paths, addition-paths, id-list}

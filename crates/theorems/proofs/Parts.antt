@@ -1,20 +1,18 @@
 -- A part of a tree: it has no other ids or names than the tree, in the same order, and is no larger.
-use Prim.Native.Nat.{ℕ, suc, _+_, _≤_, max}
+use Prim.Native.Nat.{ℕ, suc, _≤_}
 use mathlib.Core.Path.{_≡_, refl}
-use mathlib.Core.Bool.{Bool, true, false}
-use mathlib.Core.List.{List, [], _∷_, _++_, Sublistᴰ, Sublistᴰ·slnil, Sublistᴰ·cons, Sublistᴰ·cons-cons}
+use mathlib.Core.Bool.{Bool, false}
+use mathlib.Core.List.{List, [], _∷_, Sublistᴰ, Sublistᴰ·slnil, Sublistᴰ·cons, Sublistᴰ·cons-cons}
 use mathlib.Core.List.{Sublistᴰ·nil-sublist, Sublistᴰ·append}
 use mathlib.Core.Option.{Option, none, some}
 use native.Mathlib.Omega.{arith}
 use lib.Dec.{eqb}
-use lib.ListN.{length}
-use Rattle.paper.specs.Answer.{Answer, ok, refused, _>>=_, fault, any, same, repeated}
+use Rattle.paper.specs.Answer.{ok, any, same, repeated}
 use Rattle.paper.specs.Forest.{Forest, empty, node, size, siblings, levels}
 use Rattle.paper.specs.Field.{Field}
 use Rattle.paper.specs.Rows.{dotted}
 use Rattle.paper.specs.Sound.{ids, names, sound, name-bytes}
 use Rattle.laws.proofs.Basics.{unbind, rebind, fault-ok, no-fault, cond-none, neither}
-use Rattle.theorems.specs.Run.{Column}
 use Rattle.theorems.specs.Changed.{Part, done, skip, keep, columns}
 
 pub part-none : (t : Forest Field) → Part empty t

@@ -1,8 +1,7 @@
 -- The wrong programs of 01 are ruled out: the right answers to P4, P5, P8 and P9 compute, and are none of theirs.
 use Prim.Native.Nat.{ℕ, _+_}
 use mathlib.Core.Path.{_≡_, refl, sym, ap, _∙_}
-use mathlib.Core.Bool.{false}
-use mathlib.Core.List.{List, [], _∷_}
+use mathlib.Core.List.{List, []}
 use native.Mathlib.Omega.{arith}
 use lib.ListN.{length, getD}
 use Rattle.paper.specs.Answer.{Answer, ok, refused, _>>=_, lowest}

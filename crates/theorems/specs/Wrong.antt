@@ -2,9 +2,9 @@
 use Prim.Native.Nat.{ℕ}
 use mathlib.Core.Path.{_≡_}
 use mathlib.Core.Bool.{false}
-use mathlib.Core.List.{List, [], _∷_}
+use mathlib.Core.List.{[], _∷_}
 use Rattle.paper.specs.Answer.{Answer, ok, refused}
-use Rattle.paper.specs.Entries.{Result, update-entry, prune-entry}
+use Rattle.paper.specs.Entries.{Result, update-entry}
 use Rattle.paper.specs.Outcome.{Changed, changed}
 use Rattle.paper.specs.Sample.{T}
 use Rattle.paper.specs.Asked.{AnUpdate, APruner, asked-update, asked-prune, at-root, _under_}
