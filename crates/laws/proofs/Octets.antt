@@ -1,4 +1,5 @@
--- The records of a fit tree, written, are bytes: words are cut into bytes, and lengths, kinds and flags are small.
+-- The records of a fit tree, written, are bytes: words are cut into bytes, and lengths, kinds and flags are
+-- small.
 use Prim.Native.Nat.{ℕ, zero, suc, _+_, _/_, _%_, _<_}
 use mathlib.Core.List.{List, [], _∷_, _++_, append-assoc, append-nil}
 use native.Mathlib.Omega.{arith}
@@ -56,7 +57,8 @@ Held [] cs = Unit {0}
 Held (f ∷ fs) [] = Unit {0}
 Held (f ∷ fs) (c ∷ cs) = Holds f c × Held fs cs
 
-held : (t : Forest Field) (fs : List Field) (cs : List ℕ) → Formed t → Held fs cs → Held (preorder t ++ fs) (counts t ++ cs)
+held : (t : Forest Field) (fs : List Field) (cs : List ℕ) → Formed t → Held fs cs
+    → Held (preorder t ++ fs) (counts t ++ cs)
 unfolding preorder counts
 held empty fs cs h k = k
 held (node f m n) fs cs h k =

@@ -17,7 +17,8 @@ use Rattle.laws.proofs.Taken.{roots-take}
 use Rattle.laws.proofs.Fitting.{size-mapped}
 
 -- Of a walk from k on that took p after a: what was taken before b.
-step : (k n most : ℕ) (a b p : Part) → before k a b ≡ p → p .next ≡ k + size (p .trees) → b .next ≡ a .next + size (b .trees)
+step : (k n most : ℕ) (a b p : Part) → before k a b ≡ p → p .next ≡ k + size (p .trees)
+    → b .next ≡ a .next + size (b .trees)
     → n ≤ k + suc most → (n ≤ a .next + most → n ≤ b .next) → n ≤ p .next
 unfolding size
 step k n most a b p e t u l go =
@@ -30,7 +31,8 @@ module _ (list : ℕ) (kids : ℕ → ℕ) (n : ℕ) where
   roots-whole : (most k : ℕ) (p : Part) → roots list kids n most k ≡ ok p → n ≤ k + most → n ≤ p .next
   unfolding roots
   roots-whole zero k p e l = let d = ap (λ (x : Part). x .next) (ok-is e) in omega arith
-  roots-whole (suc most) k p e l = go (ltb k n) refl e (roots-take list kids n (suc most) k p e .end) (roots-whole most)
+  roots-whole (suc most) k p e l =
+      go (ltb k n) refl e (roots-take list kids n (suc most) k p e .end) (roots-whole most)
     where
       go : (b : Bool) → ltb k n ≡ b
           → _≡_ {A = Answer Part} (elim b [
@@ -45,7 +47,8 @@ module _ (list : ℕ) (kids : ℕ → ℕ) (n : ℕ) where
       go false q h t r = let d = ap (λ (x : Part). x .next) (ok-is h) in let o = ltb-false k n q in omega arith
 
 -- As many records as the list has.
-pub decode-size : (list : ℕ) (s pool : List ℕ) (t : Forest Field) → decode list s pool ≡ ok t → size t ≡ slots s
+pub decode-size : (list : ℕ) (s pool : List ℕ) (t : Forest Field) → decode list s pool ≡ ok t
+    → size t ≡ slots s
 unfolding decode fields
 decode-size list s pool t e =
     unbind _ _ e λ _ _ a₁. unbind _ _ a₁ λ _ _ a₂. unbind _ _ a₂ λ p e₃ a₃. unbind _ _ a₃ λ _ _ a₄.

@@ -32,8 +32,12 @@ column-of q (node f m n) x (inl e) =
     record { column = record { parent = q; field = f }; stands = inl refl; its-id = sym e }
 column-of q (node f m n) x (inr h) =
     ⊎-elim
-    (λ k. let o = column-of (some (f .id)) m x k in record { column = o .column; stands = inr (inl (o .stands)); its-id = o .its-id })
-    (λ k. let o = column-of q n x k in record { column = o .column; stands = inr (inr (o .stands)); its-id = o .its-id })
+    (λ k.
+    let o = column-of (some (f .id)) m x k in
+    record { column = o .column; stands = inr (inl (o .stands)); its-id = o .its-id })
+    (λ k.
+    let o = column-of q n x k in
+    record { column = o .column; stands = inr (inr (o .stands)); its-id = o .its-id })
     (in-append x (ids m) (ids n) h)
 
 twice : (q : Option ℕ) (f : Field) (m n : Forest Field) → Distinct (f .id ∷ (ids m ++ ids n)) → (c d : Column)

@@ -1,4 +1,5 @@
--- A renumbering ends a run, and another may begin. Across it an id may come to name another column: T, renumbered from 4,
+-- A renumbering ends a run, and another may begin. Across it an id may come to name another column: T,
+-- renumbered from 4,
 -- has `node` where `button` was.
 use Prim.Native.Nat.{ℕ, suc, _+_, _≤_}
 use mathlib.Core.Path.{_≡_, refl, sym, ap, subst, _∙_}
@@ -71,16 +72,19 @@ unfolding renumber-entry renumber level numbered _>>=_ lowest size siblings mapp
 after = inl refl
 
 -- No run of schemas lasts in which T is followed by T renumbered from 4.
-pub renumbering-ends : (at : ℕ → Schema) (r : Result) → renumber-entry T-records T-pool [] 4 24576 32768 0 ≡ ok r
+pub renumbering-ends : (at : ℕ → Schema) (r : Result)
+    → renumber-entry T-records T-pool [] 4 24576 32768 0 ≡ ok r
     → at 0 .tree ≡ T → at 1 .tree ≡ r .tree → Lasting at → ⊥
 renumbering-ends at r e old new h =
     let first : Has (at 0) button = subst (λ t. Stands none t button) (sym old) before in
     let later : Has (at 1) node-column = subst (λ t. Stands none t node-column) (ap tree-of e ∙ sym new) after in
     none≢some (sym (ap (λ (c : Column). c .parent) (h .same-column 0 1 button node-column first later refl)))
 
--- Another run may begin: from what the renumbering answered, with a last id that is not below start + n - 1, its highest.
+-- Another run may begin: from what the renumbering answered, with a last id that is not below start + n - 1,
+-- its highest.
 pub renumbering-begins : (s p i : List ℕ) (start lr ln li : ℕ) (r : Result) → Bytes s
-    → renumber-entry s p i start lr ln li ≡ ok r → (last : ℕ) → turned start + size (r .tree) ≤ suc (turned last)
+    → renumber-entry s p i start lr ln li ≡ ok r → (last : ℕ)
+    → turned start + size (r .tree) ≤ suc (turned last)
     → BeginsStored (record { records = record-bytes (r .tree); names = pool-bytes (r .tree); last = last })
 renumbering-begins s p i start lr ln li r b e last l =
     let again = renumber-again s p i start lr ln li r b e in

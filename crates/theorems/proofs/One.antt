@@ -1,4 +1,5 @@
--- No second answer fits: each promise is an equation with a function of what was lent, and two things that equal a third
+-- No second answer fits: each promise is an equation with a function of what was lent, and two things that
+-- equal a third
 -- are equal. And no second tree fits the bytes of an answer, since they are read as one tree.
 use mathlib.Core.Path.{_≡_, sym, ap₂, _∙_}
 use mathlib.Core.List.{List}
@@ -21,6 +22,7 @@ one-answer a before x y p q =
     ≡ handed (y .numbers) (y .records) (y .names) (y .identifiers) = cc in
     same
 
-pub one-tree : (r r′ : Result) → ReadsAgain r → ReadsAgain r′ → record-bytes (r .tree) ≡ record-bytes (r′ .tree)
+pub one-tree : (r r′ : Result) → ReadsAgain r → ReadsAgain r′
+    → record-bytes (r .tree) ≡ record-bytes (r′ .tree)
     → pool-bytes (r .tree) ≡ pool-bytes (r′ .tree) → r .tree ≡ r′ .tree
 one-tree r r′ h h′ e e′ = ok-is (sym (h .decodes) ∙ ap₂ (decode 0) e e′ ∙ h′ .decodes)

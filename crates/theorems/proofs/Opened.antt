@@ -32,14 +32,16 @@ sized-base : (most : ℕ) (s p i : List ℕ) → sized-ids most s p i ≡ true �
 unfolding sized-ids
 sized-base most s p i e = both (sized s p) (whole 4 most i) e .0
 
-sized-trees : (s p i d a b r : List ℕ) → sized-update s p i d a b r ≡ true → (sized s p ≡ true) × (sized b r ≡ true)
+sized-trees : (s p i d a b r : List ℕ) → sized-update s p i d a b r ≡ true
+    → (sized s p ≡ true) × (sized b r ≡ true)
 unfolding sized-update
 sized-trees s p i d a b r e =
     let o = both (sized-ids 64 s p i) ((whole 8 64 d && whole 8 64 a) && sized b r) e in
     (sized-base 64 s p i (o .0), both (whole 8 64 d && whole 8 64 a) (sized b r) (o .1) .1)
 
 -- 7 and 8 do not look at the identifiers or the number of the list.
-pub sound-any : (l : ℕ) (t : Forest Field) (identifiers : List ℕ) {x : Unit {0}} → sound l t identifiers ≡ ok x
+pub sound-any : (l : ℕ) (t : Forest Field) (identifiers : List ℕ) {x : Unit {0}}
+    → sound l t identifiers ≡ ok x
     → sound 0 t [] ≡ ok tt
 unfolding sound
 sound-any l t identifiers e =
@@ -74,11 +76,13 @@ pub record OpenedPrune (s p sel : List ℕ) (full : Bool) (r : Result) : Type 0 
   pub base : Base s p tree
   pub prunes : prune tree (id-list sel) full ≡ ok (r .tree)
 
-pub open-prune : (s p sel : List ℕ) (full : Bool) (lr ln : ℕ) (r : Result) → prune-entry s p sel full lr ln ≡ ok r
+pub open-prune : (s p sel : List ℕ) (full : Bool) (lr ln : ℕ) (r : Result)
+    → prune-entry s p sel full lr ln ≡ ok r
     → OpenedPrune s p sel full r
 unfolding prune-entry prune
 open-prune s p sel full lr ln r e =
-    unbind _ _ e λ _ _ a₁. unbind _ _ a₁ λ _ e₂ a₂. unbind _ _ a₂ λ t e₃ a₃. unbind _ _ a₃ λ u e₄ a₄. unbind _ _ e₄ λ _ e₅ _.
+    unbind _ _ e λ _ _ a₁. unbind _ _ a₁ λ _ e₂ a₂. unbind _ _ a₂ λ t e₃ a₃. unbind _ _ a₃ λ u e₄ a₄.
+    unbind _ _ e₄ λ _ e₅ _.
     let z = sized-base 1024 s p sel (passed 0 0 2 (sized-ids 1024 s p sel) e₂) in
     record {
       tree = t;
@@ -91,11 +95,13 @@ pub record OpenedRenumber (s p i : List ℕ) (start : ℕ) (r : Result) : Type 0
   pub base : Base s p tree
   pub renumbers : renumber tree (id-list i) (turned start) ≡ ok (record { tree = r .tree; identifiers = r .identifiers })
 
-pub open-renumber : (s p i : List ℕ) (start lr ln li : ℕ) (r : Result) → renumber-entry s p i start lr ln li ≡ ok r
+pub open-renumber : (s p i : List ℕ) (start lr ln li : ℕ) (r : Result)
+    → renumber-entry s p i start lr ln li ≡ ok r
     → OpenedRenumber s p i start r
 unfolding renumber-entry renumber
 open-renumber s p i start lr ln li r e =
-    unbind _ _ e λ _ _ a₁. unbind _ _ a₁ λ _ e₂ a₂. unbind _ _ a₂ λ t e₃ a₃. unbind _ _ a₃ λ u e₄ a₄. unbind _ _ e₄ λ _ e₅ _.
+    unbind _ _ e λ _ _ a₁. unbind _ _ a₁ λ _ e₂ a₂. unbind _ _ a₂ λ t e₃ a₃. unbind _ _ a₃ λ u e₄ a₄.
+    unbind _ _ e₄ λ _ e₅ _.
     let z = sized-base 64 s p i (passed 0 0 2 (sized-ids 64 s p i) e₂) in
     record {
       tree = t;
@@ -124,7 +130,8 @@ pub open-update : (s p i : List ℕ) (last : ℕ) (d a b q : List ℕ) (lr ln : 
     → update-entry s p i last d a b q lr ln ≡ ok r → OpenedUpdate s p i last d a b q r
 unfolding update-entry update planned
 open-update s p i last d a b q lr ln r e =
-    unbind _ _ e λ _ _ a₁. unbind _ _ a₁ λ _ e₂ a₂. unbind _ _ a₂ λ t e₃ a₃. unbind _ _ a₃ λ n e₄ a₄. unbind _ _ a₄ λ _ _ a₅.
+    unbind _ _ e λ _ _ a₁. unbind _ _ a₁ λ _ e₂ a₂. unbind _ _ a₂ λ t e₃ a₃. unbind _ _ a₃ λ n e₄ a₄.
+    unbind _ _ a₄ λ _ _ a₅.
     unbind _ _ a₅ λ _ _ a₆. unbind _ _ a₆ λ u e₇ a₇. unbind _ _ e₇ λ _ e₈ _. unbind _ _ e₈ λ _ e₉ _.
     let z = sized-trees s p i d a b q (passed 0 0 2 (sized-update s p i d a b q) e₂) in
     record {

@@ -41,32 +41,38 @@ part-ids (keep p q) = Sublistᴰ·cons-cons refl (Sublistᴰ·append (part-ids p
 part-names : (x : List ℕ) {t′ t : Forest Field} → Part t′ t → Sublistᴰ (names x t′) (names x t)
 unfolding names
 part-names x done = Sublistᴰ·slnil
-part-names x (skip {f =
-    f} {m = m} p) = Sublistᴰ·cons (Sublistᴰ·append (Sublistᴰ·nil-sublist (names (dotted x (f .name)) m)) (part-names x p))
-part-names x (keep {f =
-    f} p q) = Sublistᴰ·cons-cons refl (Sublistᴰ·append (part-names (dotted x (f .name)) p) (part-names x q))
+part-names x (skip {f = f} {m = m} p) =
+    let left-out = Sublistᴰ·nil-sublist (names (dotted x (f .name)) m) in
+    Sublistᴰ·cons (Sublistᴰ·append left-out (part-names x p))
+part-names x (keep {f = f} p q) =
+    Sublistᴰ·cons-cons refl (Sublistᴰ·append (part-names (dotted x (f .name)) p) (part-names x q))
 
 -- ---- so 7 and 8 stay passed
 
-none-repeated : {A : Type 0} (t : A → A → Bool) {s′ s : List A} → Sublistᴰ s′ s
+sub-repeated : {A : Type 0} (t : A → A → Bool) {s′ s : List A} → Sublistᴰ s′ s
     → (seen′ seen : List A) (k′ k : ℕ)
     → ((x : A) → any (t x) seen ≡ false → any (t x) seen′ ≡ false) → repeated t seen k s ≡ none
     → repeated t seen′ k′ s′ ≡ none
-none-repeated t Sublistᴰ·slnil seen′ seen k′ k h e = refl
-none-repeated t (Sublistᴰ·cons {a = a} {l₂ = s} p) seen′ seen k′ k h e =
+sub-repeated t Sublistᴰ·slnil seen′ seen k′ k h e = refl
+sub-repeated t (Sublistᴰ·cons {a = a} {l₂ = s} p) seen′ seen k′ k h e =
     let c = cond-none (any (t a) seen) k (repeated t (a ∷ seen) (suc k) s) e in
-    none-repeated t p seen′ (a ∷ seen) k′ (suc k) (λ x g. h x (neither (t x a) (any (t x) seen) g .1)) (c .1)
-none-repeated t (Sublistᴰ·cons-cons {a = a} {b = b} {l₂ = s} q p) seen′ seen k′ k h e =
+    sub-repeated t p seen′ (a ∷ seen) k′ (suc k) (λ x g. h x (neither (t x a) (any (t x) seen) g .1)) (c .1)
+sub-repeated t (Sublistᴰ·cons-cons {a = a} {b = b} {l₂ = s} q p) seen′ seen k′ k h e =
     let c = cond-none (any (t b) seen) k (repeated t (b ∷ seen) (suc k) s) e in
     let z : any (t a) seen′ ≡ false = rw q (h b (c .0)) in
-    rw z (none-repeated t p (a ∷ seen′) (b ∷ seen) (suc k′) (suc k) (λ x g. let w = neither (t x b) (any (t x) seen) g in rw (q, w .0) (h x (w .1))) (c .1))
+    rw z
+    (sub-repeated t p (a ∷ seen′) (b ∷ seen) (suc k′) (suc k)
+    (λ x g. let w = neither (t x b) (any (t x) seen) g in rw (q, w .0) (h x (w .1)))
+    (c .1))
 
 pub sound-part : {t′ t : Forest Field} → Part t′ t → sound 0 t [] ≡ ok tt → sound 0 t′ [] ≡ ok tt
 unfolding sound
 sound-part {t′} {t} p e =
     unbind _ _ e λ _ e₁ a₁. unbind _ _ a₁ λ _ e₂ a₂.
-    let i = none-repeated eqb (part-ids p) [] [] 0 0 (λ x g. g) (fault-ok 7 0 (repeated eqb [] 0 (ids t)) e₁) in
-    let n = none-repeated same (part-names [] p) [] [] 0 0 (λ x g. g) (fault-ok 8 0 (repeated same [] 0 (names [] t)) e₂) in
+    let seven = fault-ok 7 0 (repeated eqb [] 0 (ids t)) e₁ in
+    let eight = fault-ok 8 0 (repeated same [] 0 (names [] t)) e₂ in
+    let i = sub-repeated eqb (part-ids p) [] [] 0 0 (λ x g. g) seven in
+    let n = sub-repeated same (part-names [] p) [] [] 0 0 (λ x g. g) eight in
     rebind _ _ (no-fault 7 0 i) (rebind _ _ (no-fault 8 0 n) refl)
 
 -- ---- it is no larger

@@ -1,4 +1,5 @@
--- The promises of the paper, one statement each. What a statement says is defined in paper/specs and theorems/specs;
+-- The promises of the paper, one statement each. What a statement says is defined in paper/specs and
+-- theorems/specs;
 -- why it holds is said where its proof stands, which is named on its last line.
 use Prim.Native.Nat.{ℕ, suc, _+_, _≤_}
 use mathlib.Core.Path.{_≡_}
@@ -26,7 +27,8 @@ use Rattle.theorems.specs.One.{Handed, Promised}
 use Rattle.theorems.specs.Wrong.{P4, P5, RightUpdate, P8, P9, RightPruner}
 use Rattle.theorems.proofs.Evolution.{lasting}
 use Rattle.theorems.proofs.Storing.{lasting-stored}
-use Rattle.theorems.proofs.Beginning.{T-schema, T-stored, T-requests, T-begins, T-begins-stored, accepted-twice}
+use Rattle.theorems.proofs.Beginning.{T-schema, T-stored, T-requests, T-begins, T-begins-stored}
+use Rattle.theorems.proofs.Beginning.{accepted-twice}
 use Rattle.theorems.proofs.Ends as Ends
 use Rattle.theorems.proofs.Again.{decoded-again, update-again, prune-again, renumber-again}
 use Rattle.theorems.proofs.Again.{prune-parts, renumber-numbers}
@@ -39,7 +41,8 @@ use Rattle.theorems.proofs.Wrong.{right-update, right-pruner}
 pub worked-tree : decode 0 T-records T-pool ≡ ok T
 worked-tree = T-decodes
 
--- P1 to P13: what the definitions answer to each question, asked in bytes and read in signed ids, is what 01 gives.
+-- P1 to P13: what the definitions answer to each question, asked in bytes and read in signed ids, is what 01
+-- gives.
 pub worked-examples : map (λ e. answer (e .asked)) examples ≡ map (λ e. e .given) examples
 worked-examples = all-hold
 
@@ -57,7 +60,8 @@ runs-last-stored = lasting-stored
 pub runs-begin : Begins T-schema × BeginsStored T-stored
 runs-begin = (T-begins, T-begins-stored)
 
--- and two updates in a row are accepted. The first consumes 11 for a column that vanishes; the second is given 13.
+-- and two updates in a row are accepted. The first consumes 11 for a column that vanishes; the second is
+-- given 13.
 pub runs-go-on : (update-reply (update-stored T-stored (T-requests 0))
     ≡ (1 ∷ 4 ∷ 5 ∷ 3 ∷ 8 ∷ 9 ∷ 10 ∷ 12 ∷ []) with-last 12)
     × (update-reply (update-stored (run-stored T-stored T-requests 1) (T-requests 1))
@@ -65,13 +69,15 @@ pub runs-go-on : (update-reply (update-stored T-stored (T-requests 0))
 runs-go-on = accepted-twice
 
 -- A renumbering ends a run: no run lasts in which T is followed by T renumbered from 4.
-pub renumbering-ends : (at : ℕ → Schema) (r : Result) → renumber-entry T-records T-pool [] 4 24576 32768 0 ≡ ok r
+pub renumbering-ends : (at : ℕ → Schema) (r : Result)
+    → renumber-entry T-records T-pool [] 4 24576 32768 0 ≡ ok r
     → at 0 .tree ≡ T → at 1 .tree ≡ r .tree → Lasting at → ⊥
 renumbering-ends = Ends.renumbering-ends
 
 -- Another may begin, from what it answered, with a last id that is at least the highest that it gave.
 pub renumbering-begins : (s p i : List ℕ) (start lr ln li : ℕ) (r : Result) → Bytes s
-    → renumber-entry s p i start lr ln li ≡ ok r → (last : ℕ) → turned start + size (r .tree) ≤ suc (turned last)
+    → renumber-entry s p i start lr ln li ≡ ok r → (last : ℕ)
+    → turned start + size (r .tree) ≤ suc (turned last)
     → BeginsStored (record { records = record-bytes (r .tree); names = pool-bytes (r .tree); last = last })
 renumbering-begins = Ends.renumbering-begins
 
@@ -82,8 +88,10 @@ pub decode-round-trip : (list again : ℕ) (s p : List ℕ) (t : Forest Field) �
     → decode list s p ≡ ok t → decode again (record-bytes t) (pool-bytes t) ≡ ok t
 decode-round-trip = decoded-again
 
--- What an accepted update, pruning or renumbering of any bytes answers is accepted again by 2 to 8, and is read as its tree.
-pub update-round-trip : (s p i : List ℕ) (last : ℕ) (d a n q : List ℕ) (lr ln : ℕ) (r : Result) → Bytes s → Bytes n
+-- What an accepted update, pruning or renumbering of any bytes answers is accepted again by 2 to 8, and is
+-- read as its tree.
+pub update-round-trip : (s p i : List ℕ) (last : ℕ) (d a n q : List ℕ) (lr ln : ℕ) (r : Result) → Bytes s
+    → Bytes n
     → update-entry s p i last d a n q lr ln ≡ ok r → ReadsAgain r
 update-round-trip = update-again
 
@@ -97,7 +105,8 @@ renumber-round-trip = renumber-again
 
 -- ---- pruning and renumbering
 
--- An accepted pruning gives a part of the tree: no column that was not there, with the same parent, and in order.
+-- An accepted pruning gives a part of the tree: no column that was not there, with the same parent, and in
+-- order.
 pub pruning-gives-a-part : (s p sel : List ℕ) (full : Bool) (lr ln : ℕ) (r : Result)
     → prune-entry s p sel full lr ln ≡ ok r → Pruned s p r
 pruning-gives-a-part = prune-parts
@@ -114,13 +123,15 @@ pub one-answer : (a : Answer Result) (before x y : Handed) → Promised a before
 one-answer = One.one-answer
 
 -- No second tree fits the bytes of an answer.
-pub one-tree : (r r′ : Result) → ReadsAgain r → ReadsAgain r′ → record-bytes (r .tree) ≡ record-bytes (r′ .tree)
+pub one-tree : (r r′ : Result) → ReadsAgain r → ReadsAgain r′
+    → record-bytes (r .tree) ≡ record-bytes (r′ .tree)
     → pool-bytes (r .tree) ≡ pool-bytes (r′ .tree) → r .tree ≡ r′ .tree
 one-tree = One.one-tree
 
 -- ---- wrong programs
 
--- An update that answers P4 and P5 as the definition does does not turn all down, is no no-op, does not apply the first
+-- An update that answers P4 and P5 as the definition does does not turn all down, is no no-op, does not apply
+-- the first
 -- entry alone, and makes up no record count, name bytes or last id.
 pub no-wrong-update : (f : AnUpdate) → P4 f ≡ P4 update-entry → P5 f ≡ P5 update-entry → RightUpdate f
 no-wrong-update = right-update

@@ -1,4 +1,5 @@
--- The wrong programs of 01 are ruled out: the right answers to P4, P5, P8 and P9 compute, and are none of theirs.
+-- The wrong programs of 01 are ruled out: the right answers to P4, P5, P8 and P9 compute, and are none of
+-- theirs.
 use Prim.Native.Nat.{ℕ, _+_}
 use mathlib.Core.Path.{_≡_, refl, sym, ap, _∙_}
 use mathlib.Core.List.{List, []}
@@ -65,7 +66,8 @@ answers =
     }
 
 -- Two answers that are one have one record count, and as many ids.
-counts-differ : (a b : Answer Result) {m m′ k k′ i i′ : ℕ} → changed a ≡ counted m k i → changed b ≡ counted m′ k′ i′ → a ≡ b
+counts-differ : (a b : Answer Result) {m m′ k k′ i i′ : ℕ} → changed a ≡ counted m k i
+    → changed b ≡ counted m′ k′ i′ → a ≡ b
     → m ≡ m′
 counts-differ a b e e′ q = ap (λ (c : Changed). c .records) (sym e ∙ ap changed q ∙ e′)
 
