@@ -16,4 +16,5 @@ pub mod Beginning
 pub mod Wrong
 pub mod One
 pub mod Ends
+pub mod Told
 pub mod Promises

@@ -5,15 +5,18 @@ use Prim.Native.Nat.{ℕ, suc, _+_, _≤_}
 use mathlib.Core.Path.{_≡_}
 use mathlib.Core.Bool.{Bool, true}
 use mathlib.Core.List.{List, [], _∷_, map}
-use Rattle.paper.specs.Answer.{Answer, ok}
+use mathlib.Core.Option.{Option}
+use Rattle.paper.specs.Answer.{Answer, ok, refused}
 use Rattle.paper.specs.Forest.{Forest, size}
 use Rattle.paper.specs.Field.{Field}
 use Rattle.paper.specs.Update.{Request, Schema}
+use Rattle.paper.specs.Rows.{Row}
 use Rattle.paper.specs.Bytes.{turned}
 use Rattle.paper.specs.Decode.{decode}
 use Rattle.paper.specs.Encode.{record-bytes, pool-bytes}
 use Rattle.paper.specs.Limits.{sized}
 use Rattle.paper.specs.Entries.{Result, update-entry, prune-entry, renumber-entry}
+use Rattle.paper.specs.Outcome.{changed, Found}
 use Rattle.paper.specs.Sample.{T, T-records, T-pool}
 use Rattle.paper.specs.Asked.{AnUpdate, APruner, answer, update-reply, _with-last_}
 use Rattle.paper.specs.Worked.{examples}
@@ -23,7 +26,7 @@ use Rattle.theorems.specs.Run.{Begins, Lasting, LastingRun}
 use Rattle.theorems.specs.Stored.{Stored, Lent, update-stored, run-stored, BeginsStored, LastingStored}
 use Rattle.theorems.specs.Again.{ReadsAgain}
 use Rattle.theorems.specs.Changed.{Pruned, Renumbered}
-use Rattle.theorems.specs.One.{Handed, Promised}
+use Rattle.theorems.specs.One.{Handed, Promised, PromisedFound, Told, RefusalsTold}
 use Rattle.theorems.specs.Wrong.{P4, P5, RightUpdate, P8, P9, RightPruner}
 use Rattle.theorems.proofs.Evolution.{lasting}
 use Rattle.theorems.proofs.Storing.{lasting-stored}
@@ -33,6 +36,7 @@ use Rattle.theorems.proofs.Ends as Ends
 use Rattle.theorems.proofs.Again.{decoded-again, update-again, prune-again, renumber-again}
 use Rattle.theorems.proofs.Again.{prune-parts, renumber-numbers}
 use Rattle.theorems.proofs.One as One
+use Rattle.theorems.proofs.Told.{refusals-told, none-accepted}
 use Rattle.theorems.proofs.Wrong.{right-update, right-pruner}
 
 -- ---- the worked examples
@@ -121,6 +125,19 @@ renumbering-gives-each-once = renumber-numbers
 -- No second answer fits a promise: it is a function of the bytes that were lent.
 pub one-answer : (a : Answer Result) (before x y : Handed) → Promised a before x → Promised a before y → x ≡ y
 one-answer = One.one-answer
+
+pub one-found : (a : Answer (Option Row)) (x y : Found) → PromisedFound a x → PromisedFound a y → x ≡ y
+one-found = One.one-found
+
+-- A refusal has a number of 01's table, from 1 to 20, and one of its lists, from 0 to 5: it is never said as
+-- 0.
+pub refusals-are-told : RefusalsTold
+refusals-are-told = refusals-told
+
+-- So what says 0 is no refusal.
+pub zero-is-accepted : (a : Answer Result) (n l p : ℕ) → Told a → changed a .refusal ≡ 0 → a ≡ refused n l p
+    → ⊥
+zero-is-accepted = none-accepted
 
 -- No second tree fits the bytes of an answer.
 pub one-tree : (r r′ : Result) → ReadsAgain r → ReadsAgain r′

@@ -1,12 +1,17 @@
 -- What an entry hands back, and what is promised of it.
+use Prim.Native.Nat.{ℕ, _≤_}
 use mathlib.Core.Path.{_≡_}
+use mathlib.Core.Bool.{Bool}
 use mathlib.Core.List.{List}
 use mathlib.Core.Option.{Option}
-use Prim.Native.Nat.{ℕ, _≤_}
 use Rattle.paper.specs.Answer.{Answer, ok, refused}
 use Rattle.paper.specs.Rows.{Row}
-use Rattle.paper.specs.Entries.{Result}
-use Rattle.paper.specs.Outcome.{Changed, changed, Found, found, leaves, out-records, out-names, out-identifiers}
+use Rattle.paper.specs.Entries.{Result, update-entry, prune-entry, renumber-entry}
+use Rattle.paper.specs.Entries.{find-name, find-id, find-parent}
+use Rattle.paper.specs.Outcome.{Changed, changed, Found, found, leaves, out-records, out-names}
+use Rattle.paper.specs.Outcome.{out-identifiers}
+
+-- ---- answers
 
 -- The numbers of the answer, and the output buffers as they are afterwards.
 pub record Handed : Type 0 where
@@ -26,7 +31,19 @@ pub record Promised (a : Answer Result) (before after : Handed) : Type 0 where
 abbrev pub PromisedFound : Answer (Option Row) → Found → Type 0
 PromisedFound a after = after ≡ found a
 
--- A refusal has a number of 01's table and one of its lists, so it is never taken for an acceptance, which says 0.
+-- ---- refusals
+
+-- A refusal has a number from 1 to 20 and a list from 0 to 5.
 pub data Told {A : Type 0} : Answer A → Type 0 where
   accepted : {a : A} → Told (ok a)
-  turned-down : {number list place : ℕ} → 1 ≤ number → number ≤ 20 → list ≤ 5 → Told (refused number list place)
+  turned-down : {number list place : ℕ} → 1 ≤ number → number ≤ 20 → list ≤ 5
+      → Told (refused number list place)
+
+pub record RefusalsTold : Type 0 where
+  pub update : (s p i : List ℕ) (last : ℕ) (d a b r : List ℕ) (lr ln : ℕ)
+      → Told (update-entry s p i last d a b r lr ln)
+  pub prune : (s p sel : List ℕ) (full : Bool) (lr ln : ℕ) → Told (prune-entry s p sel full lr ln)
+  pub renumber : (s p i : List ℕ) (start lr ln li : ℕ) → Told (renumber-entry s p i start lr ln li)
+  pub name-look-up : (s p x : List ℕ) → Told (find-name s p x)
+  pub id-look-up : (s p : List ℕ) (i : ℕ) → Told (find-id s p i)
+  pub parent-look-up : (s p : List ℕ) (i : ℕ) → Told (find-parent s p i)
