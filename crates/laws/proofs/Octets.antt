@@ -1,5 +1,5 @@
--- The records of a fit tree, written, are bytes: words are cut into bytes, and lengths, kinds and flags are
--- small.
+-- The records of a fit tree, written, are bytes: words are cut
+-- into bytes, and lengths, kinds and flags are small.
 use Prim.Native.Nat.{ℕ, zero, suc, _+_, _/_, _%_, _<_}
 use mathlib.Core.List.{List, [], _∷_, _++_, append-assoc, append-nil}
 use native.Mathlib.Omega.{arith}

@@ -1,5 +1,5 @@
--- 01, One tree worked by hand: T, as a forest and as bytes. That the bytes are the forest is shown
--- (`T-decodes`).
+-- 01, One tree worked by hand: T, as a forest and as bytes. That
+-- the bytes are the forest is shown (`T-decodes`).
 use Prim.Native.Nat.{ℕ, _+_}
 use Prim.Native.String.{String}
 use mathlib.Core.List.{List, [], _∷_}

@@ -1,6 +1,5 @@
--- A renumbering ends a run, and another may begin. Across it an id may come to name another column: T,
--- renumbered from 4,
--- has `node` where `button` was.
+-- A renumbering ends a run, and another may begin. Across it an id may come to name
+-- another column: T, renumbered from 4, has `node` where `button` was.
 use Prim.Native.Nat.{ℕ, suc, _+_, _≤_}
 use mathlib.Core.Path.{_≡_, refl, sym, ap, subst, _∙_}
 use mathlib.Core.Logic.{inl, inr}
@@ -80,8 +79,8 @@ renumbering-ends at r e old new h =
     let later : Has (at 1) node-column = subst (λ t. Stands none t node-column) (ap tree-of e ∙ sym new) after in
     none≢some (sym (ap (λ (c : Column). c .parent) (h .same-column 0 1 button node-column first later refl)))
 
--- Another run may begin: from what the renumbering answered, with a last id that is not below start + n - 1,
--- its highest.
+-- Another run may begin: from what the renumbering answered, with a
+-- last id that is not below start + n - 1, its highest.
 pub renumbering-begins : (s p i : List ℕ) (start lr ln li : ℕ) (r : Result) → Bytes s
     → renumber-entry s p i start lr ln li ≡ ok r → (last : ℕ)
     → turned start + size (r .tree) ≤ suc (turned last)

@@ -1,6 +1,5 @@
 -- No second answer fits: each promise is an equation with a function of what was lent, and two things that
--- equal a third
--- are equal. And no second tree fits the bytes of an answer, since they are read as one tree.
+-- equal a third are equal. And no second tree fits the bytes of an answer, since they are read as one tree.
 use mathlib.Core.Path.{_≡_, sym, ap₂, _∙_}
 use mathlib.Core.List.{List}
 use mathlib.Core.Option.{Option}

@@ -1,6 +1,5 @@
--- The promises of the paper, one statement each. What a statement says is defined in paper/specs and
--- theorems/specs;
--- why it holds is said where its proof stands, which is named on its last line.
+-- The promises of the paper, one statement each. What a statement says is defined in paper/specs and in the
+-- specs of this crate; why it holds is said at the head of the file that its last line cites.
 use Prim.Native.Nat.{ℕ, suc, _+_, _≤_}
 use mathlib.Core.Path.{_≡_}
 use mathlib.Core.Bool.{Bool, true}
@@ -45,8 +44,8 @@ use Rattle.theorems.proofs.Wrong.{right-update, right-pruner}
 pub worked-tree : decode 0 T-records T-pool ≡ ok T
 worked-tree = T-decodes
 
--- P1 to P13: what the definitions answer to each question, asked in bytes and read in signed ids, is what 01
--- gives.
+-- P1 to P13: what the definitions answer to each question, asked
+-- in bytes and read in signed ids, is what 01 gives.
 pub worked-examples : map (λ e. answer (e .asked)) examples ≡ map (λ e. e .given) examples
 worked-examples = all-hold
 
@@ -64,8 +63,8 @@ runs-last-stored = lasting-stored
 pub runs-begin : Begins T-schema × BeginsStored T-stored
 runs-begin = (T-begins, T-begins-stored)
 
--- and two updates in a row are accepted. The first consumes 11 for a column that vanishes; the second is
--- given 13.
+-- and two updates in a row are accepted. The first consumes 11
+-- for a column that vanishes; the second is given 13.
 pub runs-go-on : (update-reply (update-stored T-stored (T-requests 0))
     ≡ (1 ∷ 4 ∷ 5 ∷ 3 ∷ 8 ∷ 9 ∷ 10 ∷ 12 ∷ []) with-last 12)
     × (update-reply (update-stored (run-stored T-stored T-requests 1) (T-requests 1))
@@ -79,62 +78,69 @@ pub renumbering-ends : (at : ℕ → Schema) (r : Result)
 renumbering-ends = Ends.renumbering-ends
 
 -- Another may begin, from what it answered, with a last id that is at least the highest that it gave.
-pub renumbering-begins : (s p i : List ℕ) (start lr ln li : ℕ) (r : Result) → Bytes s
-    → renumber-entry s p i start lr ln li ≡ ok r → (last : ℕ)
-    → turned start + size (r .tree) ≤ suc (turned last)
+pub renumbering-begins : (records pool identifiers : List ℕ) (start room-records room-names room-ids : ℕ) (r : Result)
+    → Bytes records → renumber-entry records pool identifiers start room-records room-names room-ids ≡ ok r
+    → (last : ℕ) → turned start + size (r .tree) ≤ suc (turned last)
     → BeginsStored (record { records = record-bytes (r .tree); names = pool-bytes (r .tree); last = last })
 renumbering-begins = Ends.renumbering-begins
 
--- ---- the round trip
+-- ---- the round trip. `Bytes` says that what is lent are bytes, numbers below 256.
 
 -- What `decode` gives of a list that passed 2, encoded, decodes to the same forest.
-pub decode-round-trip : (list again : ℕ) (s p : List ℕ) (t : Forest Field) → Bytes s → sized s p ≡ true
-    → decode list s p ≡ ok t → decode again (record-bytes t) (pool-bytes t) ≡ ok t
+pub decode-round-trip : (list list′ : ℕ) (records pool : List ℕ) (t : Forest Field)
+    → Bytes records → sized records pool ≡ true → decode list records pool ≡ ok t
+    → decode list′ (record-bytes t) (pool-bytes t) ≡ ok t
 decode-round-trip = decoded-again
 
--- What an accepted update, pruning or renumbering of any bytes answers is accepted again by 2 to 8, and is
--- read as its tree.
-pub update-round-trip : (s p i : List ℕ) (last : ℕ) (d a n q : List ℕ) (lr ln : ℕ) (r : Result) → Bytes s
-    → Bytes n
-    → update-entry s p i last d a n q lr ln ≡ ok r → ReadsAgain r
+-- What an accepted update answers is accepted again by 2 to 8, and is read as its tree.
+pub update-round-trip : (records pool identifiers : List ℕ) (last : ℕ) (deletions additions added request : List ℕ)
+    → (room-records room-names : ℕ) (r : Result) → Bytes records → Bytes added
+    → update-entry records pool identifiers last deletions additions added request room-records room-names ≡ ok r
+    → ReadsAgain r
 update-round-trip = update-again
 
-pub prune-round-trip : (s p sel : List ℕ) (full : Bool) (lr ln : ℕ) (r : Result) → Bytes s
-    → prune-entry s p sel full lr ln ≡ ok r → ReadsAgain r
+-- So is what an accepted pruning answers,
+pub prune-round-trip : (records pool selected : List ℕ) (full : Bool) (room-records room-names : ℕ) (r : Result)
+    → Bytes records → prune-entry records pool selected full room-records room-names ≡ ok r → ReadsAgain r
 prune-round-trip = prune-again
 
-pub renumber-round-trip : (s p i : List ℕ) (start lr ln li : ℕ) (r : Result) → Bytes s
-    → renumber-entry s p i start lr ln li ≡ ok r → ReadsAgain r
+-- and what an accepted renumbering answers.
+pub renumber-round-trip : (records pool identifiers : List ℕ) (start room-records room-names room-ids : ℕ) (r : Result)
+    → Bytes records → renumber-entry records pool identifiers start room-records room-names room-ids ≡ ok r
+    → ReadsAgain r
 renumber-round-trip = renumber-again
 
 -- ---- pruning and renumbering
 
--- An accepted pruning gives a part of the tree: no column that was not there, with the same parent, and in
--- order.
-pub pruning-gives-a-part : (s p sel : List ℕ) (full : Bool) (lr ln : ℕ) (r : Result)
-    → prune-entry s p sel full lr ln ≡ ok r → Pruned s p r
+-- An accepted pruning gives a part of the tree: each column was
+-- there, under the same parent, and the order is kept.
+pub pruning-gives-a-part : (records pool selected : List ℕ) (full : Bool) (room-records room-names : ℕ) (r : Result)
+    → prune-entry records pool selected full room-records room-names ≡ ok r → Pruned records pool r
 pruning-gives-a-part = prune-parts
 
 -- An accepted renumbering gives start .. start + n - 1, each once, and keeps all but the ids.
-pub renumbering-gives-each-once : (s p i : List ℕ) (start lr ln li : ℕ) (r : Result)
-    → renumber-entry s p i start lr ln li ≡ ok r → Renumbered s p start r
+pub renumbering-gives-each-once : (records pool identifiers : List ℕ)
+    → (start room-records room-names room-ids : ℕ) (r : Result)
+    → renumber-entry records pool identifiers start room-records room-names room-ids ≡ ok r
+    → Renumbered records pool start r
 renumbering-gives-each-once = renumber-numbers
 
 -- ---- one answer
 
--- No second answer fits a promise: it is a function of the bytes that were lent.
+-- No second answer fits. What is promised of an entry equals a function of what was lent: `a` is the
+-- definition's answer, `before` the buffers as they were. So two outcomes that keep the promise are one;
 pub one-answer : (a : Answer Result) (before x y : Handed) → Promised a before x → Promised a before y → x ≡ y
 one-answer = One.one-answer
 
+-- and so are two of a look-up.
 pub one-found : (a : Answer (Option Row)) (x y : Found) → PromisedFound a x → PromisedFound a y → x ≡ y
 one-found = One.one-found
 
--- A refusal has a number of 01's table, from 1 to 20, and one of its lists, from 0 to 5: it is never said as
--- 0.
+-- A refusal has a number of 01's table, from 1 to 20, and one of its lists, from 0 to 5.
 pub refusals-are-told : RefusalsTold
 refusals-are-told = refusals-told
 
--- So what says 0 is no refusal.
+-- So it is not taken for an acceptance, which says 0.
 pub zero-is-accepted : (a : Answer Result) (n l p : ℕ) → Told a → changed a .refusal ≡ 0 → a ≡ refused n l p
     → ⊥
 zero-is-accepted = none-accepted
@@ -147,9 +153,8 @@ one-tree = One.one-tree
 
 -- ---- wrong programs
 
--- An update that answers P4 and P5 as the definition does does not turn all down, is no no-op, does not apply
--- the first
--- entry alone, and makes up no record count, name bytes or last id.
+-- An update that answers P4 and P5 as the definition does is not one that turns all down, no no-op, not
+-- one that applies the first entry alone, and makes up no record count, name bytes or last id.
 pub no-wrong-update : (f : AnUpdate) → P4 f ≡ P4 update-entry → P5 f ≡ P5 update-entry → RightUpdate f
 no-wrong-update = right-update
 

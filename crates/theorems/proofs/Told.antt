@@ -1,5 +1,5 @@
--- Each refusal has a number from 1 to 20 and a list from 0 to 5: every step of an entry gives one of 01's
--- table.
+-- Each refusal has a number from 1 to 20 and a list from 0 to
+-- 5: every step of an entry gives one of 01's table.
 use Prim.Native.Nat.{ℕ, zero, suc, _+_, _≤_}
 use mathlib.Core.Path.{_≡_, sym}
 use mathlib.Core.Bool.{Bool, true, false, not, _&&_}

@@ -1,5 +1,5 @@
--- The wrong programs of 01 are ruled out: the right answers to P4, P5, P8 and P9 compute, and are none of
--- theirs.
+-- The wrong programs of 01 are ruled out: the right answers to
+-- P4, P5, P8 and P9 compute, and are none of theirs.
 use Prim.Native.Nat.{ℕ, _+_}
 use mathlib.Core.Path.{_≡_, refl, sym, ap, _∙_}
 use mathlib.Core.List.{List, []}

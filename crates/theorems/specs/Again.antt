@@ -15,8 +15,8 @@ pub record ReadsAgain (r : Result) : Type 0 where
   pub accepted : read (record-bytes (r .tree)) (pool-bytes (r .tree)) ≡ ok (r .tree)
   -- `decode` gives the tree of them;
   pub decodes : decode 0 (record-bytes (r .tree)) (pool-bytes (r .tree)) ≡ ok (r .tree)
-  -- and they are what stands at the front of the output buffers: so many records and name bytes as the answer
-  -- says.
+  -- and they are what stands at the front of the output buffers:
+  -- so many records and name bytes as the answer says.
   pub in-buffers : (old-records old-names : List ℕ)
       → read
       (take (changed (ok r) .records * 24) (leaves out-records (ok r) old-records))

@@ -15,8 +15,8 @@ use Rattle.theorems.specs.Run.{Column}
 
 -- ---- pruning
 
--- A part of a tree: records are left out, each with its inside, and the others stay in order under their
--- parents.
+-- A part of a tree: records are left out, each with its inside,
+-- and the others stay in order under their parents.
 pub data Part : Forest Field → Forest Field → Type 0 where
   done : Part empty empty
   skip : {f : Field} {m n t : Forest Field} → Part t n → Part t (node f m n)
