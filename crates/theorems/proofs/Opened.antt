@@ -1,10 +1,10 @@
 -- An accepted entry, taken apart: the trees that it read, and what the forests' operation gave.
 use Prim.Native.Nat.{ℕ}
 use mathlib.Core.Path.{_≡_, refl, sym}
-use mathlib.Core.Bool.{Bool, true, not, _&&_}
+use mathlib.Core.Bool.{Bool, true, _&&_}
 use mathlib.Core.List.{List, []}
 use lib.Dec.{eqb}
-use Rattle.paper.specs.Answer.{ok, fault-if, same, repeated}
+use Rattle.paper.specs.Answer.{ok, same, repeated}
 use Rattle.paper.specs.Forest.{Forest}
 use Rattle.paper.specs.Field.{Field}
 use Rattle.paper.specs.Sound.{ids, names, sound}
@@ -21,12 +21,9 @@ use Rattle.laws.specs.Fit.{Bytes, Fit}
 use Rattle.laws.proofs.Basics.{unbind, rebind, ok-is, fault-ok, no-fault}
 use Rattle.laws.proofs.RoundTrip.{both}
 use Rattle.laws.proofs.Fitting.{decode-fit}
-use Rattle.theorems.proofs.Steps.{fault-if-ok, not-false}
+use Rattle.theorems.proofs.Steps.{passed}
 
 -- ---- 2, 7 and 8
-
-pub passed : (list place n : ℕ) (b : Bool) {u : Unit {0}} → fault-if n list place (not b) ≡ ok u → b ≡ true
-passed list place n b e = not-false b (fault-if-ok n list place (not b) e)
 
 sized-base : (most : ℕ) (s p i : List ℕ) → sized-ids most s p i ≡ true → sized s p ≡ true
 unfolding sized-ids
@@ -64,7 +61,7 @@ pub read-base : (s p : List ℕ) (t : Forest Field) → read s p ≡ ok t → Ba
 unfolding read
 read-base s p t e =
     unbind _ _ e λ _ e₁ a₁. unbind _ _ a₁ λ t′ e₂ a₂. unbind _ _ a₂ λ _ e₃ a₃.
-    rw (← (ok-is a₃)) (record { sizes = passed 0 0 2 (sized s p) e₁; decodes = e₂; sound-tree = e₃ })
+    rw (← (ok-is a₃)) (record { sizes = passed 2 0 0 (sized s p) e₁; decodes = e₂; sound-tree = e₃ })
 
 pub base-fit : (s p : List ℕ) (t : Forest Field) → Bytes s → Base s p t → Fit t
 base-fit s p t b o = decode-fit 0 s p t b (o .sizes) (o .decodes)
@@ -83,7 +80,7 @@ unfolding prune-entry prune
 open-prune s p sel full lr ln r e =
     unbind _ _ e λ _ _ a₁. unbind _ _ a₁ λ _ e₂ a₂. unbind _ _ a₂ λ t e₃ a₃. unbind _ _ a₃ λ u e₄ a₄.
     unbind _ _ e₄ λ _ e₅ _.
-    let z = sized-base 1024 s p sel (passed 0 0 2 (sized-ids 1024 s p sel) e₂) in
+    let z = sized-base 1024 s p sel (passed 2 0 0 (sized-ids 1024 s p sel) e₂) in
     record {
       tree = t;
       base = record { sizes = z; decodes = e₃; sound-tree = e₅ };
@@ -102,7 +99,7 @@ unfolding renumber-entry renumber
 open-renumber s p i start lr ln li r e =
     unbind _ _ e λ _ _ a₁. unbind _ _ a₁ λ _ e₂ a₂. unbind _ _ a₂ λ t e₃ a₃. unbind _ _ a₃ λ u e₄ a₄.
     unbind _ _ e₄ λ _ e₅ _.
-    let z = sized-base 64 s p i (passed 0 0 2 (sized-ids 64 s p i) e₂) in
+    let z = sized-base 64 s p i (passed 2 0 0 (sized-ids 64 s p i) e₂) in
     record {
       tree = t;
       base = record { sizes = z; decodes = e₃; sound-tree = sound-any 0 t (id-list i) e₅ };
@@ -133,7 +130,7 @@ open-update s p i last d a b q lr ln r e =
     unbind _ _ e λ _ _ a₁. unbind _ _ a₁ λ _ e₂ a₂. unbind _ _ a₂ λ t e₃ a₃. unbind _ _ a₃ λ n e₄ a₄.
     unbind _ _ a₄ λ _ _ a₅.
     unbind _ _ a₅ λ _ _ a₆. unbind _ _ a₆ λ u e₇ a₇. unbind _ _ e₇ λ _ e₈ _. unbind _ _ e₈ λ _ e₉ _.
-    let z = sized-trees s p i d a b q (passed 0 0 2 (sized-update s p i d a b q) e₂) in
+    let z = sized-trees s p i d a b q (passed 2 0 0 (sized-update s p i d a b q) e₂) in
     record {
       tree = t;
       base = record { sizes = z .0; decodes = e₃; sound-tree = sound-any 0 t (id-list i) e₉ };

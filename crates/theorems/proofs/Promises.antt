@@ -1,10 +1,11 @@
 -- The promises of the paper, one statement each. What a statement says is defined in paper/specs and in the
 -- specs of this crate; why it holds is said at the head of the file that its last line cites.
-use Prim.Native.Nat.{ℕ, suc, _+_, _≤_}
+use Prim.Native.Nat.{ℕ, suc, _+_, _-_, _<_, _≤_}
 use mathlib.Core.Path.{_≡_}
 use mathlib.Core.Bool.{Bool, true}
 use mathlib.Core.List.{List, [], _∷_, map}
 use mathlib.Core.Option.{Option}
+use lib.IntN.{pos, negsuc}
 use Rattle.paper.specs.Answer.{Answer, ok, refused}
 use Rattle.paper.specs.Forest.{Forest, size}
 use Rattle.paper.specs.Field.{Field}
@@ -17,7 +18,7 @@ use Rattle.paper.specs.Limits.{sized}
 use Rattle.paper.specs.Entries.{Result, update-entry, prune-entry, renumber-entry}
 use Rattle.paper.specs.Outcome.{changed, Found}
 use Rattle.paper.specs.Sample.{T, T-records, T-pool}
-use Rattle.paper.specs.Asked.{AnUpdate, APruner, answer, update-reply, _with-last_}
+use Rattle.paper.specs.Asked.{AnUpdate, APruner, signed-id, answer, update-reply, _with-last_}
 use Rattle.paper.specs.Worked.{examples}
 use Rattle.paper.proofs.Hold.{T-decodes, all-hold}
 use Rattle.laws.specs.Fit.{Bytes}
@@ -27,6 +28,7 @@ use Rattle.theorems.specs.Again.{ReadsAgain}
 use Rattle.theorems.specs.Changed.{Pruned, Renumbered}
 use Rattle.theorems.specs.One.{Handed, Promised, PromisedFound, Told, RefusalsTold}
 use Rattle.theorems.specs.Wrong.{P4, P5, RightUpdate, P8, P9, RightPruner}
+use Rattle.theorems.proofs.Signed.{signed-natural, signed-negative}
 use Rattle.theorems.proofs.Evolution.{lasting}
 use Rattle.theorems.proofs.Storing.{lasting-stored}
 use Rattle.theorems.proofs.Beginning.{T-schema, T-stored, T-requests, T-begins, T-begins-stored}
@@ -48,6 +50,11 @@ worked-tree = T-decodes
 -- in bytes and read in signed ids, is what 01 gives.
 pub worked-examples : map (λ e. answer (e .asked)) examples ≡ map (λ e. e .given) examples
 worked-examples = all-hold
+
+-- The signed reading is two's complement: n and -(n + 1), from their 32 bits.
+pub signed-reading : (n : ℕ) → n < 2_147_483_648
+    → (signed-id (turned n) ≡ pos n) × (signed-id (turned (4_294_967_295 - n)) ≡ negsuc n)
+signed-reading n l = (signed-natural n l, signed-negative n l)
 
 -- ---- demand 3
 
