@@ -9,4 +9,6 @@ pub mod Lies
 pub mod Written
 pub mod RoundTrip
 pub mod Fitting
+pub mod Whole
+pub mod Octets
 pub mod Natural

@@ -1,13 +1,21 @@
 -- The theorems of document 01.
+pub mod Signed
+pub mod Steps
+pub mod Counting
+pub mod Columns
 pub mod Evolution
-pub mod Lookup
-pub mod Numbering
-pub mod Pruning
 pub mod Shaped
 pub mod Rebuilt
-pub mod Storing
+pub mod Numbering
 pub mod Renumbered
+pub mod Parts
 pub mod Pruned
-pub mod Beginning
+pub mod Opened
 pub mod Again
-pub mod Twice
+pub mod Storing
+pub mod Beginning
+pub mod Wrong
+pub mod One
+pub mod Ends
+pub mod Told
+pub mod Promises

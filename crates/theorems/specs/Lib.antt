@@ -1,3 +1,8 @@
--- Runs of updates, over forests and over bytes, and what demand 3 says of them.
+-- What the theorems speak of: runs of updates over forests and over bytes, numbers in a row, parts of a tree.
+pub mod Numbers
 pub mod Run
 pub mod Stored
+pub mod Again
+pub mod Changed
+pub mod Wrong
+pub mod One

@@ -1,0 +1,143 @@
+-- An accepted entry, taken apart: the trees that it read, and what the forests' operation gave.
+use Prim.Native.Nat.{ℕ}
+use mathlib.Core.Path.{_≡_, refl, sym}
+use mathlib.Core.Bool.{Bool, true, _&&_}
+use mathlib.Core.List.{List, []}
+use lib.Dec.{eqb}
+use Rattle.paper.specs.Answer.{ok, same, repeated}
+use Rattle.paper.specs.Forest.{Forest}
+use Rattle.paper.specs.Field.{Field}
+use Rattle.paper.specs.Sound.{ids, names, sound}
+use Rattle.paper.specs.Prune.{prune}
+use Rattle.paper.specs.Renumber.{renumber}
+use Rattle.paper.specs.Update.{Schema, planned}
+use Rattle.paper.specs.Rebuild.{update}
+use Rattle.paper.specs.Bytes.{turned}
+use Rattle.paper.specs.Lists.{deletion-paths, addition-paths, id-list}
+use Rattle.paper.specs.Decode.{decode}
+use Rattle.paper.specs.Limits.{whole, sized, sized-ids, sized-update}
+use Rattle.paper.specs.Entries.{Result, read, update-entry, prune-entry, renumber-entry}
+use Rattle.laws.specs.Fit.{Bytes, Fit}
+use Rattle.laws.proofs.Basics.{unbind, rebind, ok-is, fault-ok, no-fault}
+use Rattle.laws.proofs.RoundTrip.{both}
+use Rattle.laws.proofs.Fitting.{decode-fit}
+use Rattle.theorems.proofs.Steps.{passed}
+
+-- ---- 2, 7 and 8
+
+sized-base : (most : ℕ) (s p i : List ℕ) → sized-ids most s p i ≡ true → sized s p ≡ true
+unfolding sized-ids
+sized-base most s p i e = both (sized s p) (whole 4 most i) e .0
+
+sized-trees : (s p i d a b r : List ℕ) → sized-update s p i d a b r ≡ true
+    → (sized s p ≡ true) × (sized b r ≡ true)
+unfolding sized-update
+sized-trees s p i d a b r e =
+    let o = both (sized-ids 64 s p i) ((whole 8 64 d && whole 8 64 a) && sized b r) e in
+    (sized-base 64 s p i (o .0), both (whole 8 64 d && whole 8 64 a) (sized b r) (o .1) .1)
+
+-- 7 and 8 do not look at the identifiers or the number of the list.
+pub sound-any : (l : ℕ) (t : Forest Field) (identifiers : List ℕ) {x : Unit {0}}
+    → sound l t identifiers ≡ ok x
+    → sound 0 t [] ≡ ok tt
+unfolding sound
+sound-any l t identifiers e =
+    unbind _ _ e λ _ e₁ a₁. unbind _ _ a₁ λ _ e₂ _.
+    rebind _ _ (no-fault 7 0 (fault-ok 7 l (repeated eqb [] 0 (ids t)) e₁))
+    (rebind _ _ (no-fault 8 0 (fault-ok 8 l (repeated same [] 0 (names [] t)) e₂)) refl)
+
+-- ---- a tree that was read
+
+pub record Base (s p : List ℕ) (t : Forest Field) : Type 0 where
+  pub sizes : sized s p ≡ true
+  pub decodes : decode 0 s p ≡ ok t
+  pub sound-tree : sound 0 t [] ≡ ok tt
+
+pub base-reads : (s p : List ℕ) (t : Forest Field) → Base s p t → read s p ≡ ok t
+unfolding read
+base-reads s p t b = rebind _ _ (rw (b .sizes)) (rebind _ _ (b .decodes) (rebind _ _ (b .sound-tree) refl))
+
+pub read-base : (s p : List ℕ) (t : Forest Field) → read s p ≡ ok t → Base s p t
+unfolding read
+read-base s p t e =
+    unbind _ _ e λ _ e₁ a₁. unbind _ _ a₁ λ t′ e₂ a₂. unbind _ _ a₂ λ _ e₃ a₃.
+    rw (← (ok-is a₃)) (record { sizes = passed 2 0 0 (sized s p) e₁; decodes = e₂; sound-tree = e₃ })
+
+pub base-fit : (s p : List ℕ) (t : Forest Field) → Bytes s → Base s p t → Fit t
+base-fit s p t b o = decode-fit 0 s p t b (o .sizes) (o .decodes)
+
+-- ---- the entries
+
+pub record OpenedPrune (s p sel : List ℕ) (full : Bool) (r : Result) : Type 0 where
+  pub tree : Forest Field
+  pub base : Base s p tree
+  pub prunes : prune tree (id-list sel) full ≡ ok (r .tree)
+
+pub open-prune : (s p sel : List ℕ) (full : Bool) (lr ln : ℕ) (r : Result)
+    → prune-entry s p sel full lr ln ≡ ok r
+    → OpenedPrune s p sel full r
+unfolding prune-entry prune
+open-prune s p sel full lr ln r e =
+    unbind _ _ e λ _ _ a₁. unbind _ _ a₁ λ _ e₂ a₂. unbind _ _ a₂ λ t e₃ a₃. unbind _ _ a₃ λ u e₄ a₄.
+    unbind _ _ e₄ λ _ e₅ _.
+    let z = sized-base 1024 s p sel (passed 2 0 0 (sized-ids 1024 s p sel) e₂) in
+    record {
+      tree = t;
+      base = record { sizes = z; decodes = e₃; sound-tree = e₅ };
+      prunes = rw (← (ok-is a₄)) e₄;
+    }
+
+pub record OpenedRenumber (s p i : List ℕ) (start : ℕ) (r : Result) : Type 0 where
+  pub tree : Forest Field
+  pub base : Base s p tree
+  pub renumbers : renumber tree (id-list i) (turned start) ≡ ok (record { tree = r .tree; identifiers = r .identifiers })
+
+pub open-renumber : (s p i : List ℕ) (start lr ln li : ℕ) (r : Result)
+    → renumber-entry s p i start lr ln li ≡ ok r
+    → OpenedRenumber s p i start r
+unfolding renumber-entry renumber
+open-renumber s p i start lr ln li r e =
+    unbind _ _ e λ _ _ a₁. unbind _ _ a₁ λ _ e₂ a₂. unbind _ _ a₂ λ t e₃ a₃. unbind _ _ a₃ λ u e₄ a₄.
+    unbind _ _ e₄ λ _ e₅ _.
+    let z = sized-base 64 s p i (passed 2 0 0 (sized-ids 64 s p i) e₂) in
+    record {
+      tree = t;
+      base = record { sizes = z; decodes = e₃; sound-tree = sound-any 0 t (id-list i) e₅ };
+      renumbers = rw (← (ok-is a₄)) e₄;
+    }
+
+pub record OpenedUpdate (s p i : List ℕ) (last : ℕ) (d a b q : List ℕ) (r : Result) : Type 0 where
+  pub tree : Forest Field
+  pub base : Base s p tree
+  pub new : Forest Field
+  pub new-sizes : sized b q ≡ true
+  pub new-decodes : decode 1 b q ≡ ok new
+  pub answer : Schema
+  pub updates : update (record { tree = tree; last = turned last })
+      (record {
+        identifiers = id-list i;
+        deletions = deletion-paths q d;
+        additions = addition-paths q a;
+        added = new;
+      })
+      ≡ ok answer
+  pub result : r ≡ record { tree = answer .tree; identifiers = []; last = turned (answer .last) }
+
+pub open-update : (s p i : List ℕ) (last : ℕ) (d a b q : List ℕ) (lr ln : ℕ) (r : Result)
+    → update-entry s p i last d a b q lr ln ≡ ok r → OpenedUpdate s p i last d a b q r
+unfolding update-entry update planned
+open-update s p i last d a b q lr ln r e =
+    unbind _ _ e λ _ _ a₁. unbind _ _ a₁ λ _ e₂ a₂. unbind _ _ a₂ λ t e₃ a₃. unbind _ _ a₃ λ n e₄ a₄.
+    unbind _ _ a₄ λ _ _ a₅.
+    unbind _ _ a₅ λ _ _ a₆. unbind _ _ a₆ λ u e₇ a₇. unbind _ _ e₇ λ _ e₈ _. unbind _ _ e₈ λ _ e₉ _.
+    let z = sized-trees s p i d a b q (passed 2 0 0 (sized-update s p i d a b q) e₂) in
+    record {
+      tree = t;
+      base = record { sizes = z .0; decodes = e₃; sound-tree = sound-any 0 t (id-list i) e₉ };
+      new = n;
+      new-sizes = z .1;
+      new-decodes = e₄;
+      answer = u;
+      updates = e₇;
+      result = sym (ok-is a₇);
+    }

@@ -1,0 +1,170 @@
+-- The promises of the paper, one statement each. What a statement says is defined in paper/specs and in the
+-- specs of this crate; why it holds is said at the head of the file that its last line cites.
+use Prim.Native.Nat.{ℕ, suc, _+_, _-_, _<_, _≤_}
+use mathlib.Core.Path.{_≡_}
+use mathlib.Core.Bool.{Bool, true}
+use mathlib.Core.List.{List, [], _∷_, map}
+use mathlib.Core.Option.{Option}
+use lib.IntN.{pos, negsuc}
+use Rattle.paper.specs.Answer.{Answer, ok, refused}
+use Rattle.paper.specs.Forest.{Forest, size}
+use Rattle.paper.specs.Field.{Field}
+use Rattle.paper.specs.Update.{Request, Schema}
+use Rattle.paper.specs.Rows.{Row}
+use Rattle.paper.specs.Bytes.{turned}
+use Rattle.paper.specs.Decode.{decode}
+use Rattle.paper.specs.Encode.{record-bytes, pool-bytes}
+use Rattle.paper.specs.Limits.{sized}
+use Rattle.paper.specs.Entries.{Result, update-entry, prune-entry, renumber-entry}
+use Rattle.paper.specs.Outcome.{changed, Found}
+use Rattle.paper.specs.Sample.{T, T-records, T-pool}
+use Rattle.paper.specs.Asked.{AnUpdate, APruner, signed-id, answer, update-reply, _with-last_}
+use Rattle.paper.specs.Worked.{examples}
+use Rattle.paper.proofs.Hold.{T-decodes, all-hold}
+use Rattle.laws.specs.Fit.{Bytes}
+use Rattle.theorems.specs.Run.{Begins, Lasting, LastingRun}
+use Rattle.theorems.specs.Stored.{Stored, Lent, update-stored, run-stored, BeginsStored, LastingStored}
+use Rattle.theorems.specs.Again.{ReadsAgain}
+use Rattle.theorems.specs.Changed.{Pruned, Renumbered}
+use Rattle.theorems.specs.One.{Handed, Promised, PromisedFound, Told, RefusalsTold}
+use Rattle.theorems.specs.Wrong.{P4, P5, RightUpdate, P8, P9, RightPruner}
+use Rattle.theorems.proofs.Signed.{signed-natural, signed-negative}
+use Rattle.theorems.proofs.Evolution.{lasting}
+use Rattle.theorems.proofs.Storing.{lasting-stored}
+use Rattle.theorems.proofs.Beginning.{T-schema, T-stored, T-requests, T-begins, T-begins-stored}
+use Rattle.theorems.proofs.Beginning.{accepted-twice}
+use Rattle.theorems.proofs.Ends as Ends
+use Rattle.theorems.proofs.Again.{decoded-again, update-again, prune-again, renumber-again}
+use Rattle.theorems.proofs.Again.{prune-parts, renumber-numbers}
+use Rattle.theorems.proofs.One as One
+use Rattle.theorems.proofs.Told.{refusals-told, none-accepted}
+use Rattle.theorems.proofs.Wrong.{right-update, right-pruner}
+
+-- ---- the worked examples
+
+-- T's bytes are the forest T.
+pub worked-tree : decode 0 T-records T-pool ≡ ok T
+worked-tree = T-decodes
+
+-- P1 to P13: what the definitions answer to each question, asked
+-- in bytes and read in signed ids, is what 01 gives.
+pub worked-examples : map (λ e. answer (e .asked)) examples ≡ map (λ e. e .given) examples
+worked-examples = all-hold
+
+-- The signed reading is two's complement: n and -(n + 1), from their 32 bits.
+pub signed-reading : (n : ℕ) → n < 2_147_483_648
+    → (signed-id (turned n) ≡ pos n) × (signed-id (turned (4_294_967_295 - n)) ≡ negsuc n)
+signed-reading n l = (signed-natural n l, signed-negative n l)
+
+-- ---- demand 3
+
+-- Over forests: from an accepted schema whose ids are at most its last id, every run of updates lasts.
+pub runs-last : (s : Schema) → Begins s → (requests : ℕ → Request) → LastingRun s requests
+runs-last = lasting
+
+-- Over bytes: the same, where each update is given what the last accepted one answered.
+pub runs-last-stored : (s : Stored) → BeginsStored s → (requests : ℕ → Lent) → LastingStored s requests
+runs-last-stored = lasting-stored
+
+-- Neither is empty: T begins a run,
+pub runs-begin : Begins T-schema × BeginsStored T-stored
+runs-begin = (T-begins, T-begins-stored)
+
+-- and two updates in a row are accepted. The first consumes 11
+-- for a column that vanishes; the second is given 13.
+pub runs-go-on : (update-reply (update-stored T-stored (T-requests 0))
+    ≡ (1 ∷ 4 ∷ 5 ∷ 3 ∷ 8 ∷ 9 ∷ 10 ∷ 12 ∷ []) with-last 12)
+    × (update-reply (update-stored (run-stored T-stored T-requests 1) (T-requests 1))
+    ≡ (1 ∷ 4 ∷ 5 ∷ 3 ∷ 8 ∷ 9 ∷ 10 ∷ 12 ∷ 13 ∷ []) with-last 13)
+runs-go-on = accepted-twice
+
+-- A renumbering ends a run: no run lasts in which T is followed by T renumbered from 4.
+pub renumbering-ends : (at : ℕ → Schema) (r : Result)
+    → renumber-entry T-records T-pool [] 4 24576 32768 0 ≡ ok r
+    → at 0 .tree ≡ T → at 1 .tree ≡ r .tree → Lasting at → ⊥
+renumbering-ends = Ends.renumbering-ends
+
+-- Another may begin, from what it answered, with a last id that is at least the highest that it gave.
+pub renumbering-begins : (records pool identifiers : List ℕ) (start room-records room-names room-ids : ℕ) (r : Result)
+    → Bytes records → renumber-entry records pool identifiers start room-records room-names room-ids ≡ ok r
+    → (last : ℕ) → turned start + size (r .tree) ≤ suc (turned last)
+    → BeginsStored (record { records = record-bytes (r .tree); names = pool-bytes (r .tree); last = last })
+renumbering-begins = Ends.renumbering-begins
+
+-- ---- the round trip. `Bytes` says that what is lent are bytes, numbers below 256.
+
+-- What `decode` gives of a list that passed 2, encoded, decodes to the same forest.
+pub decode-round-trip : (list list′ : ℕ) (records pool : List ℕ) (t : Forest Field)
+    → Bytes records → sized records pool ≡ true → decode list records pool ≡ ok t
+    → decode list′ (record-bytes t) (pool-bytes t) ≡ ok t
+decode-round-trip = decoded-again
+
+-- What an accepted update answers is accepted again by 2 to 8, and is read as its tree.
+pub update-round-trip : (records pool identifiers : List ℕ) (last : ℕ) (deletions additions added request : List ℕ)
+    → (room-records room-names : ℕ) (r : Result) → Bytes records → Bytes added
+    → update-entry records pool identifiers last deletions additions added request room-records room-names ≡ ok r
+    → ReadsAgain r
+update-round-trip = update-again
+
+-- So is what an accepted pruning answers,
+pub prune-round-trip : (records pool selected : List ℕ) (full : Bool) (room-records room-names : ℕ) (r : Result)
+    → Bytes records → prune-entry records pool selected full room-records room-names ≡ ok r → ReadsAgain r
+prune-round-trip = prune-again
+
+-- and what an accepted renumbering answers.
+pub renumber-round-trip : (records pool identifiers : List ℕ) (start room-records room-names room-ids : ℕ) (r : Result)
+    → Bytes records → renumber-entry records pool identifiers start room-records room-names room-ids ≡ ok r
+    → ReadsAgain r
+renumber-round-trip = renumber-again
+
+-- ---- pruning and renumbering
+
+-- An accepted pruning gives a part of the tree: each column was
+-- there, under the same parent, and the order is kept.
+pub pruning-gives-a-part : (records pool selected : List ℕ) (full : Bool) (room-records room-names : ℕ) (r : Result)
+    → prune-entry records pool selected full room-records room-names ≡ ok r → Pruned records pool r
+pruning-gives-a-part = prune-parts
+
+-- An accepted renumbering gives start .. start + n - 1, each once, and keeps all but the ids.
+pub renumbering-gives-each-once : (records pool identifiers : List ℕ)
+    → (start room-records room-names room-ids : ℕ) (r : Result)
+    → renumber-entry records pool identifiers start room-records room-names room-ids ≡ ok r
+    → Renumbered records pool start r
+renumbering-gives-each-once = renumber-numbers
+
+-- ---- one answer
+
+-- No second answer fits. What is promised of an entry equals a function of what was lent: `a` is the
+-- definition's answer, `before` the buffers as they were. So two outcomes that keep the promise are one;
+pub one-answer : (a : Answer Result) (before x y : Handed) → Promised a before x → Promised a before y → x ≡ y
+one-answer = One.one-answer
+
+-- and so are two of a look-up.
+pub one-found : (a : Answer (Option Row)) (x y : Found) → PromisedFound a x → PromisedFound a y → x ≡ y
+one-found = One.one-found
+
+-- A refusal has a number of 01's table, from 1 to 20, and one of its lists, from 0 to 5.
+pub refusals-are-told : RefusalsTold
+refusals-are-told = refusals-told
+
+-- So it is not taken for an acceptance, which says 0.
+pub zero-is-accepted : (a : Answer Result) (n l p : ℕ) → Told a → changed a .refusal ≡ 0 → a ≡ refused n l p
+    → ⊥
+zero-is-accepted = none-accepted
+
+-- No second tree fits the bytes of an answer.
+pub one-tree : (r r′ : Result) → ReadsAgain r → ReadsAgain r′
+    → record-bytes (r .tree) ≡ record-bytes (r′ .tree)
+    → pool-bytes (r .tree) ≡ pool-bytes (r′ .tree) → r .tree ≡ r′ .tree
+one-tree = One.one-tree
+
+-- ---- wrong programs
+
+-- An update that answers P4 and P5 as the definition does is not one that turns all down, no no-op, not
+-- one that applies the first entry alone, and makes up no record count, name bytes or last id.
+pub no-wrong-update : (f : AnUpdate) → P4 f ≡ P4 update-entry → P5 f ≡ P5 update-entry → RightUpdate f
+no-wrong-update = right-update
+
+-- A pruner that answers P8 and P9 as the definition does hands back no constant tree.
+pub no-wrong-pruner : (f : APruner) → P8 f ≡ P8 prune-entry → P9 f ≡ P9 prune-entry → RightPruner f
+no-wrong-pruner = right-pruner

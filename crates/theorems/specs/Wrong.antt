@@ -1,0 +1,52 @@
+-- The wrong programs of 01, told from the right ones by P4, P5, P8 and P9.
+use Prim.Native.Nat.{ℕ}
+use mathlib.Core.Path.{_≡_}
+use mathlib.Core.Bool.{false}
+use mathlib.Core.List.{[], _∷_}
+use Rattle.paper.specs.Answer.{Answer, ok, refused}
+use Rattle.paper.specs.Entries.{Result, update-entry}
+use Rattle.paper.specs.Outcome.{Changed, changed}
+use Rattle.paper.specs.Sample.{T}
+use Rattle.paper.specs.Asked.{AnUpdate, APruner, asked-update, asked-prune, at-root, _under_}
+
+-- ---- updates
+
+abbrev pub P4 : AnUpdate → Answer Result
+P4 f = asked-update f ("node.cost" ∷ []) (("cost" under "node") ∷ [])
+
+abbrev pub P5 : AnUpdate → Answer Result
+P5 f = asked-update f ("visits" ∷ []) (("fault" under "visits") ∷ at-root "floor" ∷ [])
+
+-- P4 with its first entry alone, the deletion; P5 with the first entry of each list alone.
+abbrev pub P4-first : AnUpdate → Answer Result
+P4-first f = asked-update f ("node.cost" ∷ []) []
+
+abbrev pub P5-first : AnUpdate → Answer Result
+P5-first f = asked-update f ("visits" ∷ []) (("fault" under "visits") ∷ [])
+
+-- What an accepted answer says.
+abbrev pub counted : (records names last-id : ℕ) → Changed
+counted records names last-id =
+    record { refusal = 0; list = 0; place = 0; records = records; names = names; last-id = last-id }
+
+-- What an update can't be that answers P4 and P5 as the paper does.
+pub record RightUpdate (f : AnUpdate) : Type 0 where
+  pub not-all-down : (n l p : ℕ) → P4 f ≡ refused n l p → ⊥
+  pub not-no-op : (r : Result) → P4 f ≡ ok r → r .tree ≡ T → ⊥
+  pub not-first-alone : (P4 f ≡ P4-first update-entry → ⊥) × (P5 f ≡ P5-first update-entry → ⊥)
+  -- Record count, name bytes and last id are these, so no made-up ones.
+  pub P4-counts : changed (P4 f) ≡ counted 10 48 11
+  pub P5-counts : changed (P5 f) ≡ counted 8 37 12
+
+-- ---- pruners
+
+abbrev pub P8 : APruner → Answer Result
+P8 f = asked-prune f (7 ∷ []) false
+
+abbrev pub P9 : APruner → Answer Result
+P9 f = asked-prune f (1 ∷ []) false
+
+-- A pruner that answers P8 and P9 as the paper does hands back no constant tree.
+pub record RightPruner (f : APruner) : Type 0 where
+  pub accepts : (n l p : ℕ) → (P8 f ≡ refused n l p → ⊥) × (P9 f ≡ refused n l p → ⊥)
+  pub not-constant : (r r′ : Result) → P8 f ≡ ok r → P9 f ≡ ok r′ → r .tree ≡ r′ .tree → ⊥
