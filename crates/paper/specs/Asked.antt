@@ -39,8 +39,7 @@ pub data Ask : Type 0 where
 
 -- ---- answers
 
--- An id of the definitions is the signed id plus 2^31: the signed
--- id itself (`pos n` is n, `negsuc n` is -(n + 1)).
+-- The signed id of an id of the definitions, which is 2^31 more. `pos n` is n, and `negsuc n` is -(n + 1).
 unfoldable pub signed-id : ℕ → ℤ
 signed-id i = cond (ltb i 2_147_483_648) (negsuc (2_147_483_647 - i)) (pos (i - 2_147_483_648))
 

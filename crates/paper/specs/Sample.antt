@@ -1,5 +1,4 @@
--- 01, One tree worked by hand: T, as a forest and as bytes. That
--- the bytes are the forest is shown (`T-decodes`).
+-- 01, One tree worked by hand: T, as a forest and as bytes. That the bytes are the forest is `T-decodes`.
 use Prim.Native.Nat.{ℕ, _+_}
 use Prim.Native.String.{String}
 use mathlib.Core.List.{List, [], _∷_}
@@ -8,9 +7,6 @@ use Rattle.paper.specs.declared.Kind.the-variants.{Primitive, Structure,
 use Rattle.paper.specs.Forest.{Forest, empty, node, _then_}
 use Rattle.paper.specs.Field.{Field}
 use Rattle.paper.specs.Sound.{text}
-
--- `node` 1 struct of `button` 4 and `cost` 5; `visits` 2 list, `element` 6 struct of `day` 7;
--- `parts` 3 map, `key` 8, `value` 9 struct of `price` 10. Only the key is required.
 
 -- The id of a field is the signed id plus 2^31.
 abbrev column : Kind → (flags : ℕ) → String → (id : ℕ) → Forest Field → Forest Field
@@ -40,13 +36,15 @@ listing = column Listing 0
 abbrev mapping : String → ℕ → Forest Field → Forest Field
 mapping = column Mapping 0
 
+-- `node` 1 struct of `button` 4 and `cost` 5; `visits` 2 list, `element` 6 struct of `day` 7;
+-- `parts` 3 map, `key` 8, `value` 9 struct of `price` 10. Only the key is required.
 abbrev pub T : Forest Field
 T =
     struct "node" 1 (primitive "button" 4 then primitive "cost" 5)
     then listing "visits" 2 (struct "element" 6 (primitive "day" 7))
     then mapping "parts" 3 (required "key" 8 then struct "value" 9 (primitive "price" 10))
 
--- T's bytes: id, name offset, name length, kind, flags, 0, children, 0, type code, attribute.
+-- T's bytes, a line a record: id, name offset, name length, kind, flags, 0, children, 0, type code, attribute.
 abbrev pub T-records : List ℕ
 T-records =
     1 ∷ 0 ∷ 0 ∷ 0 ∷ 0 ∷ 0 ∷ 0 ∷ 0 ∷ 4 ∷ 1 ∷ 0 ∷ 0 ∷ 2 ∷ 0 ∷ 0 ∷ 0 ∷ 0 ∷ 0 ∷ 0 ∷ 0 ∷ 0 ∷ 0 ∷ 0 ∷ 0

@@ -90,7 +90,8 @@ open-prune s p sel full lr ln r e =
 pub record OpenedRenumber (s p i : List ℕ) (start : ℕ) (r : Result) : Type 0 where
   pub tree : Forest Field
   pub base : Base s p tree
-  pub renumbers : renumber tree (id-list i) (turned start) ≡ ok (record { tree = r .tree; identifiers = r .identifiers })
+  pub renumbers : renumber tree (id-list i) (turned start)
+      ≡ ok (record { tree = r .tree; identifiers = r .identifiers })
 
 pub open-renumber : (s p i : List ℕ) (start lr ln li : ℕ) (r : Result)
     → renumber-entry s p i start lr ln li ≡ ok r

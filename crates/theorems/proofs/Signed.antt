@@ -1,5 +1,5 @@
--- The signed reading of an id is that of its 32 bits in two's complement: `turned` adds 2^31 and cuts, `signed-id` takes
--- it away again.
+-- The signed reading of an id is that of its 32 bits in two's complement: `turned` adds 2^31 and cuts, and
+-- `signed-id` takes it away again.
 use Prim.Native.Nat.{ℕ, _+_, _-_, _%_, _<_, _≤_}
 use mathlib.Core.Path.{_≡_, refl, ap, _∙_}
 use native.Mathlib.Omega.{arith}
