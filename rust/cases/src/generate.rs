@@ -41,7 +41,7 @@ impl Generator {
             return edge(&mut random, operation);
         }
         let most = match self.sizes {
-            Sizes::Small => 7,
+            Sizes::Small => 5,
             Sizes::Usual if random.chance(1, 250) => MOST_RECORDS,
             Sizes::Usual => *random.pick(&[6, 12, 24, 40]),
         };
@@ -151,7 +151,7 @@ fn update(random: &mut Random, shape: Shape) -> Case {
     let rows = Tree::of(&base);
     // most requests get far
     let tame = random.chance(3, 4);
-    let most = if shape.records > 7 && random.chance(1, 30) { 64 } else { 3 };
+    let most = if shape.records > 5 && random.chance(1, 30) { 64 } else { 3 };
     let mut deletions = deletions(random, &rows, &ids, tame, most);
     let added = added(random, &rows, tame, most);
     let mut last_id = last_id(random, &rows, added.iter().map(|a| size(&a.column)).sum());

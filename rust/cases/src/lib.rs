@@ -19,7 +19,7 @@ pub use build::{
 pub use case::{Answer, Ask, ByJudge, Case, Numbers, Operations, Outcome, answer, outcome};
 pub use generate::{Generator, Sizes};
 pub use line::{Judge, Recorded, read_line, read_recorded, write_line};
-pub use named::{Named, named};
+pub use named::{Expected, Named, named};
 pub use random::Random;
 pub use shapes::{SHAPES, Tally, shapes_of};
 pub use shrink::shrink;

@@ -42,9 +42,9 @@ const NAMES: &[&str] = &[
     "\n",
 ];
 
-/// A name; one in sixty has 255 bytes.
+/// A name; one in two hundred has 255 bytes.
 pub fn name(random: &mut Random) -> Vec<u8> {
-    match random.below(60) {
+    match random.below(200) {
         0 => vec![b'a' + random.below(3) as u8; 255],
         _ => random.pick(NAMES).as_bytes().to_vec(),
     }
@@ -84,7 +84,9 @@ fn grown(random: &mut Random, shape: Shape) -> Vec<Node> {
         _ => 1 + random.below(shape.records),
     };
     let mut roots = vec![];
-    if random.chance(1, 2) && shape.records >= 7 && shape.levels >= 6 {
+    // small trees have them less often, since they need six records
+    let out_of = if shape.records < 10 { 8 } else { 2 };
+    if random.chance(1, out_of) && shape.levels >= 6 {
         roots.push(twins(random));
     } else if random.chance(1, 6) && shape.records >= 2 * LEVELS {
         let levels = 1 + random.below(shape.levels);

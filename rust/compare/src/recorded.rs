@@ -22,17 +22,15 @@ pub fn recorded_path() -> PathBuf {
 
 /// The whole list: a header, the named cases, then the random ones.
 pub fn recorded_list(iceberg: Iceberg) -> String {
-    let mut text = header();
-    for Named { title, case } in named() {
-        text.push_str(&format!("# {title}\n"));
-        text.push_str(&entry(case, iceberg));
+    let mut lines = vec![];
+    for Named { title, case, .. } in named() {
+        lines.push(format!("# {title}"));
+        lines.push(entry(case, iceberg));
     }
-    text.push_str(&format!("# random, seed {SEED}\n"));
+    lines.push(format!("# random, seed {SEED}"));
     let generator = Generator { seed: SEED, sizes: Sizes::Small };
-    for n in 0..RANDOM {
-        text.push_str(&entry(generator.case(n), iceberg));
-    }
-    text
+    lines.extend((0..RANDOM).map(|n| entry(generator.case(n), iceberg)));
+    header(&lines) + &lines.join("\n") + "\n"
 }
 
 fn entry(case: cases::Case, iceberg: Iceberg) -> String {
@@ -42,14 +40,17 @@ fn entry(case: cases::Case, iceberg: Iceberg) -> String {
         Agreement::Differ => panic!("the judges part: {case:?}"),
         _ => Judge::Paper,
     };
-    write_line(&Recorded { case, judge, answer: paper }) + "\n"
+    write_line(&Recorded { case, judge, answer: paper })
 }
 
-fn header() -> String {
+fn header(lines: &[String]) -> String {
+    let cases = lines.iter().filter(|line| !line.starts_with('#')).count();
+    let longest = lines.iter().map(String::len).max().unwrap_or(0);
     format!(
         "\
 # Recorded answers: one case to a line. Lines that start with # are comments.
-# Made by: cargo run -p compare -- record (in rust/oracle), seed {SEED}.
+# Made in rust/oracle by: cargo run -p compare -- record; seed {SEED}.
+# {cases} cases; the longest line has {longest} bytes.
 #
 # OP JUDGE RECORDS POOL inputs.. = answer..
 #

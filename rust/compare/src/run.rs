@@ -3,7 +3,8 @@
 use std::collections::BTreeMap;
 
 use cases::{
-    Ask, ByJudge, Case, Generator, Judge, Recorded, Tally, answer, outcome, shrink, write_line,
+    ByJudge, Case, Generator, Judge, Operations, Recorded, Tally, answer, outcome, shrink,
+    write_line,
 };
 use oracle::Iceberg;
 use port::Guarded;
@@ -51,18 +52,14 @@ pub fn check(case: &Case, iceberg: Option<Iceberg>) -> Shown {
             }
         }
     };
-    Ok((agreed, port_agrees(case)?))
+    Ok((agreed, beside_paper(case, &Guarded::port())?))
 }
 
-/// Does the port leave what the paper leaves, in numbers and in every byte? False where the
-/// operation has not landed.
-fn port_agrees(case: &Case) -> Result<bool, String> {
-    if case.ask == Ask::List {
-        return Ok(false);
-    }
-    let port = Guarded::port();
-    let Some(ours) = outcome(case, &port) else { return Ok(false) };
-    if let Some(stray) = port.stray() {
+/// Do these operations leave what the paper leaves, in numbers and in every byte? False where
+/// the operation has not landed, and for the lister, which is none of them.
+pub fn beside_paper<O: Operations>(case: &Case, by: &Guarded<O>) -> Result<bool, String> {
+    let Some(ours) = outcome(case, by) else { return Ok(false) };
+    if let Some(stray) = by.stray() {
         return Err(format!("port: {stray}"));
     }
     let paper = outcome(case, &ByJudge).expect("the judge answers every operation");

@@ -48,9 +48,18 @@ fn node(records: &[u8], pool: &[u8], at: &mut usize, depth: usize) -> Result<Nod
     if !by_kind || r[10] > 3 || r[11] != 0 || r[14] != 0 || r[15] != 0 {
         return Err("a byte rule of a record");
     }
-    let inside = (0..children).map(|_| node(records, pool, at, depth + 1)).collect::<Result<_, _>>()?;
+    let inside =
+        (0..children).map(|_| node(records, pool, at, depth + 1)).collect::<Result<_, _>>()?;
     let id = word(0) as i32;
-    Ok(Node { id, name, kind: r[9], flags: r[10], type_code: word(16), attribute: word(20), inside })
+    Ok(Node {
+        id,
+        name,
+        kind: r[9],
+        flags: r[10],
+        type_code: word(16),
+        attribute: word(20),
+        inside,
+    })
 }
 
 /// Records and names, packed in record order.

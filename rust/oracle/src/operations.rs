@@ -9,6 +9,7 @@ use std::sync::{Arc, Once};
 use cases::{Answer, Ask, Case};
 use judge::Node;
 
+use crate::Error;
 use crate::fields::{Unfit, bytes, fields, ids, nodes, nodes_of};
 use crate::request::Request;
 use crate::spec::beside::id_reassigner::ReassignFieldIds;
@@ -16,7 +17,6 @@ use crate::spec::beside::index::index_parents;
 use crate::spec::{Schema, Type, prune_columns};
 use crate::table::Table;
 use crate::verdict::Verdict;
-use crate::Error;
 
 /// Why there is no answer: a verdict that is none.
 type Stop<T> = Result<T, Verdict>;
@@ -50,7 +50,8 @@ fn number(message: &str) -> u32 {
         return *number;
     }
     let parent = message.starts_with("Cannot add column: ");
-    let missing = message.starts_with("Cannot add column: parent '") && message.ends_with("' not found");
+    let missing =
+        message.starts_with("Cannot add column: parent '") && message.ends_with("' not found");
     match (parent, missing) {
         (true, true) => 15,
         (true, false) => 16,
@@ -126,8 +127,9 @@ pub fn operate(case: &Case) -> bool {
         Ask::Update { .. } => committed(case).is_ok(),
         Ask::Prune { .. } => pruned(case).is_ok(),
         Ask::Renumber { .. } => renumbered(case).is_ok(),
-        Ask::Name(name) => build(case, &[])
-            .is_ok_and(|schema| str::from_utf8(name).is_ok_and(|n| schema.field_by_name(n).is_some())),
+        Ask::Name(name) => build(case, &[]).is_ok_and(|schema| {
+            str::from_utf8(name).is_ok_and(|n| schema.field_by_name(n).is_some())
+        }),
         Ask::Id(id) => build(case, &[]).is_ok_and(|schema| schema.field_by_id(*id).is_some()),
         Ask::Parent(id) => build(case, &[]).is_ok_and(|schema| parent_of(&schema, *id).is_some()),
         Ask::List => build(case, &[]).is_ok(),
@@ -207,7 +209,8 @@ pub fn last_id_by_one_more(case: &Case) -> Option<i32> {
     let name = "one more \u{1}";
     let (kind, flags, type_code, attribute) = (judge::PRIMITIVE, 0, 0, 0);
     let name_bytes = name.as_bytes().to_vec();
-    let column = Node { id: 0, name: name_bytes, kind, flags, type_code, attribute, inside: vec![] };
+    let column =
+        Node { id: 0, name: name_bytes, kind, flags, type_code, attribute, inside: vec![] };
     request.additions.push((None, column));
     let action = request.action().ok()?;
     let schema = run(|| action.commit(&table), false).ok()?;
@@ -294,7 +297,8 @@ fn renumber(case: &Case) -> Stop<Answer> {
 pub fn renumbered_without_builder(case: &Case) -> Option<Vec<i32>> {
     let Ask::Renumber { start, .. } = &case.ask else { return None };
     let fields = nodes(&case.records, &case.pool).and_then(|roots| fields(&roots)).ok()?;
-    let renumbered = run(|| ReassignFieldIds::new(*start).reassign_field_ids(fields), false).ok()?;
+    let renumbered =
+        run(|| ReassignFieldIds::new(*start).reassign_field_ids(fields), false).ok()?;
     let (records, _) = bytes(&nodes_of(&renumbered));
     Some(base_ids(&Case { records, pool: vec![], ask: Ask::List }))
 }
@@ -340,4 +344,3 @@ fn list(case: &Case) -> Stop<Answer> {
     }
     Ok(Answer::Listed(text.into_bytes()))
 }
-

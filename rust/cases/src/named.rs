@@ -1,8 +1,0 @@
-use crate::case::Case;
-pub struct Named {
-    pub title: String,
-    pub case: Case,
-}
-pub fn named() -> Vec<Named> {
-    vec![]
-}
