@@ -149,6 +149,10 @@ fn update(random: &mut Random, shape: Shape) -> Case {
     let mut base = tree(random, shape);
     let mut ids = identifiers(random, &mut base);
     let rows = Tree::of(&base);
+    if !rows.rows.is_empty() && random.chance(1, 15) {
+        // any record, where the builder asks for more
+        ids.push(random.pick(&rows.rows).id);
+    }
     // most requests get far
     let tame = random.chance(3, 4);
     let most = if shape.records > 5 && random.chance(1, 30) { 64 } else { 3 };
@@ -186,7 +190,13 @@ fn deletions(
 ) -> Vec<Vec<u8>> {
     let mut deletions = vec![];
     for _ in 0..random.below(most + 1) {
-        if !tame {
+        let identifier = rows.rows.iter().position(|row| identifiers.contains(&row.id));
+        if let Some(slot) = identifier
+            && !tame
+            && random.chance(1, 3)
+        {
+            deletions.push(rows.full_name(slot));
+        } else if !tame {
             deletions.push(path(random, rows));
         } else if !rows.rows.is_empty() {
             let slot = random.below(rows.rows.len());

@@ -48,10 +48,13 @@ fn small_cases_stay_small() {
     }
 }
 
-/// A refusal 8 needs two records of one full name, and what stands above them.
+/// A refusal 8 of a base needs two records of one full name, what stands above them, and no
+/// request.
 #[test]
 fn a_failing_case_is_shrunk() {
-    let refused = |case: &Case| answer(case).refusal().is_some_and(|r| r.number == 8);
+    let refused = |case: &Case| {
+        answer(case).refusal().is_some_and(|r| (r.number, r.list) == (8, judge::BASE))
+    };
     let large = (0..200_000u64)
         .filter(|n| n % 7 == 0)
         .map(|n| usual().case(n))

@@ -45,7 +45,8 @@ impl Iceberg {
         crate::operations::verdict(case)
     }
 
-    /// From the bytes to the crate's answer and no further, for measuring: is it accepted?
+    /// From the bytes to the crate's answer and no further, for measuring. True where it is
+    /// accepted and, in a look-up, something is found.
     pub fn operate(&self, case: &Case) -> bool {
         crate::operations::operate(case)
     }
@@ -68,7 +69,8 @@ impl Iceberg {
         match *self {}
     }
 
-    /// From the bytes to the crate's answer and no further, for measuring: is it accepted?
+    /// From the bytes to the crate's answer and no further, for measuring. True where it is
+    /// accepted and, in a look-up, something is found.
     pub fn operate(&self, _: &Case) -> bool {
         match *self {}
     }
