@@ -10,8 +10,11 @@ use std::{env, fs};
 
 const VARIABLE: &str = "BRAIDHURDLE_ICEBERG";
 
-/// Generated file, visibility and name of the module, and the crate's file.
-const MODULES: &[(&str, &[(&str, &str, &str)])] = &[
+/// Visibility and name of a module, and the crate's file.
+type Module = (&'static str, &'static str, &'static str);
+
+/// The files that are made, with the modules in each.
+const MODULES: &[(&str, &[Module])] = &[
     ("root.rs", &[("pub", "error", "src/error.rs")]),
     (
         "spec.rs",

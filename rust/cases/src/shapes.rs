@@ -165,12 +165,7 @@ fn update_shapes(
     answer: &Answer,
     met: &mut impl FnMut(&'static str, bool),
 ) {
-    let Ask::Update {
-        identifiers, last_id, deletions, additions, added_records, request_pool, ..
-    } = &case.ask
-    else {
-        return;
-    };
+    let Ask::Update { identifiers, last_id, added_records, .. } = &case.ask else { return };
     let Answer::Updated { records, last_id: consumed, .. } = answer else { return };
     let (before, after) = (ids_in(&case.records), ids_in(records));
     met("update: accepted", true);
@@ -190,6 +185,17 @@ fn update_shapes(
         "update: a required column with a default",
         added_records.chunks(24).any(|r| r[10] == both),
     );
+    deletion_shapes(case, tree, &after, met);
+    addition_shapes(case, tree, met);
+}
+
+fn deletion_shapes(
+    case: &Case,
+    tree: &Tree,
+    after: &[i32],
+    met: &mut impl FnMut(&'static str, bool),
+) {
+    let Ask::Update { deletions, request_pool, .. } = &case.ask else { return };
     for path in paths(deletions, request_pool).into_iter().flatten() {
         let slot = found(case, &path);
         let fixed = tree.rows[slot].parent.is_some_and(|p| tree.rows[p].kind >= LIST);
@@ -198,6 +204,10 @@ fn update_shapes(
         met("update: a member dropped", !fixed);
         met("update: found by a short name", tree.full_name(slot) != path);
     }
+}
+
+fn addition_shapes(case: &Case, tree: &Tree, met: &mut impl FnMut(&'static str, bool)) {
+    let Ask::Update { additions, request_pool, .. } = &case.ask else { return };
     for path in paths(additions, request_pool) {
         let Some(path) = path else {
             met("update: a column added at the root", true);

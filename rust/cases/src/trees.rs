@@ -81,6 +81,7 @@ fn grown(random: &mut Random, shape: Shape) -> Vec<Node> {
     let mut left = match random.below(20) {
         0 => random.below(3),
         1 => shape.records,
+        _ if shape.records > 900 => 901 + random.below(shape.records - 900),
         _ => 1 + random.below(shape.records),
     };
     let mut roots = vec![];

@@ -5,14 +5,21 @@ use crate::build::{entry, the_tree};
 
 pub fn put(all: &mut Cases) {
     sizes(all);
+    name_sums(all);
+    whole_lists(all);
+    lengths(all);
     bytes(all);
     levels(all);
     ids_and_names(all);
     requests(all);
+    taken_names(all);
     parents(all);
     numbers(all);
     rebuilding(all);
+    written(all);
     look_ups(all);
+    ids_and_parents(all);
+    names(all);
     pruning(all);
     maps(all);
     lister(all);
@@ -41,6 +48,9 @@ fn sizes(all: &mut Cases) {
     all.put(title, buffers(24_576, 32_767), refused(1, 0, 0));
     all.put(title, buffers(0, 0), refused(1, 0, 0));
     all.put("reading 2: buffers of exactly their size", buffers(24_576, 32_768), ids(&[]));
+}
+
+fn name_sums(all: &mut Cases) {
     let records = |count: usize, kind: u8, offset: u32| {
         but(id(&[], 1), |case| {
             let mut record = [0; 24];
@@ -57,7 +67,9 @@ fn sizes(all: &mut Cases) {
     all.put("reading 4: a sum that passes", records(128, 0, 0), refused(7, 0, 1));
     let deep = but(id(&[chain(17)], 1), |case| case.records[16 * 24 + 11] = 1);
     all.put("reading 5: levels are no part of 2", deep, refused(3, 0, 16));
-    whole_lists(all);
+}
+
+fn lengths(all: &mut Cases) {
     let long = but(update(&[], 0, &["a"], &[]), |case| {
         let [deletions, ..] = request_of(case);
         *deletions = entry(0, 40_000, 1).to_vec();
@@ -262,6 +274,10 @@ fn requests(all: &mut Cases) {
         update(&[], 0, &[], &[(None, inner)]),
         last(&[1, 2, 3], 3),
     );
+}
+
+fn taken_names(all: &mut Cases) {
+    let t = the_tree();
     let dropped = update(&t, 10, &["node"], &[(Some("node"), p(0, "x"))]);
     all.put("reading 35: a dropped parent is found", dropped, last(&[2, 6, 7, 3, 8, 9, 10], 11));
     let child = update(&[], 0, &[], &[(None, s(0, "n", vec![])), (Some("n"), p(0, "x"))]);
@@ -384,6 +400,9 @@ fn rebuilding(all: &mut Cases) {
         under,
         last(&[1, 2, 3, 4, 10, 5, 6, 7, 11, 8, 9, 12], 12),
     );
+}
+
+fn written(all: &mut Cases) {
     all.put(
         "reading 48: an empty name has the running offset",
         renumber(&[p(1, "a"), p(2, ""), p(3, "b")], &[], 1),
@@ -454,6 +473,9 @@ fn look_ups(all: &mut Cases) {
     all.put("reading 54: the short name of its member", name(&list, "l.x"), Expected::Found(3, 2));
     let same = but(name(&[p(1, "ab"), p(2, "b")], "b"), |case| case.records[24 + 4] = 1);
     all.put("reading 55: equal bytes elsewhere in the pool", same, Expected::Found(2, 1));
+}
+
+fn ids_and_parents(all: &mut Cases) {
     let t = the_tree();
     all.put("reading 56: nothing above a root", parent(&t, 1), Expected::Nothing);
     all.put("reading 56: nothing above an unknown id", parent(&t, 11), Expected::Nothing);
@@ -477,6 +499,9 @@ fn look_ups(all: &mut Cases) {
         under,
         last(&[-1, 0, 101, -2, 102], 102),
     );
+}
+
+fn names(all: &mut Cases) {
     let hidden = [l(1, "l", s(2, "element", vec![p(3, "x")])), p(5, "l.x")];
     all.put("a full name hides a short one", name(&hidden, "l.x"), Expected::Found(5, 3));
     let empty = [s(1, "", vec![p(2, ""), p(3, "a")]), s(4, "b", vec![p(5, "")])];

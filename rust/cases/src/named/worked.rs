@@ -3,13 +3,16 @@
 use super::*;
 use crate::build::the_tree;
 
+/// T's ids in slot order.
+const IN_ORDER: [i32; 10] = [1, 4, 5, 2, 6, 7, 3, 8, 9, 10];
+
 pub fn put(all: &mut Cases) {
+    listed_and_found(all);
     let t = the_tree();
-    let in_order = [1, 4, 5, 2, 6, 7, 3, 8, 9, 10];
-    all.put("P1: renumber from 1", renumber(&t, &[], 1), ids(&in_order));
+    all.put("P1: renumber from 1", renumber(&t, &[], 1), ids(&IN_ORDER));
     all.put("P2: renumber past the edge", renumber(&t, &[], 2_147_483_638), refused(18, 0, 0));
     let edge = 2_147_483_636;
-    let moved: Vec<i32> = in_order.iter().map(|id| edge + id).collect();
+    let moved: Vec<i32> = IN_ORDER.iter().map(|id| edge + id).collect();
     all.put("P2: renumber up to the edge", renumber(&t, &[], edge + 1), ids(&moved));
     all.put("P3: a list's element is left out", name(&t, "visits.day"), Expected::Found(7, 5));
     all.put("P3: a map's value is left out", name(&t, "parts.price"), Expected::Found(10, 9));
@@ -42,10 +45,14 @@ pub fn put(all: &mut Cases) {
     all.put("P12: choose 8", prune(&t, &[8]), ids(&[3, 8, 9, 10]));
     all.put("P13: choose nothing", prune(&t, &[]), ids(&[]));
     all.put("P13: choose nothing, full", prune_full(&t, &[]), ids(&[]));
+}
+
+fn listed_and_found(all: &mut Cases) {
+    let t = the_tree();
     let visits = [l(2, "visits", s(6, "element", vec![p(7, "day")]))];
     let lines = "0 2 - visits\n1 6 2 visits.element\n2 7 6 visits.element.day\n";
     all.put("P8's answer, listed", list(&visits), Expected::Lines(lines));
-    for (slot, id_) in in_order.iter().enumerate() {
+    for (slot, id_) in IN_ORDER.iter().enumerate() {
         all.put("T: every id is found", id(&t, *id_), Expected::Found(*id_, slot as u32));
     }
     for (of, above, slot) in [(4, 1, 0), (6, 2, 3), (7, 6, 4), (8, 3, 6), (9, 3, 6), (10, 9, 8)] {
