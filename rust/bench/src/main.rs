@@ -11,7 +11,7 @@ fn main() {
     println!("microseconds of one call, best of 20 rounds; {}", machine());
     if cfg!(debug_assertions) {
         println!(
-            "this is no release build, so its times say nothing: cargo run --release -p bench"
+            "this is no release build, so its times say nothing: cargo run --profile bench -p bench"
         );
     }
     let iceberg = match oracle::judge() {

@@ -160,10 +160,10 @@ fn refusal_16(base: &Tree, parent: usize, place: usize) -> Result<usize, Refusal
     }
 }
 
-/// refusal 18 in an update: an id would pass 2,147,483,647. Answers the last id consumed.
-fn refusal_18(last_id: i32, records: usize, place: usize) -> Result<i32, Refusal> {
-    i32::try_from(i64::from(last_id) + records as i64)
-        .map_err(|_| Refusal::new(18, ADDITIONS, place))
+/// refusal 18 in an update: an id would pass 2,147,483,647.
+fn refusal_18(last_id: i32, records: usize, place: usize) -> Result<(), Refusal> {
+    let past = i64::from(last_id) + records as i64 > i64::from(i32::MAX);
+    refuse(18, ADDITIONS, past.then_some(place))
 }
 
 /// refusal 19: the rebuilt tree passes a limit on trees.
@@ -187,7 +187,7 @@ struct Plan<'a> {
 
 impl Plan<'_> {
     /// One addition: 13 to 18 in their order, then its ids.
-    fn add(&mut self, place: usize, path: Option<&[u8]>, column: Node) -> Result<(), Refusal> {
+    fn add(&mut self, place: usize, path: Option<&[u8]>, mut column: Node) -> Result<(), Refusal> {
         refusal_13(&column, place)?;
         refusal_14(&column, place)?;
         let receiver = match path {
@@ -198,10 +198,8 @@ impl Plan<'_> {
             }
         };
         self.refusal_17(receiver, &column.name, place)?;
-        let first = i64::from(self.last_id) + 1;
-        self.last_id = refusal_18(self.last_id, size(&column), place)?;
-        let mut column = column;
-        number(&mut column, &mut { first });
+        refusal_18(self.last_id, size(&column), place)?;
+        number(&mut column, &mut self.last_id);
         self.placed.push((receiver, column));
         Ok(())
     }
@@ -255,9 +253,9 @@ fn size(node: &Node) -> usize {
     1 + node.inside.iter().map(size).sum::<usize>()
 }
 
-/// Gives ids in preorder. 18 was tested, so each fits.
-fn number(node: &mut Node, next: &mut i64) {
-    node.id = *next as i32;
-    *next += 1;
-    node.inside.iter_mut().for_each(|child| number(child, next));
+/// Gives ids in preorder from the last id + 1, and moves it on. 18 was tested.
+fn number(node: &mut Node, last_id: &mut i32) {
+    *last_id += 1;
+    node.id = *last_id;
+    node.inside.iter_mut().for_each(|child| number(child, last_id));
 }

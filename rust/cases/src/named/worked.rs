@@ -7,7 +7,11 @@ use crate::build::the_tree;
 const IN_ORDER: [i32; 10] = [1, 4, 5, 2, 6, 7, 3, 8, 9, 10];
 
 pub fn put(all: &mut Cases) {
+    one_to_thirteen(all);
     listed_and_found(all);
+}
+
+fn one_to_thirteen(all: &mut Cases) {
     let t = the_tree();
     all.put("P1: renumber from 1", renumber(&t, &[], 1), ids(&IN_ORDER));
     all.put("P2: renumber past the edge", renumber(&t, &[], 2_147_483_638), refused(18, 0, 0));
