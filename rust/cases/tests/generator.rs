@@ -11,7 +11,7 @@ fn usual() -> Generator {
 #[test]
 fn every_refusal_and_every_accepted_shape_comes_up() {
     let mut tally = Tally::default();
-    for n in 0..60_000 {
+    for n in 0..35_000 {
         let case = usual().case(n);
         tally.count(&case, &answer(&case));
     }

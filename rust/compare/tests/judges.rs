@@ -5,7 +5,7 @@ use compare::{Agreement, absent, agreement, check, iceberg, run};
 use oracle::Verdict;
 
 const SEED: u64 = 7;
-const CASES: u64 = 42_000;
+const CASES: u64 = 28_000;
 
 #[test]
 fn the_judges_agree_on_every_named_case() {
