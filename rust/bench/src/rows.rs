@@ -1,0 +1,98 @@
+//! What is timed on a schema.
+
+use cases::{Addition, Ask, Case, list_of, packed, prim, request, update_of};
+use judge::{Node, OUT_NAMES, OUT_RECORDS, PRIMITIVE, Tree};
+
+use crate::schemas::schema;
+
+/// A case with the operation's word and what is done.
+pub struct Row {
+    pub what: &'static str,
+    pub case: Case,
+    /// 0 where the case is accepted, else the refusal up to which the work goes.
+    pub refusal: u32,
+    /// Can the crate be asked for the same work?
+    pub crate_too: bool,
+}
+
+/// The rows of a schema of so many records.
+pub fn rows(name: &str, records: usize) -> Vec<Row> {
+    let base = schema(name, records);
+    let tree = Tree::of(&base);
+    let primitives: Vec<usize> = (1..records)
+        .filter(|slot| tree.rows[*slot].kind == PRIMITIVE && member(&tree, *slot))
+        .collect();
+    let ids: Vec<i32> = primitives.iter().step_by(2).map(|slot| tree.rows[*slot].id).collect();
+    let last = records - 1;
+    let row = |what, case| Row { what, case, refusal: 0, crate_too: true };
+    vec![
+        row("update, 1 deletion and 1 addition", update(&base, &tree, &primitives, 1)),
+        row("update, 64 deletions and 64 additions", update(&base, &tree, &primitives, 64)),
+        row("prune, half the primitives", prune(&base, &ids)),
+        row("renumber", renumber(&base)),
+        row("look-up by name", ask(&base, Ask::Name(tree.full_name(last)))),
+        row("look-up by id", ask(&base, Ask::Id(tree.rows[last].id))),
+        row("look-up of the record above", ask(&base, Ask::Parent(deep(&tree)))),
+        Row { refusal: 6, crate_too: false, ..row("1 to 6 alone", up_to_6(name, records)) },
+        Row { refusal: 11, ..row("1 to 9 and one look-up", up_to_11(&base)) },
+    ]
+}
+
+/// Is a record a root or a struct's member, so that a deletion takes it out?
+fn member(tree: &Tree, slot: usize) -> bool {
+    tree.rows[slot].parent.is_none_or(|up| tree.rows[up].kind == judge::STRUCT)
+}
+
+fn ask(base: &[Node], ask: Ask) -> Case {
+    let (records, pool) = packed(base);
+    Case { records, pool, ask }
+}
+
+/// The last id that has a record above it, or the last id.
+fn deep(tree: &Tree) -> i32 {
+    let nested = tree.rows.iter().rev().find(|row| row.parent.is_some());
+    nested.or(tree.rows.last()).map_or(0, |row| row.id)
+}
+
+/// Deletions spread over the primitives, again from the front where there are too few.
+fn update(base: &[Node], tree: &Tree, primitives: &[usize], count: usize) -> Case {
+    let spread = (primitives.len() / count).max(1);
+    let slot = |n: usize| primitives[n * spread % primitives.len()];
+    let deletions: Vec<Vec<u8>> = (0..count).map(|n| tree.full_name(slot(n))).collect();
+    let addition = |n: usize| Addition { path: None, column: prim(0, &format!("fresh_{n}")) };
+    let added: Vec<Addition> = (0..count).map(addition).collect();
+    let mut case = update_of(base, &[1], base_last(tree), &[], &[]);
+    if let Ask::Update { deletions: d, additions, added_records, request_pool, .. } = &mut case.ask
+    {
+        [*d, *additions, *added_records, *request_pool] = request(&deletions, &added);
+    }
+    case
+}
+
+fn base_last(tree: &Tree) -> i32 {
+    tree.rows.len() as i32
+}
+
+fn prune(base: &[Node], ids: &[i32]) -> Case {
+    let selected = ids.iter().flat_map(|id| id.to_le_bytes()).collect();
+    let (out_records, out_names) = (OUT_RECORDS, OUT_NAMES);
+    ask(base, Ask::Prune { selected, full: 0, out_records, out_names })
+}
+
+fn renumber(base: &[Node]) -> Case {
+    let (out_records, out_names) = (OUT_RECORDS, OUT_NAMES);
+    let identifiers = 1i32.to_le_bytes().to_vec();
+    ask(base, Ask::Renumber { identifiers, start: 1, out_records, out_names, out_identifiers: 4 })
+}
+
+/// The last record of the base is an element that is named otherwise.
+fn up_to_6(name: &str, records: usize) -> Case {
+    let mut base = schema(name, records - 2);
+    base.push(list_of(-1, "last", prim(-2, "Element")));
+    ask(&base, Ask::Id(1))
+}
+
+/// One identifier, and one deletion that finds nothing.
+fn up_to_11(base: &[Node]) -> Case {
+    update_of(base, &[1], 5_000, &["no such column"], &[])
+}

@@ -1,0 +1,82 @@
+//! Times of single calls.
+
+use std::hint::black_box;
+use std::time::Instant;
+
+use cases::{Ask, Case, Operations};
+use judge::{OUT_NAMES, OUT_RECORDS};
+
+const ROUNDS: usize = 20;
+const ROUND_MICROSECONDS: u128 = 2_000;
+
+/// Nanoseconds of one call: the best of some rounds, so that other work on the machine does
+/// little harm.
+pub fn time<T>(mut call: impl FnMut() -> T) -> f64 {
+    let mut calls = 1u32;
+    let mut round = || loop {
+        let start = Instant::now();
+        for _ in 0..calls {
+            black_box(call());
+        }
+        let spent = start.elapsed();
+        if spent.as_micros() >= ROUND_MICROSECONDS {
+            return spent.as_nanos() as f64 / f64::from(calls);
+        }
+        calls *= 2;
+    };
+    (0..ROUNDS).map(|_| round()).fold(f64::MAX, f64::min)
+}
+
+/// Output buffers that are made once, so that no call pays for them.
+pub struct Room {
+    records: Vec<u8>,
+    names: Vec<u8>,
+    identifiers: Vec<u8>,
+}
+
+impl Default for Room {
+    fn default() -> Room {
+        Room { records: vec![0; OUT_RECORDS], names: vec![0; OUT_NAMES], identifiers: vec![0; 256] }
+    }
+}
+
+impl Room {
+    /// Calls the operation of a case; 01's number of a refusal, or none if it hasn't landed.
+    pub fn call(&mut self, case: &Case, by: &impl Operations) -> Option<u32> {
+        let (base, pool) = (&case.records[..], &case.pool[..]);
+        let (r, n, i) = (&mut self.records[..], &mut self.names[..], &mut self.identifiers[..]);
+        match &case.ask {
+            Ask::Update {
+                identifiers,
+                last_id,
+                deletions: d,
+                additions: a,
+                added_records: t,
+                request_pool: q,
+                ..
+            } => by.update(base, pool, identifiers, *last_id, d, a, t, q, r, n).map(|c| c.refusal),
+            Ask::Prune { selected, full, .. } => {
+                by.prune(base, pool, selected, *full, r, n).map(|c| c.refusal)
+            }
+            Ask::Renumber { identifiers, start, .. } => {
+                by.renumber(base, pool, identifiers, *start, r, n, i).map(|c| c.refusal)
+            }
+            Ask::Name(name) => by.find_name(base, pool, name).map(|f| f.refusal),
+            Ask::Id(id) => by.find_id(base, pool, *id).map(|f| f.refusal),
+            Ask::Parent(id) => by.find_parent(base, pool, *id).map(|f| f.refusal),
+            Ask::List => None,
+        }
+    }
+
+    /// Copies the base's bytes to the front of the buffers: what no operation can be below
+    /// that writes as much.
+    pub fn copy(&mut self, case: &Case) {
+        copy_all(&case.records, &mut self.records);
+        copy_all(&case.pool, &mut self.names);
+    }
+}
+
+/// Copies bytes to the front of a buffer.
+pub fn copy_all(from: &[u8], to: &mut [u8]) {
+    black_box(&mut to[..from.len()]).copy_from_slice(black_box(from));
+}

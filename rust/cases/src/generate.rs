@@ -1,0 +1,323 @@
+//! The seeded generator: the n-th case of a seed.
+
+use std::collections::HashSet;
+
+use judge::{
+    DEFAULT, LEVELS, LIST, MAP, MOST_DELETIONS, MOST_RECORDS, MOST_SELECTED, Node, REQUIRED,
+    STRUCT, Tree,
+};
+
+use crate::build::{Addition, ask_of, prune_by, renumber_by, request, update_by};
+use crate::case::{Ask, Case};
+use crate::damage::damage;
+use crate::edges::edge;
+use crate::random::Random;
+use crate::trees::{Shape, column, identifiers, lay, name, size, tree};
+
+const OPERATIONS: [&str; 7] = ["update", "prune", "renumber", "name", "id", "parent", "list"];
+
+/// How large the trees are.
+#[derive(Clone, Copy, Debug, PartialEq, Eq)]
+pub enum Sizes {
+    /// A few records, for the recorded list; no edge that needs many.
+    Small,
+    /// Mostly up to 40 records, edges of every limit, and now and then more than 900 records.
+    Usual,
+}
+
+/// Cases from a seed. Case n depends on the seed, n and the sizes alone.
+#[derive(Clone, Copy, Debug)]
+pub struct Generator {
+    pub seed: u64,
+    pub sizes: Sizes,
+}
+
+impl Generator {
+    /// The n-th case; the operations take turns.
+    pub fn case(&self, n: u64) -> Case {
+        let operation = OPERATIONS[(n % OPERATIONS.len() as u64) as usize];
+        let mut random = Random::nth(self.seed, n);
+        if self.sizes == Sizes::Usual && random.chance(1, 40) {
+            return edge(&mut random, operation);
+        }
+        let most = match self.sizes {
+            Sizes::Small => 5,
+            Sizes::Usual if random.chance(1, 250) => MOST_RECORDS,
+            Sizes::Usual => *random.pick(&[6, 12, 24, 40]),
+        };
+        let distinct = !random.chance(1, 12);
+        let shape = Shape { records: most, levels: LEVELS, distinct };
+        let mut case = plain(&mut random, operation, shape);
+        if random.chance(1, 6) {
+            damage(&mut random, &mut case);
+        }
+        case
+    }
+}
+
+fn plain(random: &mut Random, operation: &str, shape: Shape) -> Case {
+    match operation {
+        "update" => update(random, shape),
+        "prune" => prune(random, shape),
+        "renumber" => renumber(random, shape),
+        other => {
+            let roots = tree(random, shape);
+            let base = lay(random, &roots);
+            let rows = Tree::of(&roots);
+            let ask = match other {
+                "name" => Ask::Name(path(random, &rows)),
+                "id" => Ask::Id(asked_id(random, &rows)),
+                "parent" => Ask::Parent(asked_id(random, &rows)),
+                _ => Ask::List,
+            };
+            ask_of(base, ask)
+        }
+    }
+}
+
+fn asked_id(random: &mut Random, tree: &Tree) -> i32 {
+    if tree.rows.is_empty() || random.chance(1, 8) {
+        return *random.pick(&[-1, 0, 1, i32::MAX, i32::MIN]);
+    }
+    random.pick(&tree.rows).id
+}
+
+/// A full or a short name of some record; equal short names often.
+fn hit(random: &mut Random, tree: &Tree) -> Vec<u8> {
+    if random.chance(1, 2) {
+        let twins = equal_short_names(tree);
+        if !twins.is_empty() {
+            return random.pick(&twins).clone();
+        }
+    }
+    let slot = random.below(tree.rows.len());
+    if random.chance(1, 2) { tree.full_name(slot) } else { tree.short_name(slot) }
+}
+
+/// The short names that two records have and no full name hides.
+fn equal_short_names(tree: &Tree) -> Vec<Vec<u8>> {
+    if tree.rows.len() > 100 {
+        return vec![];
+    }
+    let slots = 0..tree.rows.len();
+    let full: HashSet<Vec<u8>> = slots.clone().map(|slot| tree.full_name(slot)).collect();
+    let mut seen = HashSet::new();
+    let short = slots.map(|slot| tree.short_name(slot));
+    short.filter(|name| !seen.insert(name.clone()) && !full.contains(name)).collect()
+}
+
+/// A name to look up: one of the tree's, or a near miss.
+fn path(random: &mut Random, tree: &Tree) -> Vec<u8> {
+    if tree.rows.is_empty() {
+        return name(random);
+    }
+    let mut path = hit(random, tree);
+    match random.below(24) {
+        0 => path = [path, b".".to_vec(), name(random)].concat(),
+        1 => path = random.pick(&tree.rows).name.clone(),
+        2 => path = name(random),
+        // the last character whole, so that the path stays UTF-8
+        3 => while path.pop().is_some_and(|byte| byte & 0xC0 == 0x80) {},
+        4 => path = vec![],
+        5 => path = [path, b".element".to_vec()].concat(),
+        _ => {}
+    }
+    path
+}
+
+/// A path to something that can take members, if there is one.
+fn parent_path(random: &mut Random, tree: &Tree) -> Option<Vec<u8>> {
+    let is_struct = |slot: usize| tree.rows[slot].kind == STRUCT;
+    let leads = |slot: &usize| {
+        let row = &tree.rows[*slot];
+        match row.kind {
+            STRUCT => true,
+            LIST => is_struct(row.children[0]),
+            MAP => is_struct(row.children[1]),
+            _ => false,
+        }
+    };
+    let fit: Vec<usize> = (0..tree.rows.len()).filter(leads).collect();
+    if fit.is_empty() {
+        return None;
+    }
+    let slot = *random.pick(&fit);
+    Some(if random.chance(1, 2) { tree.full_name(slot) } else { tree.short_name(slot) })
+}
+
+fn update(random: &mut Random, shape: Shape) -> Case {
+    let mut base = tree(random, shape);
+    let mut ids = identifiers(random, &mut base);
+    let rows = Tree::of(&base);
+    if !rows.rows.is_empty() && random.chance(1, 15) {
+        // any record, where the builder asks for more
+        ids.push(random.pick(&rows.rows).id);
+    }
+    // most requests get far
+    let tame = random.chance(3, 4);
+    let most = if shape.records > 5 && random.chance(1, 30) { 64 } else { 3 };
+    let mut deletions = deletions(random, &rows, &ids, tame, most);
+    let added = added(random, &rows, tame, most);
+    let mut last_id = last_id(random, &rows, added.iter().map(|a| size(&a.column)).sum());
+    // an identifier goes with the struct above it, and its id may be handed out again
+    let below = |row: &&judge::Row| row.parent.is_some() && ids.contains(&row.id);
+    let nested: Vec<&judge::Row> = rows.rows.iter().filter(below).collect();
+    if !nested.is_empty() && random.chance(1, 10) {
+        let row = *random.pick(&nested);
+        deletions.truncate(MOST_DELETIONS - 1);
+        deletions.push(rows.full_name(row.parent.expect("it is nested")));
+        last_id = row.id.saturating_sub(1 + random.below(2) as i32);
+    }
+    if random.chance(1, 20) {
+        ids.push(random.any_id());
+    }
+    let laid = lay(random, &base);
+    let mut bytes = request(&deletions, &added);
+    if random.chance(1, 20) {
+        // roots and additions differ in number (10)
+        let shorter = bytes[1].len().saturating_sub(8);
+        bytes[1].truncate(shorter);
+    }
+    update_by(laid, &ids, last_id, bytes)
+}
+
+fn deletions(
+    random: &mut Random,
+    rows: &Tree,
+    identifiers: &[i32],
+    tame: bool,
+    most: usize,
+) -> Vec<Vec<u8>> {
+    let mut deletions = vec![];
+    for _ in 0..random.below(most + 1) {
+        let identifier = rows.rows.iter().position(|row| identifiers.contains(&row.id));
+        if let Some(slot) = identifier
+            && !tame
+            && random.chance(1, 3)
+        {
+            deletions.push(rows.full_name(slot));
+        } else if !tame {
+            deletions.push(path(random, rows));
+        } else if !rows.rows.is_empty() {
+            let slot = random.below(rows.rows.len());
+            let by_full = random.chance(1, 2);
+            if !identifiers.contains(&rows.rows[slot].id) {
+                let name = if by_full { rows.full_name(slot) } else { rows.short_name(slot) };
+                deletions.push(name);
+            }
+        }
+    }
+    deletions
+}
+
+fn added(random: &mut Random, rows: &Tree, tame: bool, most: usize) -> Vec<Addition> {
+    let mut added = vec![];
+    for _ in 0..random.below(most + 1) {
+        let mut left = 1 + random.below(if most > 3 { 5 } else { 3 });
+        let (levels, nesting) = (1 + random.below(4), random.below(4));
+        let mut new = column(random, None, levels, &mut left, nesting);
+        // ids of the additions tree are ignored
+        new.id = random.any_id();
+        let path = match random.below(3) {
+            0 => None,
+            _ if tame => parent_path(random, rows),
+            _ => Some(path(random, rows)),
+        };
+        if tame {
+            made_tame(random, &mut new);
+        }
+        added.push(Addition { path, column: new });
+    }
+    added
+}
+
+/// A column that 13 and 14 let pass.
+fn made_tame(random: &mut Random, new: &mut Node) {
+    if new.name.contains(&b'.') || random.chance(1, 2) {
+        new.name = format!("new{}", random.below(12)).into_bytes();
+    }
+    if new.flags & REQUIRED != 0 {
+        new.flags |= DEFAULT;
+    }
+}
+
+fn last_id(random: &mut Random, rows: &Tree, added: usize) -> i32 {
+    let top = rows.rows.iter().map(|row| row.id).max().unwrap_or(0);
+    match random.below(12) {
+        // may hand out ids again
+        0 => top.saturating_sub(random.below(4) as i32),
+        // the edge of 18
+        1 => i32::MAX - random.below(added + 2) as i32,
+        2 => *random.pick(&[-1, 0, -2, i32::MIN, -(added as i32)]),
+        _ if top > i32::MAX - 100 => 2_000_000_000,
+        _ => top,
+    }
+}
+
+fn prune(random: &mut Random, shape: Shape) -> Case {
+    let roots = tree(random, shape);
+    let selected = selected(random, &Tree::of(&roots));
+    let full = random.chance(1, 3);
+    let laid = lay(random, &roots);
+    let mut case = prune_by(laid, &selected, full);
+    if let Ask::Prune { full, .. } = &mut case.ask {
+        // any number but 0 is full
+        if *full == 1 && random.chance(1, 4) {
+            *full = *random.pick(&[2, 256, u32::MAX]);
+        }
+    }
+    case
+}
+
+/// Some of the tree's ids, some unknown, some twice.
+fn selected(random: &mut Random, tree: &Tree) -> Vec<i32> {
+    let (times, out_of) = *random.pick(&[(0, 1), (1, 20), (1, 8), (1, 4), (1, 2), (1, 1)]);
+    // half the time no list or map is chosen directly
+    let leaves = random.chance(1, 2);
+    let fits = |row: &&judge::Row| !leaves || (row.kind != LIST && row.kind != MAP);
+    let mut ids: Vec<i32> = vec![];
+    for row in tree.rows.iter().filter(fits) {
+        if random.chance(times, out_of) {
+            ids.push(row.id);
+        }
+    }
+    if ids.is_empty() && !tree.rows.is_empty() && random.chance(3, 4) {
+        ids.push(random.pick(&tree.rows).id);
+    }
+    if random.chance(1, 4) {
+        ids.extend([random.any_id(), *random.pick(&[-1, 0, i32::MAX])]);
+    }
+    if !ids.is_empty() && random.chance(1, 4) {
+        let again = *random.pick(&ids);
+        ids.push(again);
+    }
+    ids.truncate(MOST_SELECTED);
+    ids
+}
+
+fn renumber(random: &mut Random, shape: Shape) -> Case {
+    let mut roots = tree(random, shape);
+    let mut ids = identifiers(random, &mut roots);
+    if random.chance(1, 20) {
+        ids.push(random.any_id());
+    }
+    let count: usize = roots.iter().map(size).sum();
+    let start = match random.below(4) {
+        // the edge of 18
+        0 => (i32::MAX - count as i32 - 2).saturating_add(random.below(5) as i32),
+        1 => *random.pick(&[0, -1, i32::MIN, i32::MAX, -(count as i32)]),
+        2 => random.any_id(),
+        _ => 1,
+    };
+    let laid = lay(random, &roots);
+    let mut case = renumber_by(laid, &ids, start);
+    if let Ask::Renumber { out_identifiers, .. } = &mut case.ask {
+        // room beyond what is needed, or a byte too little (1)
+        match random.below(12) {
+            0 => *out_identifiers += 1 + random.below(9),
+            1 => *out_identifiers = out_identifiers.saturating_sub(1),
+            _ => {}
+        }
+    }
+    case
+}

@@ -1,0 +1,25 @@
+//! Cases for the comparison: what an operation is lent, how a case and its answer are
+//! written down, a seeded generator, and the cases that stand in the recorded list by name.
+
+mod build;
+mod case;
+mod damage;
+mod edges;
+mod generate;
+mod line;
+mod named;
+mod random;
+mod shapes;
+mod shrink;
+mod trees;
+
+pub use build::{
+    Addition, additions, list_of, map_of, packed, prim, request, strukt, the_tree, update_of,
+};
+pub use case::{Answer, Ask, ByJudge, Case, Numbers, Operations, Outcome, answer, outcome};
+pub use generate::{Generator, Sizes};
+pub use line::{Judge, Recorded, read_line, read_recorded, write_line};
+pub use named::{Expected, Named, named};
+pub use random::Random;
+pub use shapes::{SHAPES, Tally, shapes_of};
+pub use shrink::shrink;

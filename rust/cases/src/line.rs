@@ -1,0 +1,261 @@
+//! The recorded format: one case to a line, with its answer.
+//!
+//! ```text
+//! OP JUDGE RECORDS POOL inputs.. = answer..
+//!
+//! update   IDENTIFIERS LAST_ID DELETIONS ADDITIONS ADDED_RECORDS REQUEST_POOL OUT_RECORDS OUT_NAMES
+//! prune    SELECTED FULL OUT_RECORDS OUT_NAMES
+//! renumber IDENTIFIERS START OUT_RECORDS OUT_NAMES OUT_IDENTIFIERS
+//! name     NAME
+//! id       ID
+//! parent   ID
+//! list
+//!
+//! refused NUMBER LIST PLACE
+//! ok RECORDS NAMES LAST_ID          update
+//! ok RECORDS NAMES                  prune
+//! ok RECORDS NAMES IDENTIFIERS      renumber
+//! found ID SLOT | nothing           name, id, parent (the record above)
+//! ok TEXT                           list
+//! ```
+
+use judge::Refusal;
+
+use crate::case::{Answer, Ask, Case};
+
+/// Whose answer a line holds.
+#[derive(Clone, Copy, Debug, PartialEq, Eq, PartialOrd, Ord)]
+pub enum Judge {
+    /// 01's text alone: the crate can't be asked, or departs as listed.
+    Paper,
+    /// iceberg's own code and 01's text.
+    Both,
+}
+
+impl Judge {
+    /// The judge's word in a line.
+    pub fn word(self) -> &'static str {
+        match self {
+            Judge::Paper => "paper",
+            Judge::Both => "both",
+        }
+    }
+}
+
+/// A line of the recorded list.
+#[derive(Clone, Debug, PartialEq, Eq)]
+pub struct Recorded {
+    pub case: Case,
+    pub judge: Judge,
+    pub answer: Answer,
+}
+
+fn hex(bytes: &[u8]) -> String {
+    if bytes.is_empty() {
+        return "-".into();
+    }
+    bytes.iter().map(|b| format!("{b:02x}")).collect()
+}
+
+fn unhex(word: &str) -> Result<Vec<u8>, String> {
+    if word == "-" {
+        return Ok(vec![]);
+    }
+    let digit = |c: u8| match c {
+        b'0'..=b'9' => Ok(c - b'0'),
+        b'a'..=b'f' => Ok(c - b'a' + 10),
+        _ => Err(format!("no hex digit: {}", c as char)),
+    };
+    if !word.len().is_multiple_of(2) {
+        return Err("odd number of hex digits".into());
+    }
+    word.as_bytes().chunks_exact(2).map(|p| Ok(digit(p[0])? * 16 + digit(p[1])?)).collect()
+}
+
+/// A line of the recorded list, without its end.
+pub fn write_line(recorded: &Recorded) -> String {
+    let case = &recorded.case;
+    let mut words = vec![
+        case.ask.word().to_string(),
+        recorded.judge.word().to_string(),
+        hex(&case.records),
+        hex(&case.pool),
+    ];
+    words.extend(ask_words(&case.ask));
+    words.push("=".into());
+    words.extend(answer_words(&recorded.answer));
+    words.join(" ")
+}
+
+fn ask_words(ask: &Ask) -> Vec<String> {
+    match ask {
+        Ask::Update {
+            identifiers,
+            last_id,
+            deletions,
+            additions,
+            added_records,
+            request_pool,
+            out_records,
+            out_names,
+        } => vec![
+            hex(identifiers),
+            (*last_id as u32).to_string(),
+            hex(deletions),
+            hex(additions),
+            hex(added_records),
+            hex(request_pool),
+            out_records.to_string(),
+            out_names.to_string(),
+        ],
+        Ask::Prune { selected, full, out_records, out_names } => {
+            vec![hex(selected), full.to_string(), out_records.to_string(), out_names.to_string()]
+        }
+        Ask::Renumber { identifiers, start, out_records, out_names, out_identifiers } => vec![
+            hex(identifiers),
+            (*start as u32).to_string(),
+            out_records.to_string(),
+            out_names.to_string(),
+            out_identifiers.to_string(),
+        ],
+        Ask::Name(name) => vec![hex(name)],
+        Ask::Id(id) | Ask::Parent(id) => vec![(*id as u32).to_string()],
+        Ask::List => vec![],
+    }
+}
+
+fn answer_words(answer: &Answer) -> Vec<String> {
+    match answer {
+        Answer::Refused(r) => {
+            vec!["refused".into(), r.number.to_string(), r.list.to_string(), r.place.to_string()]
+        }
+        Answer::Updated { records, names, last_id } => {
+            vec!["ok".into(), hex(records), hex(names), (*last_id as u32).to_string()]
+        }
+        Answer::Pruned { records, names } => vec!["ok".into(), hex(records), hex(names)],
+        Answer::Renumbered { records, names, identifiers } => {
+            vec!["ok".into(), hex(records), hex(names), hex(identifiers)]
+        }
+        Answer::Found { id, slot } => {
+            vec!["found".into(), (*id as u32).to_string(), slot.to_string()]
+        }
+        Answer::Nothing => vec!["nothing".into()],
+        Answer::Listed(text) => vec!["ok".into(), hex(text)],
+    }
+}
+
+/// The words of a line, taken one after the other.
+struct Words<'a>(std::str::Split<'a, char>);
+
+impl Words<'_> {
+    fn word(&mut self) -> Result<&str, String> {
+        self.0.next().ok_or("the line ends early".into())
+    }
+    fn bytes(&mut self) -> Result<Vec<u8>, String> {
+        unhex(self.word()?)
+    }
+    fn number(&mut self) -> Result<u32, String> {
+        let word = self.word()?;
+        word.parse().map_err(|_| format!("no number: {word}"))
+    }
+    fn id(&mut self) -> Result<i32, String> {
+        Ok(self.number()? as i32)
+    }
+    fn size(&mut self) -> Result<usize, String> {
+        Ok(self.number()? as usize)
+    }
+}
+
+/// The case, judge and answer of a line.
+pub fn read_line(line: &str) -> Result<Recorded, String> {
+    let mut words = Words(line.split(' '));
+    let operation = words.word()?.to_string();
+    let judge = match words.word()? {
+        "paper" => Judge::Paper,
+        "both" => Judge::Both,
+        other => return Err(format!("no judge: {other}")),
+    };
+    let (records, pool) = (words.bytes()?, words.bytes()?);
+    let ask = read_ask(&operation, &mut words)?;
+    if words.word()? != "=" {
+        return Err("`=` is missing".into());
+    }
+    let answer = read_answer(&ask, &mut words)?;
+    match words.0.next() {
+        None => Ok(Recorded { case: Case { records, pool, ask }, judge, answer }),
+        Some(more) => Err(format!("the line goes on: {more}")),
+    }
+}
+
+fn read_ask(operation: &str, words: &mut Words) -> Result<Ask, String> {
+    Ok(match operation {
+        "update" => Ask::Update {
+            identifiers: words.bytes()?,
+            last_id: words.id()?,
+            deletions: words.bytes()?,
+            additions: words.bytes()?,
+            added_records: words.bytes()?,
+            request_pool: words.bytes()?,
+            out_records: words.size()?,
+            out_names: words.size()?,
+        },
+        "prune" => Ask::Prune {
+            selected: words.bytes()?,
+            full: words.number()?,
+            out_records: words.size()?,
+            out_names: words.size()?,
+        },
+        "renumber" => Ask::Renumber {
+            identifiers: words.bytes()?,
+            start: words.id()?,
+            out_records: words.size()?,
+            out_names: words.size()?,
+            out_identifiers: words.size()?,
+        },
+        "name" => Ask::Name(words.bytes()?),
+        "id" => Ask::Id(words.id()?),
+        "parent" => Ask::Parent(words.id()?),
+        "list" => Ask::List,
+        other => return Err(format!("no operation: {other}")),
+    })
+}
+
+fn read_answer(ask: &Ask, words: &mut Words) -> Result<Answer, String> {
+    let first = words.word()?.to_string();
+    Ok(match (first.as_str(), ask) {
+        ("refused", _) => Answer::Refused(Refusal {
+            number: words.number()?,
+            list: words.number()?,
+            place: words.number()?,
+        }),
+        ("ok", Ask::Update { .. }) => {
+            Answer::Updated { records: words.bytes()?, names: words.bytes()?, last_id: words.id()? }
+        }
+        ("ok", Ask::Prune { .. }) => {
+            Answer::Pruned { records: words.bytes()?, names: words.bytes()? }
+        }
+        ("ok", Ask::Renumber { .. }) => Answer::Renumbered {
+            records: words.bytes()?,
+            names: words.bytes()?,
+            identifiers: words.bytes()?,
+        },
+        ("ok", Ask::List) => Answer::Listed(words.bytes()?),
+        ("found", Ask::Name(_) | Ask::Id(_) | Ask::Parent(_)) => {
+            Answer::Found { id: words.id()?, slot: words.number()? }
+        }
+        ("nothing", Ask::Name(_) | Ask::Id(_) | Ask::Parent(_)) => Answer::Nothing,
+        (other, _) => return Err(format!("no answer of this operation: {other}")),
+    })
+}
+
+/// The lines of a recorded list with their line numbers from 1; `#` lines are left out.
+pub fn read_recorded(text: &str) -> Result<Vec<(usize, Recorded)>, String> {
+    text.lines()
+        .enumerate()
+        .filter(|(_, line)| !line.starts_with('#'))
+        .map(|(at, line)| match read_line(line) {
+            Ok(recorded) => Ok((at + 1, recorded)),
+            Err(why) => Err(format!("line {}: {why}", at + 1)),
+        })
+        .collect()
+}

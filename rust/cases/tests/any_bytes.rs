@@ -1,0 +1,71 @@
+//! The second judge answers every operation on any bytes, and writes only its answer.
+
+use cases::{Ask, ByJudge, Case, Generator, Numbers, Random, Sizes, answer, outcome};
+use judge::{ENTRY_BYTES, ID_BYTES, OUT_NAMES, OUT_RECORDS, RECORD_BYTES};
+
+/// Bytes without any sense; small values are common, and half the lists are whole.
+fn noise(random: &mut Random, unit: usize) -> Vec<u8> {
+    let parts = random.below(6);
+    let loose = if random.chance(1, 2) { random.below(unit) } else { 0 };
+    let most = *random.pick(&[2, 4, 30, 256]);
+    (0..parts * unit + loose).map(|_| random.below(most) as u8).collect()
+}
+
+fn any_case(random: &mut Random) -> Case {
+    let (records, pool) = (noise(random, RECORD_BYTES), noise(random, 40));
+    let (out_records, out_names) = (OUT_RECORDS, OUT_NAMES);
+    let ask = match random.below(7) {
+        0 => Ask::Update {
+            identifiers: noise(random, ID_BYTES),
+            last_id: random.any_id(),
+            deletions: noise(random, ENTRY_BYTES),
+            additions: noise(random, ENTRY_BYTES),
+            added_records: noise(random, RECORD_BYTES),
+            request_pool: noise(random, 40),
+            out_records,
+            out_names,
+        },
+        1 => Ask::Prune { selected: noise(random, ID_BYTES), full: 0, out_records, out_names },
+        2 => {
+            let identifiers = noise(random, ID_BYTES);
+            let out_identifiers = identifiers.len();
+            let start = random.any_id();
+            Ask::Renumber { identifiers, start, out_records, out_names, out_identifiers }
+        }
+        3 => Ask::Name(noise(random, 3)),
+        4 => Ask::Id(random.any_id()),
+        5 => Ask::Parent(random.any_id()),
+        _ => Ask::List,
+    };
+    Case { records, pool, ask }
+}
+
+#[test]
+fn any_bytes_have_an_answer() {
+    let mut random = Random::new(11);
+    let refused = (0..50_000).filter(|_| answer(&any_case(&mut random)).refusal().is_some());
+    assert!(refused.count() > 10_000);
+}
+
+/// The first bytes of each buffer are the answer's; every other byte is as it was.
+#[test]
+fn only_the_answer_is_written() {
+    let generator = Generator { seed: 12, sizes: Sizes::Usual };
+    let fresh = |bytes: usize| (0..bytes).map(|at| (at as u8).wrapping_mul(37) ^ 0xA5);
+    for n in 0..7_000 {
+        let case = generator.case(n);
+        let Some(left) = outcome(&case, &ByJudge) else { continue };
+        let Numbers::Changed(changed) = left.numbers else { continue };
+        let written = [changed.records as usize * RECORD_BYTES, changed.names as usize];
+        for (buffer, written) in [&left.out_records, &left.out_names].iter().zip(written) {
+            let beyond = buffer.iter().copied().zip(fresh(buffer.len())).skip(written);
+            assert!(beyond.into_iter().all(|(now, then)| now == then), "case {n}");
+        }
+        if changed.refusal != 0 {
+            let zeros = (changed.records, changed.names, changed.last_id);
+            assert_eq!(zeros, (0, 0, 0), "case {n}");
+            let untouched = left.out_identifiers.iter().copied();
+            assert!(untouched.eq(fresh(left.out_identifiers.len())), "case {n}");
+        }
+    }
+}

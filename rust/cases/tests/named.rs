@@ -1,0 +1,70 @@
+//! The named cases, and the format that they are recorded in.
+
+use cases::{Judge, Recorded, answer, named, read_line, write_line};
+
+#[test]
+fn every_named_case_has_the_answer_that_it_must_have() {
+    let wrong: Vec<String> = named()
+        .iter()
+        .filter(|one| !one.expected.met_by(&answer(&one.case)))
+        .map(|one| format!("{}: {:?}, not {:?}", one.title, answer(&one.case), one.expected))
+        .map(|text| text.chars().take(400).collect())
+        .collect();
+    assert!(wrong.is_empty(), "{} cases\n{}", wrong.len(), wrong.join("\n"));
+}
+
+#[test]
+fn a_line_reads_back_as_it_was_written() {
+    for one in named() {
+        let answer = answer(&one.case);
+        let recorded = Recorded { case: one.case, judge: Judge::Paper, answer };
+        let line = write_line(&recorded);
+        assert!(line.is_ascii() && !line.contains('\n') && !line.contains("  "));
+        assert_eq!(read_line(&line), Ok(recorded));
+    }
+}
+
+#[test]
+fn a_damaged_line_is_told() {
+    let line = "id both - - 7 = nothing";
+    assert!(read_line(line).is_ok());
+    for bad in [
+        "",
+        "id",
+        "id both - -",
+        "id both - - 7",
+        "id both - - 7 = ",
+        "id both - - 7 = nothing more",
+        "id both - - 7 = ok -",
+        "id neither - - 7 = nothing",
+        "ids both - - 7 = nothing",
+        "id both 0 - 7 = nothing",
+        "id both 0G - 7 = nothing",
+        "id both AB - 7 = nothing",
+        "id both - - -7 = nothing",
+        "id both - - 4294967296 = nothing",
+        "id both  - - 7 = nothing",
+    ] {
+        assert!(read_line(bad).is_err(), "{bad}");
+    }
+}
+
+/// What 01 tells by number stands in the list by name.
+#[test]
+fn the_named_cases_hold_every_refusal_and_all_worked_examples() {
+    let titles: Vec<String> = named().into_iter().map(|one| one.title).collect();
+    for worked in 1..=13 {
+        let start = format!("P{worked}:");
+        assert!(titles.iter().any(|title| title.starts_with(&start)), "{start}");
+    }
+    // 25 and 36 are points that no input can show; 36 has a case all the same
+    for reading in (1..=67).filter(|n| *n != 25) {
+        let start = format!("reading {reading}:");
+        assert!(titles.iter().any(|title| title.starts_with(&start)), "{start}");
+    }
+    let refusals: Vec<u32> =
+        named().iter().filter_map(|one| answer(&one.case).refusal()).map(|r| r.number).collect();
+    for number in 1..=20 {
+        assert!(refusals.contains(&number), "refusal {number}");
+    }
+}

@@ -1,0 +1,57 @@
+//! The comparison on the command line.
+
+use std::process::ExitCode;
+
+use cases::{Generator, Sizes};
+use compare::{iceberg, recorded_list, replay, run};
+
+const USAGE: &str = "\
+compare run [SEED [COUNT [FROM]]]   random cases; COUNT is 70000 unless given, SEED 1, FROM 0
+compare record                      writes the recorded list to standard output
+compare replay FILE                 puts the lines of a file to the judges and the port";
+
+const COUNT: u64 = 70_000;
+
+fn main() -> ExitCode {
+    let arguments: Vec<String> = std::env::args().skip(1).collect();
+    let words: Vec<&str> = arguments.iter().map(String::as_str).collect();
+    let done = match words.as_slice() {
+        ["run", numbers @ ..] if numbers.len() <= 3 => random(numbers),
+        ["record"] => record(),
+        ["replay", file] => replay_file(file),
+        _ => Err(USAGE.into()),
+    };
+    match done {
+        Ok(said) => {
+            print!("{said}");
+            ExitCode::SUCCESS
+        }
+        Err(why) => {
+            eprintln!("{why}");
+            ExitCode::FAILURE
+        }
+    }
+}
+
+fn random(numbers: &[&str]) -> Result<String, String> {
+    let number = |at: usize, usual: u64| match numbers.get(at) {
+        None => Ok(usual),
+        Some(word) => word.parse().map_err(|_| format!("no number: {word}\n{USAGE}")),
+    };
+    let (seed, count, from) = (number(0, 1)?, number(1, COUNT)?, number(2, 0)?);
+    println!("seed {seed}, cases {from} to {}", from + count);
+    let generator = Generator { seed, sizes: Sizes::Usual };
+    let report = run(generator, from, count, iceberg()).map_err(|failure| failure.to_string())?;
+    Ok(report.to_string())
+}
+
+fn record() -> Result<String, String> {
+    let iceberg = oracle::judge().map_err(|why| format!("both judges are needed: {why}"))?;
+    Ok(recorded_list(iceberg))
+}
+
+fn replay_file(file: &str) -> Result<String, String> {
+    let text = std::fs::read_to_string(file).map_err(|why| format!("{file}: {why}"))?;
+    let lines = replay(&text, iceberg())?;
+    Ok(format!("{lines} lines, every answer as recorded\n"))
+}

@@ -1,0 +1,106 @@
+//! The recorded list: made, and replayed.
+
+use std::path::PathBuf;
+
+use cases::{
+    Generator, Judge, Named, Recorded, Sizes, answer, named, read_line, read_recorded, write_line,
+};
+use oracle::Iceberg;
+
+use crate::agree::{Agreement, agreement};
+use crate::run::check;
+
+/// The seed of the random part.
+const SEED: u64 = 20_260;
+/// Random cases in the list.
+const RANDOM: u64 = 3_000;
+
+/// Where the list stands in the repository.
+pub fn recorded_path() -> PathBuf {
+    PathBuf::from(env!("CARGO_MANIFEST_DIR")).join("../../crates/replay/data/recorded.txt")
+}
+
+/// The whole list: a header, the named cases, then the random ones.
+pub fn recorded_list(iceberg: Iceberg) -> String {
+    let mut lines = vec![];
+    for Named { title, case, .. } in named() {
+        lines.push(format!("# {title}"));
+        lines.push(entry(case, iceberg));
+    }
+    lines.push(format!("# random, seed {SEED}"));
+    let generator = Generator { seed: SEED, sizes: Sizes::Small };
+    lines.extend((0..RANDOM).map(|n| entry(generator.case(n), iceberg)));
+    header(&lines) + &lines.join("\n") + "\n"
+}
+
+fn entry(case: cases::Case, iceberg: Iceberg) -> String {
+    let paper = answer(&case);
+    let judge = match agreement(&case, &paper, &iceberg.verdict(&case)) {
+        Agreement::Same => Judge::Both,
+        Agreement::Differ => panic!("the judges part: {case:?}"),
+        _ => Judge::Paper,
+    };
+    write_line(&Recorded { case, judge, answer: paper })
+}
+
+fn header(lines: &[String]) -> String {
+    let cases = lines.iter().filter(|line| !line.starts_with('#')).count();
+    let longest = lines.iter().map(String::len).max().unwrap_or(0);
+    format!(
+        "\
+# Recorded answers: one case to a line. Lines that start with # are comments.
+# Made in rust/oracle by: cargo run -p compare -- record; seed {SEED}.
+# {cases} cases; the longest line has {longest} bytes.
+#
+# OP JUDGE RECORDS POOL inputs.. = answer..
+#
+# update   JUDGE RECORDS POOL IDENTIFIERS LAST_ID DELETIONS ADDITIONS ADDED_RECORDS REQUEST_POOL OUT_RECORDS OUT_NAMES = ok RECORDS NAMES LAST_ID
+# prune    JUDGE RECORDS POOL SELECTED FULL OUT_RECORDS OUT_NAMES = ok RECORDS NAMES
+# renumber JUDGE RECORDS POOL IDENTIFIERS START OUT_RECORDS OUT_NAMES OUT_IDENTIFIERS = ok RECORDS NAMES IDENTIFIERS
+# name     JUDGE RECORDS POOL NAME = found ID SLOT, or nothing
+# id       JUDGE RECORDS POOL ID = found ID SLOT, or nothing
+# parent   JUDGE RECORDS POOL ID = found ID SLOT (of the record above), or nothing
+# list     JUDGE RECORDS POOL = ok TEXT (every byte that the lister writes)
+# any of them = refused NUMBER LIST PLACE
+#
+# Fields stand between single blanks. Byte strings are lower-case hex, - if empty. Numbers are
+# decimal and unsigned, 32 bits; ids are bit patterns. OUT_ fields are sizes of output buffers
+# in bytes. FULL is full mode if it is not 0.
+#
+# JUDGE is both where iceberg 0.10.1's own code gave this answer and so did 01's text; for
+# refusals 7 to 9 the crate tells the number, and list and place are the text's. It is paper
+# where the text alone gave it: the crate can't be asked, or departs as listed.
+#
+"
+    )
+}
+
+/// Puts every line to the judges and the port. Answers how many lines there were.
+pub fn replay(text: &str, iceberg: Option<Iceberg>) -> Result<usize, String> {
+    let lines = read_recorded(text)?;
+    for (number, recorded) in &lines {
+        held(recorded, iceberg).map_err(|why| format!("line {number}: {why}"))?;
+    }
+    Ok(lines.len())
+}
+
+fn held(recorded: &Recorded, iceberg: Option<Iceberg>) -> Result<(), String> {
+    let now = answer(&recorded.case);
+    if now != recorded.answer {
+        return Err(format!("recorded {:?}\nnow {now:?}", recorded.answer));
+    }
+    let (agreed, _) = check(&recorded.case, iceberg)?;
+    match agreed {
+        Some(Agreement::Same) if recorded.judge != Judge::Both => {
+            Err("the crate gives this answer too".into())
+        }
+        Some(other) if other != Agreement::Same && recorded.judge == Judge::Both => {
+            Err(format!("the crate no longer gives this answer: {other:?}"))
+        }
+        _ => {
+            let again = write_line(recorded);
+            let same = read_line(&again).as_ref() == Ok(recorded);
+            if same { Ok(()) } else { Err("the line does not read back".into()) }
+        }
+    }
+}

@@ -1,0 +1,139 @@
+//! The comparison finds what is wrong with a port.
+
+use cases::{Ask, ByJudge, Generator, Operations, Sizes, named};
+use compare::beside_paper;
+use judge::{Changed, Found};
+use port::Guarded;
+
+/// The second judge with its answers changed a little.
+struct Altered {
+    changed: fn(Changed, &mut [u8], &mut [u8]) -> Changed,
+    found: fn(Found) -> Found,
+}
+
+impl Operations for Altered {
+    fn update(
+        &self,
+        records: &[u8],
+        pool: &[u8],
+        identifiers: &[u8],
+        last_id: i32,
+        deletions: &[u8],
+        additions: &[u8],
+        added_records: &[u8],
+        request_pool: &[u8],
+        r: &mut [u8],
+        n: &mut [u8],
+    ) -> Option<Changed> {
+        let (d, a, t, q) = (deletions, additions, added_records, request_pool);
+        let answer = ByJudge.update(records, pool, identifiers, last_id, d, a, t, q, r, n)?;
+        Some((self.changed)(answer, r, n))
+    }
+    fn prune(
+        &self,
+        records: &[u8],
+        pool: &[u8],
+        selected: &[u8],
+        full: u32,
+        r: &mut [u8],
+        n: &mut [u8],
+    ) -> Option<Changed> {
+        let answer = ByJudge.prune(records, pool, selected, full, r, n)?;
+        Some((self.changed)(answer, r, n))
+    }
+    fn renumber(
+        &self,
+        records: &[u8],
+        pool: &[u8],
+        identifiers: &[u8],
+        start: i32,
+        r: &mut [u8],
+        n: &mut [u8],
+        i: &mut [u8],
+    ) -> Option<Changed> {
+        let answer = ByJudge.renumber(records, pool, identifiers, start, r, n, i)?;
+        Some((self.changed)(answer, r, n))
+    }
+    fn find_name(&self, records: &[u8], pool: &[u8], name: &[u8]) -> Option<Found> {
+        ByJudge.find_name(records, pool, name).map(self.found)
+    }
+    fn find_id(&self, records: &[u8], pool: &[u8], id: i32) -> Option<Found> {
+        ByJudge.find_id(records, pool, id).map(self.found)
+    }
+    fn find_parent(&self, records: &[u8], pool: &[u8], id: i32) -> Option<Found> {
+        ByJudge.find_parent(records, pool, id).map(self.found)
+    }
+}
+
+fn right() -> Altered {
+    Altered { changed: |answer, _, _| answer, found: |answer| answer }
+}
+
+/// How many of the named cases a port fails.
+fn failures(port: Altered) -> usize {
+    let guarded = Guarded::new(port);
+    named().iter().filter(|one| beside_paper(&one.case, &guarded).is_err()).count()
+}
+
+#[test]
+fn a_right_port_passes() {
+    assert_eq!(failures(right()), 0);
+    let guarded = Guarded::new(right());
+    let generator = Generator { seed: 3, sizes: Sizes::Usual };
+    for n in 0..2_000 {
+        let case = generator.case(n);
+        assert_eq!(beside_paper(&case, &guarded), Ok(case.ask != Ask::List), "case {n}");
+    }
+}
+
+#[test]
+fn a_wrong_last_id_is_found() {
+    let changed = |answer: Changed, _: &mut [u8], _: &mut [u8]| Changed {
+        last_id: if answer.refusal == 0 { answer.last_id ^ 1 } else { 0 },
+        ..answer
+    };
+    assert!(failures(Altered { changed, ..right() }) > 50);
+}
+
+#[test]
+fn a_wrong_place_is_found() {
+    let changed = |answer: Changed, _: &mut [u8], _: &mut [u8]| Changed {
+        place: answer.place + u32::from(answer.refusal >= 7),
+        ..answer
+    };
+    assert!(failures(Altered { changed, ..right() }) >= 10);
+}
+
+#[test]
+fn a_byte_beyond_the_answer_is_found() {
+    let changed = |answer: Changed, _: &mut [u8], names: &mut [u8]| {
+        if let Some(last) = names.last_mut() {
+            *last ^= 1;
+        }
+        answer
+    };
+    assert!(failures(Altered { changed, ..right() }) > 100);
+}
+
+#[test]
+fn a_byte_written_on_a_refusal_is_found() {
+    let changed = |answer: Changed, records: &mut [u8], _: &mut [u8]| {
+        if answer.refusal == 20 {
+            records[0] ^= 1;
+        }
+        answer
+    };
+    assert!(failures(Altered { changed, ..right() }) > 5);
+}
+
+#[test]
+fn a_wrong_slot_is_found() {
+    let found = |answer: Found| Found { slot: answer.slot + answer.found, ..answer };
+    assert!(failures(Altered { found, ..right() }) > 20);
+}
+
+#[test]
+fn a_slot_where_nothing_is_found_is_found() {
+    let found = |answer: Found| Found { slot: 1 - answer.found.min(1), ..answer };
+    assert!(failures(Altered { found, ..right() }) > 5);
+}

@@ -1,0 +1,37 @@
+//! Document 01 as a plain program: the judge for what iceberg's own code can't answer.
+//!
+//! It is written from 01's text alone. It is slow, it allocates, and it never calls the
+//! port. It answers every operation on any bytes. The functions take what the port's C
+//! functions take, in the same order, and give the same numbers.
+//!
+//! Each rule of 01 that turns a request down is one function, named after its number:
+//! search for `refusal 16`.
+
+mod answer;
+mod index;
+mod layout;
+mod limits;
+mod lister;
+mod lookup;
+mod prune;
+mod read;
+mod renumber;
+mod tree;
+mod update;
+mod write;
+
+pub use answer::{ADDED, ADDITIONS, BASE, DELETIONS, IDENTIFIERS, REBUILT};
+pub use answer::{Changed, Found, Refusal};
+pub use layout::{DEFAULT, LIST, MAP, PRIMITIVE, REQUIRED, STRUCT};
+pub use layout::{ENTRY_BYTES, ID_BYTES, RECORD_BYTES};
+pub use limits::{
+    LEVELS, MOST_ADDITIONS, MOST_DELETIONS, MOST_IDENTIFIERS, MOST_RECORDS, MOST_SELECTED,
+    NAME_SUM, OUT_NAMES, OUT_RECORDS, POOL_BYTES,
+};
+pub use lister::list;
+pub use lookup::{find_id, find_name, find_parent};
+pub use prune::{prune, prune_where_rust_panics};
+pub use read::read_tree;
+pub use renumber::renumber;
+pub use tree::{Node, Row, Tree};
+pub use update::update;

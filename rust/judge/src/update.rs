@@ -1,0 +1,261 @@
+//! Deleting and adding columns: refusal 10 to refusal 19.
+
+use std::collections::HashSet;
+
+use crate::answer::{ADDED, ADDITIONS, BASE, Changed, DELETIONS, REBUILT, Refusal, refuse};
+use crate::index::{Names, refusal_7, refusal_8, refusal_9};
+use crate::layout::{DEFAULT, LIST, MAP, REQUIRED, STRUCT, ids};
+use crate::limits::{
+    LEVELS, Lent, MOST_RECORDS, NAME_SUM, OUT_NAMES, OUT_RECORDS, refusal_1, refusal_2,
+};
+use crate::read::{read_paths, read_tree};
+use crate::tree::{Node, Tree};
+use crate::write::write;
+
+/// The tree after the deletions and additions, and the last id consumed.
+#[allow(clippy::too_many_arguments)] // the C function's own list
+pub fn update(
+    records: &[u8],
+    pool: &[u8],
+    identifiers: &[u8],
+    last_id: i32,
+    deletions: &[u8],
+    additions: &[u8],
+    added_records: &[u8],
+    request_pool: &[u8],
+    out_records: &mut [u8],
+    out_names: &mut [u8],
+) -> Changed {
+    let sizes = [(out_records.len(), OUT_RECORDS), (out_names.len(), OUT_NAMES)];
+    let lent = Request {
+        records,
+        pool,
+        identifiers,
+        last_id,
+        deletions,
+        additions,
+        added_records,
+        request_pool,
+    };
+    match refusal_1(&sizes).and_then(|()| lent.updated()) {
+        Err(refusal) => refusal.into(),
+        Ok((tree, last_id)) => write(&tree, last_id, out_records, out_names),
+    }
+}
+
+/// What an update is lent.
+struct Request<'a> {
+    records: &'a [u8],
+    pool: &'a [u8],
+    identifiers: &'a [u8],
+    last_id: i32,
+    deletions: &'a [u8],
+    additions: &'a [u8],
+    added_records: &'a [u8],
+    request_pool: &'a [u8],
+}
+
+impl Request<'_> {
+    /// The order of 01: 2 for everything; base 3 to 6; additions tree 3 to 6; deletion
+    /// entries 3, 4; addition entries 3, 4; base 7 to 9; 10; deletions one at a time;
+    /// additions one at a time; 19; rebuilt tree 7 to 9.
+    fn updated(&self) -> Result<(Tree, i32), Refusal> {
+        self.limits()?;
+        let base = read_tree(self.records, self.pool, BASE)?;
+        let added = read_tree(self.added_records, self.request_pool, ADDED)?;
+        let deletions = read_paths(self.deletions, self.request_pool, DELETIONS)?;
+        let additions = read_paths(self.additions, self.request_pool, ADDITIONS)?;
+        let identifiers = ids(self.identifiers);
+        refusal_7(&base, BASE)?;
+        refusal_8(&base, BASE)?;
+        refusal_9(&base, &identifiers)?;
+        refusal_10(added.roots.len(), additions.len())?;
+        let names = Names::of(&base);
+        let dropped = dropped(&base, &names, &identifiers, &deletions)?;
+        let mut plan = Plan { base: &base, names, dropped, last_id: self.last_id, placed: vec![] };
+        for (place, (path, column)) in additions.iter().zip(added.nodes()).enumerate() {
+            plan.add(place, path.as_deref(), column)?;
+        }
+        let rebuilt = Tree::of(&plan.members(&base.roots, None));
+        refusal_19(&rebuilt)?;
+        refusal_7(&rebuilt, REBUILT)?;
+        refusal_8(&rebuilt, REBUILT)?;
+        refusal_9(&rebuilt, &identifiers)?;
+        Ok((rebuilt, plan.last_id))
+    }
+
+    fn limits(&self) -> Result<(), Refusal> {
+        refusal_2(&[
+            Lent::Tree(self.records),
+            Lent::Pool(self.pool),
+            Lent::Identifiers(self.identifiers),
+            Lent::Deletions(self.deletions),
+            Lent::Additions(self.additions),
+            Lent::Tree(self.added_records),
+            Lent::Pool(self.request_pool),
+        ])
+    }
+}
+
+/// refusal 10: the roots of the additions tree differ from the additions in number.
+fn refusal_10(roots: usize, additions: usize) -> Result<(), Refusal> {
+    refuse(10, ADDITIONS, (roots != additions).then_some(0))
+}
+
+/// The ids that the deletions find, tested one at a time.
+fn dropped(
+    base: &Tree,
+    names: &Names,
+    identifiers: &[i32],
+    deletions: &[Option<Vec<u8>>],
+) -> Result<HashSet<i32>, Refusal> {
+    let mut dropped = HashSet::new();
+    for (place, path) in deletions.iter().enumerate() {
+        let found = path.as_deref().and_then(|path| names.find(path));
+        let id = base.rows[refusal_11(found, place)?].id;
+        refusal_12(id, identifiers, place)?;
+        dropped.insert(id);
+    }
+    Ok(dropped)
+}
+
+/// refusal 11: a deletion finds no column.
+fn refusal_11(found: Option<usize>, place: usize) -> Result<usize, Refusal> {
+    found.ok_or(Refusal::new(11, DELETIONS, place))
+}
+
+/// refusal 12: a deletion finds an identifier.
+fn refusal_12(id: i32, identifiers: &[i32], place: usize) -> Result<(), Refusal> {
+    refuse(12, DELETIONS, identifiers.contains(&id).then_some(place))
+}
+
+/// refusal 13: the added column's own name has a dot.
+fn refusal_13(column: &Node, place: usize) -> Result<(), Refusal> {
+    refuse(13, ADDITIONS, column.name.contains(&b'.').then_some(place))
+}
+
+/// refusal 14: the added column is required, without initial default.
+fn refusal_14(column: &Node, place: usize) -> Result<(), Refusal> {
+    let required = column.flags & REQUIRED != 0 && column.flags & DEFAULT == 0;
+    refuse(14, ADDITIONS, required.then_some(place))
+}
+
+/// refusal 15: the parent path finds nothing.
+fn refusal_15(found: Option<usize>, place: usize) -> Result<usize, Refusal> {
+    found.ok_or(Refusal::new(15, ADDITIONS, place))
+}
+
+/// refusal 16: the parent leads to no struct: it is none itself, and neither is its
+/// element or its value (one step). Answers the receiving struct.
+fn refusal_16(base: &Tree, parent: usize, place: usize) -> Result<usize, Refusal> {
+    let row = &base.rows[parent];
+    let step = match row.kind {
+        LIST => row.children[0],
+        MAP => row.children[1],
+        _ => parent,
+    };
+    match base.rows[step].kind {
+        STRUCT => Ok(step),
+        _ => Err(Refusal::new(16, ADDITIONS, place)),
+    }
+}
+
+/// refusal 18 in an update: an id would pass 2,147,483,647.
+fn refusal_18(last_id: i32, records: usize, place: usize) -> Result<(), Refusal> {
+    let past = i64::from(last_id) + records as i64 > i64::from(i32::MAX);
+    refuse(18, ADDITIONS, past.then_some(place))
+}
+
+/// refusal 19: the rebuilt tree passes a limit on trees.
+fn refusal_19(tree: &Tree) -> Result<(), Refusal> {
+    let deep = tree.rows.iter().any(|row| row.level > LEVELS);
+    let sum: usize = tree.rows.iter().map(|row| row.name.len()).sum();
+    let past = tree.rows.len() > MOST_RECORDS || deep || sum > NAME_SUM;
+    refuse(19, REBUILT, past.then_some(0))
+}
+
+/// What will stand in the rebuilt tree.
+struct Plan<'a> {
+    base: &'a Tree,
+    names: Names,
+    dropped: HashSet<i32>,
+    /// The last id consumed so far.
+    last_id: i32,
+    /// Each accepted column with the slot of its receiving struct; none is the root.
+    placed: Vec<(Option<usize>, Node)>,
+}
+
+impl Plan<'_> {
+    /// One addition: 13 to 18 in their order, then its ids.
+    fn add(&mut self, place: usize, path: Option<&[u8]>, mut column: Node) -> Result<(), Refusal> {
+        refusal_13(&column, place)?;
+        refusal_14(&column, place)?;
+        let receiver = match path {
+            None => None,
+            Some(path) => {
+                let parent = refusal_15(self.names.find(path), place)?;
+                Some(refusal_16(self.base, parent, place)?)
+            }
+        };
+        self.refusal_17(receiver, &column.name, place)?;
+        refusal_18(self.last_id, size(&column), place)?;
+        number(&mut column, &mut self.last_id);
+        self.placed.push((receiver, column));
+        Ok(())
+    }
+
+    fn is_dropped(&self, slot: usize) -> bool {
+        self.dropped.contains(&self.base.rows[slot].id)
+    }
+
+    /// refusal 17: the name is taken. At the root if look-up finds it undeleted. Under a
+    /// parent if a direct member has it, that member isn't dropped, and the receiving
+    /// struct's id isn't dropped.
+    fn refusal_17(
+        &self,
+        receiver: Option<usize>,
+        name: &[u8],
+        place: usize,
+    ) -> Result<(), Refusal> {
+        let taken = match receiver {
+            None => self.names.find(name).is_some_and(|slot| !self.is_dropped(slot)),
+            Some(receiver) => {
+                let members = &self.base.rows[receiver].children;
+                let has = |m: &usize| self.base.rows[*m].name == name && !self.is_dropped(*m);
+                !self.is_dropped(receiver) && members.iter().any(has)
+            }
+        };
+        refuse(17, ADDITIONS, taken.then_some(place))
+    }
+
+    /// The root list or a struct: the dropped members go with their subtrees, and
+    /// additions follow the survivors in entry order.
+    fn members(&self, slots: &[usize], receiver: Option<usize>) -> Vec<Node> {
+        let survivors = slots.iter().filter(|slot| !self.is_dropped(**slot));
+        let mut members: Vec<Node> = survivors.map(|slot| self.record(*slot)).collect();
+        let here = self.placed.iter().filter(|(at, _)| *at == receiver);
+        members.extend(here.map(|(_, column)| column.clone()));
+        members
+    }
+
+    /// A record that stays. A dropped list element, key or value stays too.
+    fn record(&self, slot: usize) -> Node {
+        let row = &self.base.rows[slot];
+        let inside = match row.kind {
+            STRUCT => self.members(&row.children, Some(slot)),
+            _ => row.children.iter().map(|child| self.record(*child)).collect(),
+        };
+        self.base.with(slot, inside)
+    }
+}
+
+fn size(node: &Node) -> usize {
+    1 + node.inside.iter().map(size).sum::<usize>()
+}
+
+/// Gives ids in preorder from the last id + 1, and moves it on. 18 was tested.
+fn number(node: &mut Node, last_id: &mut i32) {
+    *last_id += 1;
+    node.id = *last_id;
+    node.inside.iter_mut().for_each(|child| number(child, last_id));
+}

@@ -1,0 +1,3 @@
+//! Stands for expr/mod.rs: only what schema/mod.rs asks for.
+
+include!(concat!(env!("OUT_DIR"), "/expr.rs"));

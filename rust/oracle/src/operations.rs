@@ -1,0 +1,346 @@
+//! The operations, each answered by the crate's own code. What is added is translation,
+//! catching panics, and 01's number and place read off the crate's error.
+
+use std::cell::Cell;
+use std::collections::HashSet;
+use std::panic::{AssertUnwindSafe, catch_unwind};
+use std::sync::{Arc, Once};
+
+use cases::{Answer, Ask, Case};
+use judge::Node;
+
+use crate::Error;
+use crate::fields::{Unfit, bytes, fields, ids, nodes, nodes_of};
+use crate::request::Request;
+use crate::spec::beside::id_reassigner::ReassignFieldIds;
+use crate::spec::beside::index::index_parents;
+use crate::spec::{Schema, Type, prune_columns};
+use crate::table::Table;
+use crate::verdict::Verdict;
+
+/// Why there is no answer: a verdict that is none.
+type Stop<T> = Result<T, Verdict>;
+
+fn fit<T>(read: Result<T, Unfit>) -> Stop<T> {
+    read.map_err(Verdict::Unfit)
+}
+
+fn refused(error: &Error, base: bool) -> Verdict {
+    let number = number(error.message());
+    Verdict::Refused { number, place: None, base, text: error.to_string() }
+}
+
+/// 01's number for a message of the crate; 0 if there is none.
+fn number(message: &str) -> u32 {
+    let texts = [
+        (7, "Found duplicate 'field.id' "),
+        (8, "Invalid schema: multiple fields for name "),
+        (9, "Cannot add identifier field"),
+        (9, "Cannot add field "),
+        (11, "Cannot delete missing column: "),
+        (12, "Cannot delete identifier field: "),
+        (13, "Cannot add column with ambiguous name: "),
+        (14, "Incompatible change: cannot add required column"),
+        (17, "Cannot add column, name already exists"),
+        (18, "Field ID overflowed"),
+        (20, "Can't project list or map field directly"),
+        (20, "Cannot explicitly project List or Map types"),
+    ];
+    if let Some((number, _)) = texts.iter().find(|(_, text)| message.starts_with(text)) {
+        return *number;
+    }
+    let parent = message.starts_with("Cannot add column: ");
+    let missing =
+        message.starts_with("Cannot add column: parent '") && message.ends_with("' not found");
+    match (parent, missing) {
+        (true, true) => 15,
+        (true, false) => 16,
+        _ => 0,
+    }
+}
+
+thread_local!(static QUIET: Cell<bool> = const { Cell::new(false) });
+static HOOK: Once = Once::new();
+
+/// Runs the crate; a panic of it becomes a verdict, and prints nothing.
+fn run<T>(call: impl FnOnce() -> crate::Result<T>, base: bool) -> Stop<T> {
+    HOOK.call_once(|| {
+        let old = std::panic::take_hook();
+        std::panic::set_hook(Box::new(move |info| {
+            if !QUIET.with(Cell::get) {
+                old(info);
+            }
+        }));
+    });
+    let was = QUIET.with(|quiet| quiet.replace(true));
+    let done = catch_unwind(AssertUnwindSafe(call));
+    QUIET.with(|quiet| quiet.set(was));
+    match done {
+        Ok(Ok(answer)) => Ok(answer),
+        Ok(Err(error)) => Err(refused(&error, base)),
+        Err(panic) => {
+            let said = panic.downcast_ref::<&str>().map(|text| text.to_string());
+            let text = said.or_else(|| panic.downcast_ref::<String>().cloned());
+            Err(Verdict::Panicked { place: None, text: text.unwrap_or_default() })
+        }
+    }
+}
+
+/// The base as the crate's builder builds it.
+fn build(case: &Case, identifiers: &[i32]) -> Stop<Arc<Schema>> {
+    let fields = fit(nodes(&case.records, &case.pool).and_then(|roots| fields(&roots)))?;
+    run(
+        || {
+            let builder = Schema::builder().with_fields(fields);
+            builder.with_identifier_field_ids(identifiers.iter().copied()).build().map(Arc::new)
+        },
+        true,
+    )
+}
+
+fn base_ids(case: &Case) -> Vec<i32> {
+    let id = |r: &[u8]| i32::from_le_bytes([r[0], r[1], r[2], r[3]]);
+    case.records.chunks_exact(24).map(id).collect()
+}
+
+fn slot_of(case: &Case, id: i32) -> Option<u32> {
+    base_ids(case).iter().position(|known| *known == id).map(|slot| slot as u32)
+}
+
+/// The crate's word on a case.
+pub fn verdict(case: &Case) -> Verdict {
+    let answer = match &case.ask {
+        Ask::Update { .. } => update(case),
+        Ask::Prune { .. } => prune(case),
+        Ask::Renumber { .. } => renumber(case),
+        Ask::Name(name) => find_name(case, name),
+        Ask::Id(id) => find_id(case, *id),
+        Ask::Parent(id) => find_parent(case, *id),
+        Ask::List => list(case),
+    };
+    answer.map_or_else(|verdict| verdict, Verdict::Answer)
+}
+
+/// Builds and operates without a word on it.
+pub fn operate(case: &Case) -> bool {
+    match &case.ask {
+        Ask::Update { .. } => committed(case).is_ok(),
+        Ask::Prune { .. } => pruned(case).is_ok(),
+        Ask::Renumber { .. } => renumbered(case).is_ok(),
+        Ask::Name(name) => build(case, &[]).is_ok_and(|schema| {
+            str::from_utf8(name).is_ok_and(|n| schema.field_by_name(n).is_some())
+        }),
+        Ask::Id(id) => build(case, &[]).is_ok_and(|schema| schema.field_by_id(*id).is_some()),
+        Ask::Parent(id) => build(case, &[]).is_ok_and(|schema| parent_of(&schema, *id).is_some()),
+        Ask::List => build(case, &[]).is_ok(),
+    }
+}
+
+// ---- update ----
+
+/// The table, the request, and the given last id of an update.
+fn update_parts(case: &Case) -> Stop<(Table, Request, i32)> {
+    let Ask::Update {
+        identifiers, last_id, deletions, additions, added_records, request_pool, ..
+    } = &case.ask
+    else {
+        return Err(Verdict::Unfit("no update"));
+    };
+    let schema = build(case, &fit(ids(identifiers))?)?;
+    let request = fit(Request::new(deletions, additions, added_records, request_pool))?;
+    Ok((Table::new(schema, *last_id), request, *last_id))
+}
+
+fn committed(case: &Case) -> Stop<Schema> {
+    let (table, request, _) = update_parts(case)?;
+    let action = fit(request.action())?;
+    run(|| action.commit(&table), false)
+}
+
+fn update(case: &Case) -> Stop<Answer> {
+    let (table, request, last_id) = update_parts(case)?;
+    let action = fit(request.action())?;
+    match run(|| action.commit(&table), false) {
+        Ok(schema) => {
+            let (records, names) = bytes(&nodes_of(schema.as_struct().fields()));
+            // the crate's counter is a local variable that moves on with every added record
+            let last_id = (i64::from(last_id) + request.added() as i64) as i32;
+            Ok(Answer::Updated { records, names, last_id })
+        }
+        Err(verdict) if of_the_request(&verdict) => Err(placed(verdict, &table, &request)?),
+        Err(verdict) => Err(verdict),
+    }
+}
+
+/// Does a verdict speak of the request, and not of the rebuilt tree?
+fn of_the_request(verdict: &Verdict) -> bool {
+    match verdict {
+        Verdict::Refused { number, .. } => (11..=17).contains(number),
+        Verdict::Panicked { .. } => true,
+        _ => false,
+    }
+}
+
+/// The place is the end of the shortest front of the request that the crate turns down so.
+fn placed(verdict: Verdict, table: &Table, request: &Request) -> Stop<Verdict> {
+    let deletions = request.deletions.len();
+    for entries in 1..=deletions + request.additions.len() {
+        let action = fit(request.first(entries).action())?;
+        let turned_down = run(|| action.commit(table), false).err();
+        if turned_down.as_ref().is_some_and(of_the_request) {
+            let at = if entries <= deletions { entries - 1 } else { entries - 1 - deletions };
+            let place = Some(at as u32);
+            return Ok(match verdict {
+                Verdict::Refused { number, base, text, .. } => {
+                    Verdict::Refused { number, place, base, text }
+                }
+                Verdict::Panicked { text, .. } => Verdict::Panicked { place, text },
+                other => other,
+            });
+        }
+    }
+    Ok(verdict)
+}
+
+/// The same request with one more optional root column of an unused name; its id less one
+/// is the last id consumed before it.
+pub fn last_id_by_one_more(case: &Case) -> Option<i32> {
+    let (table, mut request, _) = update_parts(case).ok()?;
+    let name = "one more \u{1}";
+    let (kind, flags, type_code, attribute) = (judge::PRIMITIVE, 0, 0, 0);
+    let name_bytes = name.as_bytes().to_vec();
+    let column =
+        Node { id: 0, name: name_bytes, kind, flags, type_code, attribute, inside: vec![] };
+    request.additions.push((None, column));
+    let action = request.action().ok()?;
+    let schema = run(|| action.commit(&table), false).ok()?;
+    schema.as_struct().fields().iter().find(|f| f.name == name).map(|f| f.id - 1)
+}
+
+// ---- prune ----
+
+fn pruned(case: &Case) -> Stop<Type> {
+    let Ask::Prune { selected, full, .. } = &case.ask else {
+        return Err(Verdict::Unfit("no pruning"));
+    };
+    let selected = fit(ids(selected))?;
+    let schema = build(case, &[])?;
+    run(|| prune_columns(&schema, selected.iter().copied(), *full != 0), false)
+}
+
+fn prune(case: &Case) -> Stop<Answer> {
+    match pruned(case) {
+        Ok(Type::Struct(kept)) => {
+            let (records, names) = bytes(&nodes_of(kept.fields()));
+            Ok(Answer::Pruned { records, names })
+        }
+        Ok(_) => unreachable!("pruning gives a struct"),
+        Err(Verdict::Refused { number, base, text, .. }) => {
+            let place = refused_id(&text).and_then(|id| slot_of(case, id));
+            Err(Verdict::Refused { number, place, base, text })
+        }
+        Err(verdict) => Err(verdict),
+    }
+}
+
+/// The id in the crate's three texts for 01's 20.
+fn refused_id(text: &str) -> Option<i32> {
+    let after = |start: &str| text.split_once(start).map(|(_, rest)| rest);
+    after("context: { field_id: ")
+        .or_else(|| after("List or Map types, List element "))
+        .or_else(|| after("List or Map types, Map value "))
+        .and_then(|rest| rest.split([',', ' ']).next())
+        .and_then(|id| id.parse().ok())
+}
+
+// ---- renumber ----
+
+fn renumbered(case: &Case) -> Stop<(Vec<i32>, Schema)> {
+    let Ask::Renumber { identifiers, start, .. } = &case.ask else {
+        return Err(Verdict::Unfit("no renumbering"));
+    };
+    let identifiers = fit(ids(identifiers))?;
+    let fields = fit(nodes(&case.records, &case.pool).and_then(|roots| fields(&roots)))?;
+    let schema = run(
+        || {
+            let builder = Schema::builder().with_fields(fields);
+            builder
+                .with_identifier_field_ids(identifiers.iter().copied())
+                .with_reassigned_field_ids(*start)
+                .build()
+        },
+        false,
+    )?;
+    Ok((identifiers, schema))
+}
+
+/// The identifiers come back as a set; here they stand in the order given, and are checked
+/// to be that set.
+fn renumber(case: &Case) -> Stop<Answer> {
+    if let Ask::Renumber { identifiers, .. } = &case.ask {
+        // so that a refusal of the base is told from one of the renumbering
+        build(case, &fit(ids(identifiers))?)?;
+    }
+    let (identifiers, schema) = renumbered(case)?;
+    let (records, names) = bytes(&nodes_of(schema.as_struct().fields()));
+    let old = base_ids(case);
+    let new: Vec<i32> = base_ids(&Case { records: records.clone(), pool: vec![], ask: Ask::List });
+    let slot = |id: &i32| old.iter().position(|known| known == id).expect("9 was tested");
+    let mapped: Vec<i32> = identifiers.iter().map(|id| new[slot(id)]).collect();
+    let set: HashSet<i32> = schema.identifier_field_ids().collect();
+    assert_eq!(mapped.iter().copied().collect::<HashSet<i32>>(), set, "renumbered identifiers");
+    let identifiers = mapped.iter().flat_map(|id| id.to_le_bytes()).collect();
+    Ok(Answer::Renumbered { records, names, identifiers })
+}
+
+/// The ids that the bare reassigner gives, in slot order.
+pub fn renumbered_without_builder(case: &Case) -> Option<Vec<i32>> {
+    let Ask::Renumber { start, .. } = &case.ask else { return None };
+    let fields = nodes(&case.records, &case.pool).and_then(|roots| fields(&roots)).ok()?;
+    let renumbered =
+        run(|| ReassignFieldIds::new(*start).reassign_field_ids(fields), false).ok()?;
+    let (records, _) = bytes(&nodes_of(&renumbered));
+    Some(base_ids(&Case { records, pool: vec![], ask: Ask::List }))
+}
+
+// ---- look-ups and the lister ----
+
+fn found(case: &Case, id: Option<i32>) -> Answer {
+    match id.and_then(|id| Some((id, slot_of(case, id)?))) {
+        Some((id, slot)) => Answer::Found { id, slot },
+        None => Answer::Nothing,
+    }
+}
+
+fn find_name(case: &Case, name: &[u8]) -> Stop<Answer> {
+    let schema = build(case, &[])?;
+    let name = str::from_utf8(name).map_err(|_| Verdict::Unfit("a name that is not UTF-8"))?;
+    Ok(found(case, schema.field_by_name(name).map(|field| field.id)))
+}
+
+fn find_id(case: &Case, id: i32) -> Stop<Answer> {
+    let schema = build(case, &[])?;
+    Ok(found(case, schema.field_by_id(id).map(|field| field.id)))
+}
+
+fn parent_of(schema: &Schema, id: i32) -> Option<i32> {
+    index_parents(schema.as_struct()).expect("a built schema has parents").get(&id).copied()
+}
+
+fn find_parent(case: &Case, id: i32) -> Stop<Answer> {
+    let schema = build(case, &[])?;
+    Ok(found(case, parent_of(&schema, id)))
+}
+
+/// 01's lister by the crate's indexes.
+fn list(case: &Case) -> Stop<Answer> {
+    let schema = build(case, &[])?;
+    let parents = index_parents(schema.as_struct()).expect("a built schema has parents");
+    let mut text = String::new();
+    for (slot, id) in base_ids(case).iter().enumerate() {
+        let parent = parents.get(id).map_or("-".into(), |parent| parent.to_string());
+        let name = schema.name_by_field_id(*id).expect("every record has a name");
+        text.push_str(&format!("{slot} {id} {parent} {name}\n"));
+    }
+    Ok(Answer::Listed(text.into_bytes()))
+}
