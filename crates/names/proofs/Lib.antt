@@ -4,3 +4,4 @@ pub mod Marking
 pub mod Telling
 pub mod Spelling
 pub mod Uniquely
+pub mod Naming

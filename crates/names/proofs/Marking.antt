@@ -48,19 +48,19 @@ module _ (name : ℕ → List ℕ) where
         next = m′ .next;
         ups-set = both-set (ups (suc k) (a .trees)) (ups u (b .trees)) us us₁ us₂ k u j (m .ups-set) (ej ∙ ap (λ z. suc k + z) (sym (length-ups (suc k) (a .trees)))) (m′ .ups-set);
         lens-set = λ pre q.
-          let own-is : own ≡ length (pre ++ name k) = omega (arith, length-append pre (name k)) in
-          let below-is : own + 1 ≡ length (dotted pre (name k)) = omega (arith, length-append pre (name k ++ (46 ∷ [])), length-append (name k) (46 ∷ [])) in
-          let fs = fulls name (dotted pre (name k)) (a .trees) in
-          let gs = fulls name pre (b .trees) in
-          rw (map-append length fs gs, ← own-is)
-          (both-set (map length fs) (map length gs) ls ls₁ ls₂ k own j (m .lens-set (dotted pre (name k)) below-is) (ej ∙ ap (λ z. suc k + z) (sym (length-map fs length ∙ length-fulls name (dotted pre (name k)) (a .trees)))) (m′ .lens-set pre q));
+            let own-is : own ≡ length (pre ++ name k) = omega (arith, length-append pre (name k)) in
+            let below-is : own + 1 ≡ length (dotted pre (name k)) = omega (arith, length-append pre (name k ++ (46 ∷ [])), length-append (name k) (46 ∷ [])) in
+            let fs = fulls name (dotted pre (name k)) (a .trees) in
+            let gs = fulls name pre (b .trees) in
+            rw (map-append length fs gs, ← own-is)
+            (both-set (map length fs) (map length gs) ls ls₁ ls₂ k own j (m .lens-set (dotted pre (name k)) below-is) (ej ∙ ap (λ z. suc k + z) (sym (length-map fs length ∙ length-fulls name (dotted pre (name k)) (a .trees)))) (m′ .lens-set pre q));
         hashes-set = λ pre q.
-          let own-is : h₁ ≡ hash-of (pre ++ name k) = eh ∙ rw q (sym (hash-append 0 pre (name k))) in
-          let below-is : mix h₁ 46 ≡ hash-of (dotted pre (name k)) = hashed pre q in
-          let fs = fulls name (dotted pre (name k)) (a .trees) in
-          let gs = fulls name pre (b .trees) in
-          rw (map-append hash-of fs gs, ← own-is)
-          (both-set (map hash-of fs) (map hash-of gs) hs hs₁ hs₂ k h₁ j (m .hashes-set (dotted pre (name k)) below-is) (ej ∙ ap (λ z. suc k + z) (sym (length-map fs hash-of ∙ length-fulls name (dotted pre (name k)) (a .trees)))) (m′ .hashes-set pre q));
+            let own-is : h₁ ≡ hash-of (pre ++ name k) = eh ∙ rw q (sym (hash-append 0 pre (name k))) in
+            let below-is : mix h₁ 46 ≡ hash-of (dotted pre (name k)) = hashed pre q in
+            let fs = fulls name (dotted pre (name k)) (a .trees) in
+            let gs = fulls name pre (b .trees) in
+            rw (map-append hash-of fs gs, ← own-is)
+            (both-set (map hash-of fs) (map hash-of gs) hs hs₁ hs₂ k h₁ j (m .hashes-set (dotted pre (name k)) below-is) (ej ∙ ap (λ z. suc k + z) (sym (length-map fs hash-of ∙ length-fulls name (dotted pre (name k)) (a .trees)))) (m′ .hashes-set pre q));
       }
     where
       hashed : (pre : List ℕ) → h ≡ hash-of pre → mix h₁ 46 ≡ hash-of (dotted pre (name k))

@@ -196,7 +196,7 @@ module _ (name : ℕ → List ℕ) (us : List ℕ) (m a b len i s t : ℕ) (h : 
       pub names-go : not r ≡ false → Comparing name us m a b len (i - 1) s′ t′
       names-go n =
           let here : getD (full-at name us a) (i - 1) 0 ≡ getD (full-at name us b) (i - 1) 0 =
-              upto-goes name us m a s i s′ (h .left) q os .0 (i - 1) (omega arith) ∙ eqb-true _ _ (sym er ∙ not-false r n) ∙ sym (upto-goes name us m b t i t′ (h .right) q ot .0 (i - 1) (omega arith)) in
+          upto-goes name us m a s i s′ (h .left) q os .0 (i - 1) (omega arith) ∙ eqb-true _ _ (sym er ∙ not-false r n) ∙ sym (upto-goes name us m b t i t′ (h .right) q ot .0 (i - 1) (omega arith)) in
           record {
             first = h .first;
             second = h .second;
@@ -254,3 +254,6 @@ module _ (name : ℕ → List ℕ) (us : List ℕ) (m slot : ℕ) (x : List ℕ)
         }
 
 pub ruleset matching = (match-differs, match-starts, match-room, match-asked, match-ends, match-stops, match-goes)
+
+pub same-bytes : (x y a b : ℕ) → x ≡ a → y ≡ b → eqb x y ≡ eqb a b
+same-bytes x y a b e f = rw (e, f)

@@ -98,11 +98,11 @@ module _ (G name : ℕ → List ℕ) where
       ⊎-elim
       (λ q. let z : k + suc i ≡ suc k + i = omega arith in rw (z, List·getD-append us vs 0 i (omega arith), List·getD-append xs ys [] i (omega arith)) (b i q))
       (λ q. let z : k + suc i ≡ suc k + m + (i - m) = omega arith in
-        let y : i ≡ length us + (i - m) = omega arith in
-        let w : i ≡ length xs + (i - m) = omega arith in
-        let g : getD (us ++ vs) i 0 ≡ getD vs (i - m) 0 = ap (λ t. getD (us ++ vs) t 0) y ∙ getD-append-add us vs (i - m) 0 in
-        let h : getD (xs ++ ys) i [] ≡ getD ys (i - m) [] = ap (λ t. getD (xs ++ ys) t []) w ∙ getD-append-add xs ys (i - m) [] in
-        rw (z, g, h) (c (i - m) (omega arith)))
+      let y : i ≡ length us + (i - m) = omega arith in
+      let w : i ≡ length xs + (i - m) = omega arith in
+      let g : getD (us ++ vs) i 0 ≡ getD vs (i - m) 0 = ap (λ t. getD (us ++ vs) t 0) y ∙ getD-append-add us vs (i - m) 0 in
+      let h : getD (xs ++ ys) i [] ≡ getD ys (i - m) [] = ap (λ t. getD (xs ++ ys) t []) w ∙ getD-append-add xs ys (i - m) [] in
+      rw (z, g, h) (c (i - m) (omega arith)))
       (lt-or-le i m)
 
   links : (f : Forest ℕ) (k u : ℕ) (pre : List ℕ) → Numbered k f → Agrees k (size f) (fulls name pre f) → Base k u pre → Links k (size f) (ups u f) (fulls name pre f)

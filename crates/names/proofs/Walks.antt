@@ -63,7 +63,7 @@ module _ (kids : ℕ → ℕ) (n : ℕ) where
   fill-row lv ih (suc c) k q =
       ⊎-elim
       (λ l. rw (walk-in kids n (suc lv) (suc c) k (kids k) (λ e. omega arith) (λ e. omega arith) l refl, sub-one (suc lv), sub-one (suc c), add-one k)
-        (filled-join n k _ _ (ih (kids k) (suc k) l) (fill-row lv ih c _ (ih (kids k) (suc k) l .most))))
+      (filled-join n k _ _ (ih (kids k) (suc k) l) (fill-row lv ih c _ (ih (kids k) (suc k) l .most))))
       (λ l. rw (walk-past kids n (suc lv) (suc c) k l) (filled-none n k q))
       (lt-or-le k n)
 
@@ -77,8 +77,8 @@ module _ (kids : ℕ → ℕ) (n : ℕ) where
   number-row lv ih (suc c) k q =
       ⊎-elim
       (λ l. let z = filled lv (kids k) (suc k) l in
-        rw (walk-in kids n (suc lv) (suc c) k (kids k) (λ e. omega arith) (λ e. omega arith) l refl, sub-one (suc lv), sub-one (suc c), add-one k)
-        (refl, (ih (kids k) (suc k) l, rw (← (z .count)) (number-row lv ih c (walk kids n lv (kids k) (suc k) .next) (z .most)))))
+      rw (walk-in kids n (suc lv) (suc c) k (kids k) (λ e. omega arith) (λ e. omega arith) l refl, sub-one (suc lv), sub-one (suc c), add-one k)
+      (refl, (ih (kids k) (suc k) l, rw (← (z .count)) (number-row lv ih c (walk kids n lv (kids k) (suc k) .next) (z .most)))))
       (λ l. rw (walk-past kids n (suc lv) (suc c) k l) tt)
       (lt-or-le k n)
 
@@ -92,8 +92,8 @@ module _ (kids : ℕ → ℕ) (n : ℕ) where
   covers lv (suc c) k q l =
       ⊎-elim
       (λ m. let z = filled lv (kids k) (suc k) m in
-        rw (walk-in kids n (suc lv) (suc c) k (kids k) (λ e. omega arith) (λ e. omega arith) m refl, sub-one (suc lv), sub-one (suc c), add-one k)
-        (covers lv c (walk kids n lv (kids k) (suc k) .next) (z .most) (omega (arith, z .count))))
+      rw (walk-in kids n (suc lv) (suc c) k (kids k) (λ e. omega arith) (λ e. omega arith) m refl, sub-one (suc lv), sub-one (suc c), add-one k)
+      (covers lv c (walk kids n lv (kids k) (suc k) .next) (z .most) (omega (arith, z .count))))
       (λ m. rw (walk-past kids n (suc lv) (suc c) k m) (omega arith))
       (lt-or-le k n)
 
