@@ -1,21 +1,19 @@
 -- A planned record is one of two lists': below 1,024 the base's, else the additions'. `search sourcing`.
 use Prim.Native.Nat.{ℕ, _+_, _-_, _*_, _/_, _%_, _<_, _≤_}
-use mathlib.Core.Path.{_≡_, refl, sym, ap, _∙_}
-use mathlib.Core.Bool.{Bool, true, false, cond}
+use mathlib.Core.Path.{_≡_, _∙_}
+use mathlib.Core.Bool.{true}
 use mathlib.Core.Logic.{⊎-elim}
 use mathlib.Core.List.{List}
 use native.Mathlib.Omega.{arith}
 use borrow.Author.Tests.{leb-true, lt-ltb, le-ltb}
-use lib.Dec.{ltb}
-use lib.ListN.{length, take, drop, length-drop}
-use lib.Seq.{length-take-le}
+use lib.ListN.{length, drop, length-drop}
+use lib.Seq.{sets, length-take-le}
 use Rattle.paper.specs.declared.Kind.{Kind}
-use Rattle.paper.specs.Field.{Field}
 use Rattle.paper.specs.Bytes.{turned, rec-at, kind-at, name-of, in-pool, field-at}
-use Rattle.paper.specs.Encode.{bytes32, kind-byte, row24, rec-bytes}
+use Rattle.paper.specs.Encode.{bytes32, row24, rec-bytes}
 use Rattle.tree.proofs.Filled.{lt-or-le}
-use Rattle.plan.specs.Plan.{Lent, lent, source-field, planned-field, Sits}
-use Rattle.plan.specs.Sources.{source-kind, source-len, row-of, source-row, In, Inside}
+use Rattle.plan.specs.Plan.{Lent, source-field, planned-field, Sits}
+use Rattle.plan.specs.Sources.{source-kind, source-len, row-of, source-row, In}
 
 -- ---- what the code reads
 
@@ -51,6 +49,9 @@ module _ (base added : List ℕ) (x : ℕ) where
     unfolding source-row
     row-added l e = rw (le-ltb x 1024 l) e
 
+    pub row-put : (l l′ : List ℕ) (i : ℕ) → r ≡ source-row base added x id kids at → l′ ≡ sets l i r → l′ ≡ sets l i (source-row base added x id kids at)
+    row-put l l′ i e q = q ∙ rw e
+
 module _ (l : Lent) (x : ℕ) (r : List ℕ) where
   pub named-base : x < 1024 → r ≡ name-of (l .pool) (l .base) x → r ≡ source-field l x .name
   unfolding source-field field-at
@@ -60,7 +61,7 @@ module _ (l : Lent) (x : ℕ) (r : List ℕ) where
   unfolding source-field field-at
   named-added b e = rw (le-ltb x 1024 b) e
 
-pub ruleset sourcing = (in-base, in-added, kind-base, kind-added, len-base, len-added, row-base, row-added)
+pub ruleset sourcing = (in-base, in-added, kind-base, kind-added, len-base, len-added, row-base, row-added, row-put)
 
 -- ---- the same of the planned field
 

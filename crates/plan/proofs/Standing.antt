@@ -6,7 +6,7 @@ use mathlib.Core.List.{List, map}
 use native.Mathlib.Omega.{arith}
 use lib.ListN.{length, getD, length-append}
 use Rattle.paper.specs.Answer.{Answer, ok, refused}
-use Rattle.paper.specs.Forest.{Forest, size, siblings, levels, preorder, counts, mapped}
+use Rattle.paper.specs.Forest.{size, siblings, levels, preorder, counts, mapped}
 use Rattle.paper.specs.Field.{Field}
 use Rattle.paper.specs.Sound.{name-bytes}
 use Rattle.paper.specs.Bytes.{from}
@@ -21,7 +21,7 @@ use Rattle.laws.proofs.Preorder.{preorder-mapped, counts-mapped}
 use Rattle.tree.specs.Read.{got, fine, itself}
 use Rattle.tree.proofs.Filled.{Full, full}
 use Rattle.tree.proofs.Roots.{roots-row}
-use Rattle.plan.specs.Plan.{Lent, Source, planned-field, source-field, source-in, kids-in, plan-slots, plan-tree, plan-fields, Sits}
+use Rattle.plan.specs.Plan.{Lent, Source, planned-field, source-field, source-in, kids-in, plan-slots, plan-tree, plan-fields}
 use Rattle.plan.specs.Sources.{source-len}
 use Rattle.plan.specs.Draft.{Draft}
 use Rattle.plan.proofs.Sourcing.{len-source}

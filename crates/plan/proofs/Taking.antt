@@ -1,32 +1,30 @@
 -- The base as a plan of itself: each place holds its own slot, id and count, so it reads as the base does.
-use Prim.Native.Nat.{ℕ, zero, suc, _+_, _-_, _*_, _/_, _%_, _<_, _≤_}
+use Prim.Native.Nat.{ℕ, suc, _+_, _-_, _*_, _<_, _≤_}
 use mathlib.Core.Path.{_≡_, refl, sym, ap, _∙_}
-use mathlib.Core.Bool.{Bool, true, false}
-use mathlib.Core.List.{List, []}
+use mathlib.Core.Bool.{true}
+use mathlib.Core.List.{List}
 use native.Mathlib.Nat.{zero-add}
 use native.Mathlib.Omega.{arith}
-use borrow.Author.Tests.{leb-true, lt-ltb}
-use lib.ListN.{length, set, getD}
+use borrow.Author.Tests.{lt-ltb}
+use lib.ListN.{length, set}
 use lib.Seq.{sets}
-use Rattle.paper.specs.declared.Role.the-variants.{Member}
-use Rattle.paper.specs.Answer.{Answer, ok, refused, _>>=_, fault, lowest}
-use Rattle.paper.specs.Forest.{Forest, empty, node, size, siblings, levels, preorder, counts, mapped}
+use Rattle.paper.specs.Answer.{ok, lowest}
+use Rattle.paper.specs.Forest.{Forest, empty, node, size, siblings, levels, mapped}
 use Rattle.paper.specs.Field.{Field}
-use Rattle.paper.specs.Sound.{misnamed, name-bytes}
-use Rattle.paper.specs.Bytes.{word32, rec-at, kids-at, ok-bytes, in-pool, field-at, slots, from}
-use Rattle.paper.specs.Layout.{Part, roots}
+use Rattle.paper.specs.Sound.{name-bytes}
+use Rattle.paper.specs.Bytes.{word32, kids-at, in-pool, field-at, slots, from}
 use Rattle.paper.specs.Decode.{fields, decode}
-use Rattle.paper.specs.Limits.{name-sum, sized, name-lens, sum-from}
+use Rattle.paper.specs.Limits.{name-sum, sized, name-lens}
 use Rattle.laws.proofs.Basics.{unbind, ok-is, fault-ok}
 use Rattle.laws.proofs.Taken as taken
 use Rattle.laws.proofs.Fitting.{lowest-none, levels-mapped, size-mapped, names-below, sum-within, sized-slots}
 use Rattle.laws.proofs.Runs.{from-more}
 use Rattle.laws.proofs.Preorder.{mapped-mapped}
 use Rattle.tree.specs.Read.{itself}
-use Rattle.tree.proofs.Filled.{Full, full}
+use Rattle.tree.proofs.Filled.{full}
 use Rattle.tree.proofs.Roots.{roots-row}
 use Rattle.plan.specs.Plan.{Lent, lent, Source, source-field, planned-field, plan-fields, Sits, Plan, Laid}
-use Rattle.plan.specs.Draft.{Draft, Drawn}
+use Rattle.plan.specs.Draft.{Drawn}
 use Rattle.plan.specs.Sources.{id-bits, Taken}
 use Rattle.plan.proofs.Laying.{laid-row, laid-fields, laid-draft, draft-plan}
 
@@ -53,6 +51,24 @@ module _ (s : List ℕ) (n : ℕ) (xs is ks : List ℕ) where
   take-ends i xs′ is′ ks′ h l = let a = h .within in let e : i ≡ n = omega arith in rw e at (h .taken)
 
 pub ruleset taking = (take-starts, take-goes, take-ends)
+
+-- ---- sources that decoded
+
+decoded-named : (list : ℕ) (s pool : List ℕ) (t : Forest Field) → decode list s pool ≡ ok t → (j : ℕ) → j < slots s → in-pool (length pool) s j ≡ true
+unfolding decode
+decoded-named list s pool t e j b =
+    unbind _ _ e λ _ e₁ a₁. unbind _ _ a₁ λ _ e₂ a₂.
+    lowest-none (in-pool (length pool) s) 0 (slots s) (fault-ok 4 list (lowest (in-pool (length pool) s) 0 (slots s)) e₂) j (omega arith) (omega arith)
+
+module _ (list : ℕ) (pool s request added : List ℕ) (t : Forest Field) where
+  -- A slot of a base that decodes is a source that is there, and so is 1,024 and a slot of an additions tree that does.
+  pub base-sits : decode list s pool ≡ ok t → slots s ≤ 1024 → (j : ℕ) → j < slots s → Sits (lent pool s request added) j
+  base-sits e w j b = record { base-in = λ _. omega arith; base-named = λ _. decoded-named list s pool t e j b; added-in = λ c. absurd (omega arith); added-named = λ c. absurd (omega arith) }
+
+  pub added-sits : decode list added request ≡ ok t → (j : ℕ) → j < slots added → Sits (lent pool s request added) (1024 + j)
+  added-sits e j b =
+      let d : 1024 + j - 1024 ≡ j = omega arith in
+      record { base-in = λ c. absurd (omega arith); base-named = λ c. absurd (omega arith); added-in = λ _. omega arith; added-named = λ _. rw d (decoded-named list added request t e j b) }
 
 -- ---- what it is a plan of
 
@@ -94,14 +110,11 @@ base-plan list pool s request added t n xs is ks xs′ is′ ks′ z e en lx li 
     let r₁ = r .1 in
     let f₁ = f .next in
     let su : n ≡ size u = omega arith in
-    let named = lowest-none (in-pool (length pool) s) 0 (slots s) (fault-ok 4 list (lowest (in-pool (length pool) s) 0 (slots s)) e₂) in
-    let sits : (j : ℕ) → j < slots s → Sits l j = λ j b. record { base-in = λ _. omega arith; base-named = λ _. named j (omega arith) (omega arith); added-in = λ c. absurd (omega arith); added-named = λ c. absurd (omega arith) } in
     let v = mapped (own-source s) u in
     let laid : Laid v 0 xs is ks xs′ is′ ks′ = laid-row p (kids-at s) itself (id-bits s) (slots s) (siblings u) 0 0 n xs is ks xs′ is′ ks′ f su (h .slots) (h .ids) (h .kids) in
     let sv : n ≡ size v = su ∙ sym (size-mapped (own-source s) u) in
     let dv : levels v ≤ 16 = let x = levels-mapped (own-source s) u in let y = o .depth in omega arith in
-    let is-t : plan-fields l xs′ is′ ks′ n ≡ t =
-    laid-fields v xs is ks xs′ is′ ks′ n laid sv l (omega arith) (omega arith) (omega arith) dv
+    let is-t : plan-fields l xs′ is′ ks′ n ≡ t = laid-fields v xs is ks xs′ is′ ks′ n laid sv l (omega arith) (omega arith) (omega arith) dv
     ∙ mapped-mapped (own-source s) (planned-field l) u
     ∙ mapped-same (λ k. planned-field l (own-source s k)) (field-at pool s) (kids-at s) (slots s) 0 u (o .laid) (λ j b. own-field pool s request added j (omega arith))
     ∙ ok-is a₄ in
@@ -110,6 +123,6 @@ base-plan list pool s request added t n xs is ks xs′ is′ ks′ z e en lx li 
     let w₁ = w .1 in
     let t-sum : name-bytes t ≤ 32768 = rw (← (ok-is a₄)) (omega arith) in
     record {
-      plan = draft-plan l xs′ is′ ks′ n (laid-draft v xs is ks xs′ is′ ks′ n laid sv l (omega arith) (omega arith) (omega arith) dv (all-drawn l s (kids-at s) (slots s) 0 u (o .laid) sits)) (rw is-t t-sum);
+      plan = draft-plan l xs′ is′ ks′ n (laid-draft v xs is ks xs′ is′ ks′ n laid sv l (omega arith) (omega arith) (omega arith) dv (all-drawn l s (kids-at s) (slots s) 0 u (o .laid) (base-sits list pool s request added t e w₀))) (rw is-t t-sum);
       tree = is-t;
     }

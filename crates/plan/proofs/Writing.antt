@@ -1,13 +1,13 @@
 -- Bytes one after another, `search putting`; planned records one after another: what is left to write gives the whole.
-use Prim.Native.Nat.{ℕ, zero, suc, _+_, _*_, _-_, _<_, _≤_}
+use Prim.Native.Nat.{ℕ, suc, _+_, _*_, _-_, _<_, _≤_}
 use mathlib.Core.Path.{_≡_, refl, sym, ap, _∙_}
-use mathlib.Core.List.{List, [], _∷_, _++_}
+use mathlib.Core.List.{List, _++_}
 use native.Mathlib.Nat.{add-zero}
 use native.Mathlib.Numerals.{add-one}
 use native.Mathlib.Omega.{arith}
 use lib.ListN.{length, set, drop, getD, length-append}
 use lib.Seq.{sets, length-sets, drop-cons, drop-length}
-use Rattle.paper.specs.Forest.{Forest, size, preorder, counts}
+use Rattle.paper.specs.Forest.{size, preorder, counts}
 use Rattle.paper.specs.Field.{Field}
 use Rattle.paper.specs.Bytes.{from}
 use Rattle.paper.specs.Encode.{row24, rec-bytes, encode-records, encode-names, record-bytes, pool-bytes}
@@ -75,15 +75,11 @@ module _ (l : Lent) (xs is ks : List ℕ) (m : ℕ) (out₀ names₀ : List ℕ)
       pub source-sits : Sits l (getD xs i 0)
       source-sits = ready .0 .sits i b
 
-      pub source-in-list : In (l .base) (l .added) (getD xs i 0)
-      source-in-list = sits-in l (getD xs i 0) source-sits
+      row-same : source-row (l .base) (l .added) (getD xs i 0) (getD is i 0) (getD ks i 0) at ≡ rec-bytes at (field-in l xs is i) (kids-in ks i)
+      row-same = row-source l (getD xs i 0) (getD is i 0) (getD ks i 0) at source-sits
 
-      module _ (row : List ℕ) (er : row ≡ source-row (l .base) (l .added) (getD xs i 0) (getD is i 0) (getD ks i 0) at) where
-        row-same : row ≡ rec-bytes at (field-in l xs is i) (kids-in ks i)
-        row-same = er ∙ row-source l (getD xs i 0) (getD is i 0) (getD ks i 0) at source-sits
-
-        pub row-room : i * 24 + length row ≤ length out
-        row-room = let a = ap length row-same ∙ row-length at (field-in l xs is i) (kids-in ks i) in let e = h .long in let p = ready .0 .few in let q = ready .1 in omega arith
+      pub record-asked : In (l .base) (l .added) (getD xs i 0) × (i < 1024) × (24576 ≤ length out)
+      record-asked = let p = ready .0 .few in let q = ready .1 in let e = h .long in (sits-in l (getD xs i 0) source-sits, omega arith, omega arith)
 
       module _ (name : List ℕ) (en : name ≡ source-field l (getD xs i 0) .name) where
         name-same : name ≡ field-in l xs is i .name
@@ -100,12 +96,11 @@ module _ (l : Lent) (xs is ks : List ℕ) (m : ℕ) (out₀ names₀ : List ℕ)
             let r = ready .2 in
             (omega arith, omega arith)
 
-      pub write-goes : (row name out′ names′ : List ℕ) → row ≡ source-row (l .base) (l .added) (getD xs i 0) (getD is i 0) (getD ks i 0) at → out′ ≡ sets out (i * 24) row → name ≡ source-field l (getD xs i 0) .name → names′ ≡ sets names at name
+      pub write-goes : (name out′ names′ : List ℕ) → out′ ≡ sets out (i * 24) (source-row (l .base) (l .added) (getD xs i 0) (getD is i 0) (getD ks i 0) at) → name ≡ source-field l (getD xs i 0) .name → names′ ≡ sets names at name
           → Going (field-in l xs is) (kids-in ks) m out₀ names₀ (i + 1) (at + length name) out′ names′
-      write-goes row name out′ names′ er eo en em =
+      write-goes name out′ names′ eo en em =
           let f = field-in l xs is in
           let c = kids-in ks in
-          let er′ = row-same row er in
           let en′ = name-same name en in
           let g = name-step f i m b in
           let j : (i + 1) * 24 ≡ i * 24 + length (rec-bytes at (f i) (c i)) = let e = row-length at (f i) (c i) in omega arith in
@@ -116,10 +111,10 @@ module _ (l : Lent) (xs is ks : List ℕ) (m : ℕ) (out₀ names₀ : List ℕ)
           let w = ap length en′ in
           record {
             within = omega arith;
-            rows = h .rows ∙ rw (record-step f c at i m b, eo, er′, en′, j) (sym (sets-append (rec-bytes at (f i) (c i)) rest out (i * 24)));
+            rows = h .rows ∙ rw (record-step f c at i m b, eo, row-same, en′, j) (sym (sets-append (rec-bytes at (f i) (c i)) rest out (i * 24)));
             pool = h .pool ∙ rw (g, em, en′) (sym (sets-append (f i .name) more names at));
             used = omega arith;
-            long = rw eo (length-sets out (i * 24) row) ∙ h .long;
+            long = rw eo (length-sets out (i * 24) (source-row (l .base) (l .added) (getD xs i 0) (getD is i 0) (getD ks i 0) at)) ∙ h .long;
             long-names = rw em (length-sets names at name) ∙ h .long-names;
           }
 

@@ -14,7 +14,7 @@ ghost use Rattle.paper.specs.Encode.{kind-byte, row24};
 ghost use Rattle.plan.specs.Plan.{lent, source-field, plan-fields, Sits, Plan};
 ghost use Rattle.plan.specs.Sources.{source-kind, source-len, row-of, source-row, In, Inside, Summed, Taken, Written};
 
-// The base as a plan of itself.
+// The base as a plan of itself: each place holds its own slot, id and count; the arrays' rest stays.
 pub fn take_base(
     base: &[u8],
     n: usize,
@@ -90,6 +90,7 @@ pub fn names_fit(base: &[u8], added: &[u8], slots: &[u16; 1024], m: usize) -> bo
     sum <= 32768
 }
 
+// The byte that stands for a kind.
 fn kind_byte(k: Kind) -> u8
     ensures { λ r. ⌜ r ≡ kind-byte k ⌝ }
 {
@@ -185,7 +186,25 @@ pub fn put_bytes(out: &mut [u8], at: usize, src: &[u8])
     }
 }
 
-// The one writer: a plan's records, and their names packed from offset 0. Answers how many name bytes there are.
+// A planned record into place i of the records; the rest of them stays.
+fn put_record(
+    base: &[u8],
+    added: &[u8],
+    source: u16,
+    id: u32,
+    kids: u16,
+    at: u32,
+    out: &mut [u8],
+    i: usize,
+)
+    requires { ⌜ In (now base) (now added) source × (i < 1024) × (24576 ≤ length (now out)) ⌝ }
+    ensures { λ r. ⌜ now (out .exit) ≡ sets (now (out .entry)) (i * 24) (source-row (now (base .entry)) (now (added .entry)) source id kids at) ⌝ }
+{
+    let row = planned_bytes(base, added, source, id, kids, at);
+    put_bytes(out, i * 24, &row);
+}
+
+// The one writer: a plan's records, and their names packed from offset 0; bytes beyond stay. Answers how many name bytes there are.
 pub fn write_plan<'a>(
     pool: &'a [u8],
     base: &[u8],
@@ -205,8 +224,16 @@ pub fn write_plan<'a>(
     let mut at = 0;
     while i < m {
         let source = slots[i];
-        let row = planned_bytes(base, added, source, ids[i], kids[i], at as u32);
-        put_bytes(out_records, i * 24, &row);
+        put_record(
+            base,
+            added,
+            source,
+            ids[i],
+            kids[i],
+            at as u32,
+            out_records,
+            i,
+        );
         let name = planned_name(pool, base, request, added, source);
         put_bytes(out_names, at, name);
         at += name.len();

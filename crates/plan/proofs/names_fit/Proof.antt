@@ -1,7 +1,6 @@
 -- What is left of the lengths gives the whole sum; a name has at most 255 bytes, so it cannot wrap.
 use Rattle.plan.proofs.Summing.{Adding, summing}
 use Prim.Native.Nat.{_-_}
-use native.Mathlib.Omega.{arith}
 use borrow.Author.Needs.{needs}
 use Rattle.plan.proofs.names_fit.Statement.{statement}
 use Rattle.plan.proofs.names_fit.Tie as tie

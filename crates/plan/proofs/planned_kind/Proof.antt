@@ -1,6 +1,5 @@
 -- The two lists in turn.
 use Rattle.plan.proofs.Sourcing.{sourcing}
-use native.Mathlib.Omega.{arith}
 use borrow.Author.Needs.{needs}
 use Rattle.plan.proofs.planned_kind.Statement.{statement}
 use Rattle.plan.proofs.planned_kind.Tie as tie

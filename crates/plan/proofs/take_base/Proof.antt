@@ -1,7 +1,6 @@
 -- After i turns the first i places hold their own slot, id and count.
 use Rattle.plan.proofs.Taking.{Taking, taking}
 use Prim.Native.Nat.{_-_}
-use native.Mathlib.Omega.{arith}
 use borrow.Author.Needs.{needs}
 use Rattle.plan.proofs.take_base.Statement.{statement}
 use Rattle.plan.proofs.take_base.Tie as tie

@@ -1,5 +1,5 @@
 -- What is left to write gives the whole; each record and name has room, since a plan's records and name sum are within the limits.
-use Rattle.plan.proofs.Writing.{Going, write-starts, at-small, source-in-list, source-sits, row-room, name-room, write-goes, write-ends}
+use Rattle.plan.proofs.Writing.{Going, write-starts, at-small, record-asked, source-sits, name-room, write-goes, write-ends}
 use Rattle.plan.proofs.Standing.{field-in}
 use Prim.Native.Nat.{_-_}
 use Rattle.plan.specs.Plan.{lent, kids-in}
@@ -24,21 +24,18 @@ write-plan-spec =
     (λ c. write-starts _ _ _ _ _)  -- loop-holds
     (λ c. search needs)  -- mul-source
     (λ c. search needs)  -- element-copy-out-source
-    (λ c. search needs)  -- mul-planned-bytes
-    (λ c. search needs)  -- element-copy-out-planned-bytes
-    (λ c. search needs)  -- mul-planned-bytes-2
-    (λ c. search needs)  -- element-copy-out-planned-bytes-2
-    (λ c. let e = at-small _ _ _ _ _ _ _ (c .before .before .before .before .before .before .before .before .before .before .before .pre) _ _ _ _ (c .before .before .before .before .loop .inv) in omega arith)  -- cast-planned-bytes
-    (λ c κs. source-in-list _ _ _ _ _ _ _ (c .before .before .before .before .before .before .before .before .before .before .before .pre) _ _ _ _ (c .before .before .before .before .loop .inv) (c .before .before .before .loop-test .taken))  -- planned-bytes-requires
-    (λ c. search needs)  -- mul-put-bytes
-    (λ c. search needs)  -- slice-aggregate-put-bytes
-    (λ c κs. row-room _ _ _ _ _ _ _ (c .before .before .before .before .before .before .before .before .before .before .before .before .before .before .pre) _ _ _ _ (c .before .before .before .before .before .before .before .loop .inv) (c .before .before .before .before .before .before .loop-test .taken) _ (c .before .before .planned-bytes .ensures))  -- put-bytes-requires
-    (λ c κs. source-sits _ _ _ _ _ _ _ (c .before .before .before .before .before .before .before .before .before .before .before .before .before .before .before .before .before .pre) _ _ _ _ (c .before .before .before .before .before .before .before .before .before .before .loop .inv) (c .before .before .before .before .before .before .before .before .before .loop-test .taken))  -- planned-name-requires
-    (λ c κs. name-room _ _ _ _ _ _ _ (c .before .before .before .before .before .before .before .before .before .before .before .before .before .before .before .before .before .before .before .pre) _ _ _ _ (c .before .before .before .before .before .before .before .before .before .before .before .before .loop .inv) (c .before .before .before .before .before .before .before .before .before .before .before .loop-test .taken) _ (c .before .planned-name .ensures .0) .0)  -- put-bytes-requires-2
-    (λ c. let e = name-room _ _ _ _ _ _ _ (c .before .before .before .before .before .before .before .before .before .before .before .before .before .before .before .before .before .before .before .before .before .before .pre) _ _ _ _ (c .before .before .before .before .before .before .before .before .before .before .before .before .before .before .before .loop .inv) (c .before .before .before .before .before .before .before .before .before .before .before .before .before .before .loop-test .taken) _ (c .before .before .before .before .planned-name .ensures .0) .1 in omega arith)  -- add-at
+    (λ c. search needs)  -- mul-put-record
+    (λ c. search needs)  -- element-copy-out-put-record
+    (λ c. search needs)  -- mul-put-record-2
+    (λ c. search needs)  -- element-copy-out-put-record-2
+    (λ c. let e = at-small _ _ _ _ _ _ _ (c .before .before .before .before .before .before .before .before .before .before .before .pre) _ _ _ _ (c .before .before .before .before .loop .inv) in omega arith)  -- cast-put-record
+    (λ c κs. record-asked _ _ _ _ _ _ _ (c .before .before .before .before .before .before .before .before .before .before .before .before .pre) _ _ _ _ (c .before .before .before .before .before .loop .inv) (c .before .before .before .before .loop-test .taken))  -- put-record-requires
+    (λ c κs. source-sits _ _ _ _ _ _ _ (c .before .before .before .before .before .before .before .before .before .before .before .before .before .before .before .pre) _ _ _ _ (c .before .before .before .before .before .before .before .before .loop .inv) (c .before .before .before .before .before .before .before .loop-test .taken))  -- planned-name-requires
+    (λ c κs. name-room _ _ _ _ _ _ _ (c .before .before .before .before .before .before .before .before .before .before .before .before .before .before .before .before .before .pre) _ _ _ _ (c .before .before .before .before .before .before .before .before .before .before .loop .inv) (c .before .before .before .before .before .before .before .before .before .loop-test .taken) _ (c .before .planned-name .ensures .0) .0)  -- put-bytes-requires
+    (λ c. let e = name-room _ _ _ _ _ _ _ (c .before .before .before .before .before .before .before .before .before .before .before .before .before .before .before .before .before .before .before .before .pre) _ _ _ _ (c .before .before .before .before .before .before .before .before .before .before .before .before .before .loop .inv) (c .before .before .before .before .before .before .before .before .before .before .before .before .loop-test .taken) _ (c .before .before .before .before .planned-name .ensures .0) .1 in omega arith)  -- add-at
     (λ c. search needs)  -- add-i
     (λ c. search needs)  -- loop-less
-    (λ c. write-goes _ _ _ _ _ _ _ (c .before .before .before .before .before .before .before .before .before .before .before .before .before .before .before .before .before .before .before .before .before .before .pre) _ _ _ _ (c .before .before .before .before .before .before .before .before .before .before .before .before .before .before .before .loop .inv) (c .before .before .before .before .before .before .before .before .before .before .before .before .before .before .loop-test .taken) _ _ _ _ (c .before .before .before .before .before .before .before .before .before .before .planned-bytes .ensures) (c .before .before .before .before .before .before .before .put-bytes .ensures) (c .before .before .before .before .planned-name .ensures .0) (c .before .before .put-bytes2 .ensures))  -- loop-again
+    (λ c. write-goes _ _ _ _ _ _ _ (c .before .before .before .before .before .before .before .before .before .before .before .before .before .before .before .before .before .before .before .before .pre) _ _ _ _ (c .before .before .before .before .before .before .before .before .before .before .before .before .before .loop .inv) (c .before .before .before .before .before .before .before .before .before .before .before .before .loop-test .taken) _ _ _ (c .before .before .before .before .before .before .before .put-record .ensures) (c .before .before .before .before .planned-name .ensures .0) (c .before .before .put-bytes .ensures))  -- loop-again
     (λ c. search needs)  -- same-length
     (λ c. search needs)  -- same-length-2
     (λ c. write-ends _ _ _ _ _ _ _ (c .before .before .before .before .before .before .before .before .pre) _ _ _ _ (c .before .loop .inv) (c .loop-test .left))  -- returns
