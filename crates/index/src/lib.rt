@@ -286,3 +286,170 @@ pub fn look_name<'a>(
     }
     look_short(pool, base, request, added, slots, ids, kids, m, name)
 }
+
+// Lent bytes as a base: refusals 2 to 8, or the plan of the tree that they hold, with its index.
+pub fn open_base(
+    records: &[u8],
+    pool: &[u8],
+    slots: &mut [u16; 1024],
+    ids: &mut [u32; 1024],
+    kids: &mut [u16; 1024],
+    id_heads: &mut [u16; 1024],
+    id_next: &mut [u16; 1024],
+    ups: &mut [u16; 1024],
+    lens: &mut [u16; 1024],
+    hashes: &mut [u32; 1024],
+    name_heads: &mut [u16; 1024],
+    name_next: &mut [u16; 1024],
+) -> Check
+    requires { ⌜ (length (now slots) ≡ 1024) × ((length (now ids) ≡ 1024) × ((length (now kids) ≡ 1024) × Rooms (now «id_heads») (now «id_next») (now ups) (now lens) (now hashes) (now «name_heads») (now «name_next»))) ⌝ }
+    ensures { λ r. ⌜ Opened (now (records .entry)) (now (pool .entry)) r (now (slots .exit)) (now (ids .exit)) (now (kids .exit)) (length (now (records .entry)) / 24) (now («id_heads» .exit)) (now («id_next» .exit)) (now (ups .exit)) (now (lens .exit)) (now (hashes .exit)) (now («name_heads» .exit)) (now («name_next» .exit)) ⌝ }
+{
+    let read = read_tree(records, pool);
+    if let Shaped::Refused(r) = read {
+        return Check::Refused(r);
+    }
+    let m = records.len() / 24;
+    take_base(records, m, slots, ids, kids);
+    index_plan(
+        pool,
+        records,
+        pool,
+        records,
+        slots,
+        ids,
+        kids,
+        m,
+        0,
+        b"",
+        id_heads,
+        id_next,
+        ups,
+        lens,
+        hashes,
+        name_heads,
+        name_next,
+    )
+}
+
+// 2 to 8, then the look-up by name, in any bytes.
+pub fn find_name(records: &[u8], pool: &[u8], name: &[u8]) -> Sought
+    ensures { λ r. ⌜ r ≡ looked (find-name (now (records .entry)) (now (pool .entry)) (now (name .entry))) ⌝ }
+{
+    let mut slots = [0u16; 1024];
+    let mut ids = [0u32; 1024];
+    let mut kids = [0u16; 1024];
+    let mut id_heads = [0u16; 1024];
+    let mut id_next = [0u16; 1024];
+    let mut ups = [0u16; 1024];
+    let mut lens = [0u16; 1024];
+    let mut hashes = [0u32; 1024];
+    let mut name_heads = [0u16; 1024];
+    let mut name_next = [0u16; 1024];
+    let opened = open_base(
+        records,
+        pool,
+        &mut slots,
+        &mut ids,
+        &mut kids,
+        &mut id_heads,
+        &mut id_next,
+        &mut ups,
+        &mut lens,
+        &mut hashes,
+        &mut name_heads,
+        &mut name_next,
+    );
+    if let Check::Refused(r) = opened {
+        return Sought::Refused(r);
+    }
+    let m = records.len() / 24;
+    Sought::Looked(look_name(
+        pool,
+        records,
+        pool,
+        records,
+        &slots,
+        &ids,
+        &kids,
+        m,
+        &id_heads,
+        &id_next,
+        &ups,
+        &lens,
+        &hashes,
+        &name_heads,
+        &name_next,
+        name,
+    ))
+}
+
+// 2 to 8, then the look-up by id, in any bytes.
+pub fn find_id(records: &[u8], pool: &[u8], id: FieldId) -> Sought
+    ensures { λ r. ⌜ r ≡ looked (find-id (now (records .entry)) (now (pool .entry)) (id .0)) ⌝ }
+{
+    let mut slots = [0u16; 1024];
+    let mut ids = [0u32; 1024];
+    let mut kids = [0u16; 1024];
+    let mut id_heads = [0u16; 1024];
+    let mut id_next = [0u16; 1024];
+    let mut ups = [0u16; 1024];
+    let mut lens = [0u16; 1024];
+    let mut hashes = [0u32; 1024];
+    let mut name_heads = [0u16; 1024];
+    let mut name_next = [0u16; 1024];
+    let opened = open_base(
+        records,
+        pool,
+        &mut slots,
+        &mut ids,
+        &mut kids,
+        &mut id_heads,
+        &mut id_next,
+        &mut ups,
+        &mut lens,
+        &mut hashes,
+        &mut name_heads,
+        &mut name_next,
+    );
+    if let Check::Refused(r) = opened {
+        return Sought::Refused(r);
+    }
+    let m = records.len() / 24;
+    Sought::Looked(look_id(&ids, m, &id_heads, &id_next, id))
+}
+
+// 2 to 8, then the look-up of the record above an id, in any bytes.
+pub fn find_parent(records: &[u8], pool: &[u8], id: FieldId) -> Sought
+    ensures { λ r. ⌜ r ≡ looked (find-parent (now (records .entry)) (now (pool .entry)) (id .0)) ⌝ }
+{
+    let mut slots = [0u16; 1024];
+    let mut ids = [0u32; 1024];
+    let mut kids = [0u16; 1024];
+    let mut id_heads = [0u16; 1024];
+    let mut id_next = [0u16; 1024];
+    let mut ups = [0u16; 1024];
+    let mut lens = [0u16; 1024];
+    let mut hashes = [0u32; 1024];
+    let mut name_heads = [0u16; 1024];
+    let mut name_next = [0u16; 1024];
+    let opened = open_base(
+        records,
+        pool,
+        &mut slots,
+        &mut ids,
+        &mut kids,
+        &mut id_heads,
+        &mut id_next,
+        &mut ups,
+        &mut lens,
+        &mut hashes,
+        &mut name_heads,
+        &mut name_next,
+    );
+    if let Check::Refused(r) = opened {
+        return Sought::Refused(r);
+    }
+    let m = records.len() / 24;
+    Sought::Looked(look_parent(&ids, m, &id_heads, &id_next, &ups, id))
+}
