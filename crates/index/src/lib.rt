@@ -16,12 +16,16 @@ use record::FieldId;
 use record::Found;
 use record::Slot;
 use record::Sought;
+use record::name_at;
+use record::name_ok;
 use tree::Shaped;
 use tree::read_tree;
 ghost use mathlib.Core.Path.{_≡_};
-ghost use Prim.Native.Nat.{_/_, _≤_};
+ghost use mathlib.Core.Bool.{true, false};
+ghost use mathlib.Core.List.{[]};
+ghost use Prim.Native.Nat.{_+_, _/_, _<_, _≤_};
 ghost use lib.ListN.{length};
-ghost use Rattle.paper.specs.Bytes.{turned};
+ghost use Rattle.paper.specs.Bytes.{turned, in-pool, name-of, rec-at};
 ghost use Rattle.paper.specs.Entries.{find-name, find-id, find-parent};
 ghost use Rattle.paper.specs.Rows.{look-name};
 ghost use Rattle.record.specs.Says.{found-row, looked};
@@ -452,4 +456,19 @@ pub fn find_parent(records: &[u8], pool: &[u8], id: FieldId) -> Sought
     }
     let m = records.len() / 24;
     Sought::Looked(look_parent(&ids, m, &id_heads, &id_next, &ups, id))
+}
+
+// A found record's name: the very part of the lent pool that holds it. No bytes where the slot has no name in the pool.
+pub fn found_name<'a>(records: &[u8], pool: &'a [u8], slot: Slot) -> &'a [u8]
+    ensures { λ r. ⌜ (slot .0 < length (now (records .entry)) / 24 → in-pool (length (now (pool .entry))) (now (records .entry)) (slot .0) ≡ true → (now r ≡ name-of (now (pool .entry)) (now (records .entry)) (slot .0)) × (r .ptr .0 ≡ pool .entry .ptr .0) × (r .ptr .1 ≡ pool .entry .ptr .1 + rec-at (now (records .entry)) (slot .0) .name-at)) × (length (now (records .entry)) / 24 ≤ slot .0 → now r ≡ []) × (in-pool (length (now (pool .entry))) (now (records .entry)) (slot .0) ≡ false → now r ≡ []) ⌝ }
+{
+    let k = slot.0;
+    let none = 0;
+    if records.len() / 24 <= k {
+        return &pool[none..none];
+    }
+    if !name_ok(records, pool.len(), k) {
+        return &pool[none..none];
+    }
+    name_at(pool, records, k)
 }

@@ -6,7 +6,7 @@ use mathlib.Core.Bool.{Bool, true, false, not}
 use mathlib.Core.List.{List, [], _∷_, _++_, append-assoc}
 use Prim.Native.Nat.{ℕ, zero, suc, _+_, _-_, _<_, _≤_}
 use native.Mathlib.Omega.{arith}
-use borrow.Author.Tests.{eqb-true, eqb-false, not-true, not-false}
+use borrow.Author.Tests.{eqb-true, eqb-false, eq-eqb, not-true, not-false}
 use lib.Dec.{eqb}
 use lib.ListN.{length, getD, length-append, List·getD-append}
 use lib.Seq.{getD-append-add, getD-at, ext-getD}
@@ -207,6 +207,21 @@ module _ (name : ℕ → List ℕ) (us : List ℕ) (m a b len i s t : ℕ) (h : 
           }
 
 pub ruleset comparing = (names-differ, names-start, names-left, names-right, names-end, names-meet, names-stop, names-go)
+
+-- ---- siblings: what stands before their own names is one
+
+same-behind : (p x y : List ℕ) → same (p ++ x) (p ++ y) ≡ same x y
+same-behind [] x y = refl
+same-behind (a ∷ p) x y = rw (eq-eqb a a refl) (same-behind p x y)
+
+pub siblings-same : (l : Lent) (xs : List ℕ) (m : ℕ) (us ls : List ℕ) (a b : ℕ) (r : Bool) (x y : List ℕ) → Spelt l xs m us ls → a < m → b < m → getD us a 0 ≡ getD us b 0 → x ≡ name-in l xs a → y ≡ name-in l xs b → r ≡ same x y → r ≡ same-name l xs us a b
+siblings-same l xs m us ls a b r x y sp qa qb e ex ey er = er ∙ rw (ex, ey) (sym (go (getD us a 0) refl (sym e)))
+  where
+    go : (u : ℕ) → getD us a 0 ≡ u → getD us b 0 ≡ getD us a 0 → same-name l xs us a b ≡ same (name-in l xs a) (name-in l xs b)
+    go zero ea eb = rw (full-root (name-in l xs) us m (sp .falls) a qa ea, full-root (name-in l xs) us m (sp .falls) b qb (eb ∙ ea))
+    go (suc p) ea eb =
+        rw (full-under (name-in l xs) us m (sp .falls) a p qa ea .1, full-under (name-in l xs) us m (sp .falls) b p qb (eb ∙ ea) .1)
+        (same-behind (full-at (name-in l xs) us p) (46 ∷ name-in l xs a) (46 ∷ name-in l xs b))
 
 -- ---- comparing with asked bytes
 
