@@ -1,0 +1,89 @@
+-- The numbers that the code lays out are the paper's: a found slot is below 1,024, so its 32 bits are the slot.
+use Prim.Native.Nat.{ℕ, _%_, _<_, _≤_}
+use mathlib.Core.Path.{_≡_, refl, sym, ap, subst, _∙_}
+use mathlib.Core.Bool.{Bool, true, false, not}
+use mathlib.Core.List.{List}
+use mathlib.Core.Option.{Option, none, some}
+use native.Mathlib.Omega.{arith}
+use Rattle.paper.specs.Answer.{Answer, ok, refused, _>>=_, fault-if}
+use Rattle.paper.specs.Forest.{Forest, size}
+use Rattle.paper.specs.Field.{Field}
+use Rattle.paper.specs.Rows.{Row, look-name, look-id, look-parent}
+use Rattle.paper.specs.Bytes.{turned, slots}
+use Rattle.paper.specs.Decode.{decode}
+use Rattle.paper.specs.Limits.{sized}
+use Rattle.paper.specs.Entries.{read, find-name, find-id, find-parent}
+use Rattle.paper.specs.Outcome.{found}
+use Rattle.laws.proofs.Basics.{unbind, ok-is, refused≢ok}
+use Rattle.laws.proofs.Fitting.{sized-slots}
+use Rattle.laws.proofs.Whole.{decode-size}
+use Rattle.record.specs.declared.Refusal.{Refusal}
+use Rattle.record.specs.declared.FieldId.{FieldId}
+use Rattle.record.specs.declared.Slot.{Slot}
+use Rattle.record.specs.declared.Found.{Found}
+use Rattle.record.specs.declared.Found.the-variants as finds
+use Rattle.record.specs.declared.Sought.{Sought}
+use Rattle.record.specs.declared.Sought.the-variants as seeks
+use Rattle.record.specs.Says.{found-row, looked}
+use Rattle.braidhurdle.specs.declared.FoundNumbers.{FoundNumbers}
+use Rattle.braidhurdle.specs.Numbers.{found-in, found-numbers, sought-numbers}
+use Rattle.braidhurdle.proofs.Slots.{name-within, id-within, parent-within}
+
+passed : (b : Bool) {u : Unit {0}} → fault-if 2 0 0 (not b) ≡ ok u → b ≡ true
+passed true e = refl
+passed false e = absurd (refused≢ok e)
+
+read-small : (s pool : List ℕ) (t : Forest Field) → read s pool ≡ ok t → size t ≤ 1024
+unfolding read
+read-small s pool t e =
+    unbind _ _ e λ _ e₁ a₁. unbind _ _ a₁ λ u e₂ a₂. unbind _ _ a₂ λ _ e₃ a₃.
+    let d = decode-size 0 s pool u e₂ in
+    let z = sized-slots s pool (passed (sized s pool) e₁) in
+    subst (λ (v : Forest Field). size v ≤ 1024) (ok-is a₃) (omega (arith, z .0))
+
+-- Numbers of a look-up whose row, if there is one, stands in the first 1,024 slots.
+told : (a : Answer (Option Row)) → ((r : Row) → a ≡ ok (some r) → r .slot < 1024) → sought-numbers (looked a) ≡ found-in (found a)
+unfolding looked found-row found
+told (ok none) f = refl
+told (ok (some r)) f = let l = f r refl in let e : r .slot % 4294967296 ≡ r .slot = omega arith in rw e
+told (refused n l p) f = refl
+
+module _ (s pool : List ℕ) where
+  looked-up : (g : Forest Field → Option Row) → ((t : Forest Field) (r : Row) → g t ≡ some r → r .slot < size t) → (r : Row) → (read s pool >>= λ t. ok (g t)) ≡ ok (some r) → r .slot < 1024
+  looked-up g w r e = unbind _ _ e λ t e₁ a₁. let l = read-small s pool t e₁ in let k = w t r (ok-is a₁) in omega arith
+
+  pub name-told : (x : List ℕ) → sought-numbers (looked (find-name s pool x)) ≡ found-in (found (find-name s pool x))
+  unfolding find-name
+  name-told x = told (read s pool >>= λ t. ok (look-name t x)) (looked-up (λ t. look-name t x) (λ t r e. name-within t r x e))
+
+  pub id-told : (i : ℕ) → sought-numbers (looked (find-id s pool i)) ≡ found-in (found (find-id s pool i))
+  unfolding find-id
+  id-told i = told (read s pool >>= λ t. ok (look-id t (turned i))) (looked-up (λ t. look-id t (turned i)) (λ t r e. id-within t r (turned i) e))
+
+  pub parent-told : (i : ℕ) → sought-numbers (looked (find-parent s pool i)) ≡ found-in (found (find-parent s pool i))
+  unfolding find-parent
+  parent-told i = told (read s pool >>= λ t. ok (look-parent t (turned i))) (looked-up (λ t. look-parent t (turned i)) (λ t r e. parent-within t r (turned i) e))
+
+  module _ (w : Sought) (r : FoundNumbers) (e : r ≡ sought-numbers w) where
+    pub tells-name : (x : List ℕ) → w ≡ looked (find-name s pool x) → r ≡ found-in (found (find-name s pool x))
+    tells-name x h = e ∙ ap sought-numbers h ∙ name-told x
+
+    pub tells-id : (i : ℕ) → w ≡ looked (find-id s pool i) → r ≡ found-in (found (find-id s pool i))
+    tells-id i h = e ∙ ap sought-numbers h ∙ id-told i
+
+    pub tells-parent : (i : ℕ) → w ≡ looked (find-parent s pool i) → r ≡ found-in (found (find-parent s pool i))
+    tells-parent i h = e ∙ ap sought-numbers h ∙ parent-told i
+
+pub lay-at : (f : Found) (i : FieldId) (k : Slot) → f ≡ finds.At i k → record { refusal = 0; list = 0; place = 0; found = 1; id = i .0; slot = k .0 % 4294967296 } ≡ found-numbers f
+lay-at f i k e = rw e
+
+pub lay-nothing : (f : Found) → f ≡ finds.Nothing → record { refusal = 0; list = 0; place = 0; found = 0; id = 0; slot = 0 } ≡ found-numbers f
+lay-nothing f e = rw e
+
+pub lay-refused : (w : Sought) (x : Refusal) → w ≡ seeks.Refused x → record { refusal = x .number; list = x .list; place = x .place; found = 0; id = 0; slot = 0 } ≡ sought-numbers w
+lay-refused w x e = rw e
+
+pub lay-looked : (w : Sought) (f : Found) (r : FoundNumbers) → w ≡ seeks.Looked f → r ≡ found-numbers f → r ≡ sought-numbers w
+lay-looked w f r e h = rw e h
+
+pub ruleset telling = (tells-name, tells-id, tells-parent, lay-at, lay-nothing, lay-refused, lay-looked)

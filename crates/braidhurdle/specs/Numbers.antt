@@ -1,0 +1,23 @@
+-- The six numbers of an answer, as the C structs hold them.
+use Prim.Native.Nat.{ℕ, _%_}
+use Rattle.paper.specs.Outcome as outcome
+use Rattle.record.specs.declared.Changed as record-changed
+use Rattle.record.specs.declared.Changed.the-variants as changes
+use Rattle.record.specs.declared.Found.{Found}
+use Rattle.record.specs.declared.Found.the-variants as finds
+use Rattle.record.specs.declared.Sought.{Sought}
+use Rattle.record.specs.declared.Sought.the-variants as seeks
+use Rattle.braidhurdle.specs.declared.FoundNumbers.{FoundNumbers}
+
+-- What the paper says of a look-up's numbers, in the struct.
+abbrev pub found-in : outcome.Found → FoundNumbers
+found-in f = record { refusal = f .refusal; list = f .list; place = f .place; found = f .found; id = f .id; slot = f .slot }
+
+-- What the code lays out: a slot as 32 bits.
+abbrev pub found-numbers : Found → FoundNumbers
+found-numbers (finds.At i k) = record { refusal = 0; list = 0; place = 0; found = 1; id = i .0; slot = k .0 % 4294967296 }
+found-numbers finds.Nothing = record { refusal = 0; list = 0; place = 0; found = 0; id = 0; slot = 0 }
+
+abbrev pub sought-numbers : Sought → FoundNumbers
+sought-numbers (seeks.Looked f) = found-numbers f
+sought-numbers (seeks.Refused r) = record { refusal = r .number; list = r .list; place = r .place; found = 0; id = 0; slot = 0 }
