@@ -3,15 +3,30 @@
 use cases::Operations;
 use judge::{Changed, Found};
 
-/// Only what has landed is declared; the rest has no symbol to link.
+/// Declares a function where it has landed; the rest has no symbol to link. The archive returns
+/// a struct as C on x86-64 does, through a pointer that is the first argument. On another
+/// machine, whose C hands that pointer over in its own way, the pointer is written out.
+macro_rules! declare {
+    ($(#[$landed:ident] fn $name:ident($($argument:ident: $type:ty),* $(,)?) -> $answer:ty;)*) => {
+        unsafe extern "C" {
+            $(
+                #[cfg(all($landed, target_arch = "x86_64"))]
+                pub fn $name($($argument: $type),*) -> $answer;
+                #[cfg(all($landed, not(target_arch = "x86_64")))]
+                pub fn $name(answer: *mut $answer, $($argument: $type),*) -> *mut $answer;
+            )*
+        }
+    };
+}
+
 #[allow(improper_ctypes)] // the results are `repr(C)` structs of 32-bit numbers
 mod c {
     #[allow(unused_imports)]
     use judge::{Changed, Found};
 
-    unsafe extern "C" {
-        #[cfg(landed_update)]
-        pub fn braidhurdle_update(
+    declare! {
+        #[landed_update]
+        fn braidhurdle_update(
             records: *const u8,
             records_bytes: usize,
             pool: *const u8,
@@ -32,8 +47,8 @@ mod c {
             out_names: *mut u8,
             out_names_bytes: usize,
         ) -> Changed;
-        #[cfg(landed_prune)]
-        pub fn braidhurdle_prune(
+        #[landed_prune]
+        fn braidhurdle_prune(
             records: *const u8,
             records_bytes: usize,
             pool: *const u8,
@@ -46,8 +61,8 @@ mod c {
             out_names: *mut u8,
             out_names_bytes: usize,
         ) -> Changed;
-        #[cfg(landed_renumber)]
-        pub fn braidhurdle_renumber(
+        #[landed_renumber]
+        fn braidhurdle_renumber(
             records: *const u8,
             records_bytes: usize,
             pool: *const u8,
@@ -62,8 +77,8 @@ mod c {
             out_identifiers: *mut u8,
             out_identifiers_bytes: usize,
         ) -> Changed;
-        #[cfg(landed_find_name)]
-        pub fn braidhurdle_find_name(
+        #[landed_find_name]
+        fn braidhurdle_find_name(
             records: *const u8,
             records_bytes: usize,
             pool: *const u8,
@@ -71,16 +86,16 @@ mod c {
             name: *const u8,
             name_bytes: usize,
         ) -> Found;
-        #[cfg(landed_find_id)]
-        pub fn braidhurdle_find_id(
+        #[landed_find_id]
+        fn braidhurdle_find_id(
             records: *const u8,
             records_bytes: usize,
             pool: *const u8,
             pool_bytes: usize,
             id: i32,
         ) -> Found;
-        #[cfg(landed_find_parent)]
-        pub fn braidhurdle_find_parent(
+        #[landed_find_parent]
+        fn braidhurdle_find_parent(
             records: *const u8,
             records_bytes: usize,
             pool: *const u8,
@@ -97,9 +112,15 @@ pub struct Port;
 macro_rules! call {
     ($landed:ident, $function:ident($($argument:expr),* $(,)?)) => {{
         // Safe: each pointer and length is a Rust slice's own, the slices don't overlap, and
-        // none is kept.
-        #[cfg($landed)]
+        // none is kept; the answer is written whole.
+        #[cfg(all($landed, target_arch = "x86_64"))]
         let answer = Some(unsafe { c::$function($($argument),*) });
+        #[cfg(all($landed, not(target_arch = "x86_64")))]
+        let answer = Some(unsafe {
+            let mut answer = std::mem::MaybeUninit::uninit();
+            c::$function(answer.as_mut_ptr(), $($argument),*);
+            answer.assume_init()
+        });
         #[cfg(not($landed))]
         let answer = {
             $(let _ = $argument;)*
