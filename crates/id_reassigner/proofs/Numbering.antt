@@ -4,11 +4,10 @@ use mathlib.Core.Bool.{Bool, true, false, cond}
 use mathlib.Core.Logic.{⊎-elim}
 use mathlib.Core.List.{List, [], _∷_, _++_, map, map-append}
 use Prim.Native.Nat.{ℕ, zero, suc, _+_, _-_, _*_, _<_, _≤_}
-use native.Mathlib.Nat.{add-zero}
 use native.Mathlib.Numerals.{add-one}
 use native.Mathlib.Omega.{arith}
-use lib.ListN.{length, set, length-set, length-append}
-use lib.Seq.{sets, length-sets}
+use lib.ListN.{length, set, length-append}
+use lib.Seq.{sets}
 use Rattle.paper.specs.declared.Kind.{Kind}
 use Rattle.paper.specs.Forest.{Forest, empty, node, size, siblings, preorder}
 use Rattle.paper.specs.Field.{is-map}
@@ -16,16 +15,13 @@ use Rattle.paper.specs.Bytes.{turned, kind-at, kids-at, slots}
 use Rattle.paper.specs.Layout.{Part, before}
 use Rattle.paper.specs.Renumber.{inside-first, level}
 use Rattle.laws.proofs.Written.{siblings-size}
+use Rattle.laws.proofs.Runs.{sets-append}
 use Rattle.plan.specs.Plan.{Source, bits-of}
 use Rattle.tree.specs.Read.{part, reads}
 use Rattle.tree.proofs.Filled.{Full, lt-or-le}
 use Rattle.tree.proofs.Steps.{part-none, part-in, part-full, no-deep, no-past, reads-inner, reads-rest}
 use Rattle.id_reassigner.specs.declared.Reassigned.{Reassigned}
 use Rattle.id_reassigner.specs.Numbers.{numbered-source, new-ids, row-of, Room, Given}
-
-sets-append : (xs ys l : List ℕ) (i : ℕ) → sets (sets l i xs) (i + length xs) ys ≡ sets l i (xs ++ ys)
-sets-append [] ys l i = rw (add-zero i)
-sets-append (x ∷ xs) ys l i = let e : i + suc (length xs) ≡ suc i + length xs = omega arith in rw e (sets-append xs ys (set l i x) (suc i))
 
 above-zero : (i : ℕ) → (i ≡ 0 → ⊥) → 0 < i
 above-zero zero q = absurd (q refl)
@@ -63,7 +59,6 @@ Counted true own next left z total = (own + z ≡ total) × (next ≡ own + 1)
 
 pub record Left (s : List ℕ) (m? : Bool) (lv c k : ℕ) (ids : List ℕ) (first left at own next : ℕ) (ids′ : List ℕ) : Type 0 where
   pub few : slots s ≤ 1024
-  pub long : length ids′ ≡ 1024
   pub within : at ≤ slots s
   pub read : reads 0 (kids-at s) (slots s) lv left at ≡ true
   pub fits : first + size (row-of s lv c k .trees) < 4294967296
@@ -83,7 +78,6 @@ module _ (s : List ℕ) (lv c k : ℕ) (ids : List ℕ) (first : ℕ) (h : Room 
   members-start =
       record {
         few = h .few;
-        long = h .long;
         within = h .within;
         read = h .read;
         fits = h .numbers;
@@ -93,7 +87,7 @@ module _ (s : List ℕ) (lv c k : ℕ) (ids : List ℕ) (first : ℕ) (h : Room 
       }
 
   pub pair-start : Left s true lv c k ids first c k first (first + 1) ids
-  pair-start = record { few = h .few; long = h .long; within = h .within; read = h .read; fits = h .numbers; counts = (refl, refl); end = refl; given = rw (add-one first) }
+  pair-start = record { few = h .few; within = h .within; read = h .read; fits = h .numbers; counts = (refl, refl); end = refl; given = rw (add-one first) }
 
 module _ (s : List ℕ) (m? : Bool) (lv c k : ℕ) (ids : List ℕ) (first left at own next : ℕ) (ids′ : List ℕ) (h : Left s m? lv c k ids first left at own next ids′) where
   -- ---- nothing is left
@@ -170,7 +164,7 @@ module _ (s : List ℕ) (m? : Bool) (lv c k : ℕ) (ids : List ℕ) (first left 
     unfolding inner
     asked x f =
         let w = record-left in
-        record { few = h .few; long = length-set ids′ at x ∙ h .long; within = omega arith; read = inner-read; numbers = f }
+        record { few = h .few; within = omega arith; read = inner-read; numbers = f }
 
     -- what follows a sibling, but for the counter
     module _ (x : ℕ) (ex : x ≡ turned own) (r : Reassigned) (ids″ : List ℕ) (g : Given s (is-map (kind-at s at)) (lv - 1) (kids-at s at) (at + 1) (set ids′ at x) next r ids″) where
@@ -183,7 +177,6 @@ module _ (s : List ℕ) (m? : Bool) (lv c k : ℕ) (ids : List ℕ) (first left 
           let i = run x ids″ ex (g .given) in
           record {
             few = h .few;
-            long = ap length (g .given) ∙ simp (length-sets, length-set) (h .long);
             within = rw e (inner-full .most (omega arith));
             read = rw e rest-read;
             fits = h .fits;

@@ -29,7 +29,6 @@ row-of s lv c k = part 0 (kids-at s) (slots s) lv c k
 -- The trees stand there, and there are numbers for their records.
 pub record Room (s : List ℕ) (lv c k : ℕ) (ids : List ℕ) (first : ℕ) : Type 0 where
   pub few : slots s ≤ 1024
-  pub long : length ids ≡ 1024
   pub within : k ≤ slots s
   pub read : reads 0 (kids-at s) (slots s) lv c k ≡ true
   pub numbers : first + size (row-of s lv c k .trees) < 4294967296

@@ -1,0 +1,62 @@
+-- What the two walks of pruning leave.
+use Prim.Native.Nat.{ℕ, _+_, _-_, _≤_}
+use mathlib.Core.Path.{_≡_}
+use mathlib.Core.Bool.{Bool}
+use mathlib.Core.List.{List}
+use lib.Dec.{eqb}
+use lib.ListN.{getD, set}
+use lib.Seq.{sets}
+use Rattle.paper.specs.declared.Role.{Role}
+use Rattle.paper.specs.Forest.{Forest, empty, node, size, siblings, mapped}
+use Rattle.paper.specs.Bytes.{rec-at, kind-at, kids-at, from}
+use Rattle.paper.specs.declared.Role.the-variants.{Member}
+use Rattle.tree.specs.declared.Walked.{Walked}
+use Rattle.tree.specs.Read.{itself}
+use Rattle.walk.specs.There.{row-of}
+use Rattle.tree.specs.Says.{walked-to}
+use Rattle.plan.specs.Plan.{Source, Laid}
+use Rattle.prune_columns.specs.declared.Step.{Step}
+use Rattle.prune_columns.specs.Split.{first-direct, projected}
+
+-- Which slots are chosen, by an array of marks.
+unfoldable pub marked : List ℕ → ℕ → Bool
+marked marks k = eqb (getD marks k 0) 1
+
+-- The first walk: refusal 20, or the slot after the trees.
+pub record Checked (s marks : List ℕ) (full : Bool) (lv c k : ℕ) (r : Role) (w : Walked) : Type 0 where
+  pub says : w ≡ walked-to 20 0 (row-of s lv c k .next) (first-direct (marked marks) (kind-at s) full r k (row-of s lv c k .trees))
+
+-- The record at a slot as it stands, as a plan has it.
+abbrev pub id-bits : List ℕ → ℕ → ℕ
+id-bits s k = rec-at s k .id
+
+abbrev pub own-source : List ℕ → ℕ → Source
+own-source s k = record { slot = k; id = id-bits s k }
+
+-- The second walk: the trees t are planned from place i on, and no other place has changed; the next slot is `past`.
+pub record Planned (s : List ℕ) (t : Forest ℕ) (past : ℕ) (xs is ks : List ℕ) (i : ℕ) (r : Step) (xs′ is′ ks′ : List ℕ) : Type 0 where
+  pub next : r .next ≡ past
+  pub at : r .at ≡ i + size t
+  pub count : r .count ≡ siblings t
+  pub room : r .at ≤ r .next
+  pub laid : Laid (mapped (own-source s) t) i xs is ks xs′ is′ ks′
+
+-- What is kept of c siblings from slot k on, of which the first has a role.
+abbrev pub Kept : (s marks : List ℕ) (full : Bool) (r : Role) (lv c k : ℕ) (xs is ks : List ℕ) (i : ℕ) (x : Step) (xs′ is′ ks′ : List ℕ) → Type 0
+Kept s marks full r lv c k = Planned s (projected (marked marks) (kind-at s) full r (row-of s lv c k .trees)) (row-of s lv c k .next)
+
+-- What is kept of the record at slot k, which is no key, and of its inside with lv levels left.
+abbrev pub KeptOne : (s marks : List ℕ) (full : Bool) (lv k : ℕ) (xs is ks : List ℕ) (i : ℕ) (x : Step) (xs′ is′ ks′ : List ℕ) → Type 0
+KeptOne s marks full lv k = Planned s (projected (marked marks) (kind-at s) full Member (node k (row-of s lv (kids-at s k) (k + 1) .trees) empty)) (row-of s lv (kids-at s k) (k + 1) .next)
+
+-- The records from slot a to slot e are planned as they stand, from place i on.
+pub record Copied (s : List ℕ) (a e : ℕ) (xs is ks : List ℕ) (i : ℕ) (xs′ is′ ks′ : List ℕ) : Type 0 where
+  pub slots : xs′ ≡ sets xs i (from itself a (e - a))
+  pub ids : is′ ≡ sets is i (from (id-bits s) a (e - a))
+  pub kids : ks′ ≡ sets ks i (from (kids-at s) a (e - a))
+
+-- The record at slot k is planned at place i, with so many members.
+pub record Stored (s : List ℕ) (k c : ℕ) (xs is ks : List ℕ) (i : ℕ) (xs′ is′ ks′ : List ℕ) : Type 0 where
+  pub slots : xs′ ≡ set xs i k
+  pub ids : is′ ≡ set is i (id-bits s k)
+  pub kids : ks′ ≡ set ks i c

@@ -1,0 +1,98 @@
+// prune_columns.rs: what is kept of a tree of which some records are chosen. The first walk finds refusal 20; the second plans
+// what is kept, in slot order. Both call themselves for the inside of a record, with the levels left falling.
+use paper::Kind;
+use paper::Role;
+use paper::is_key;
+use paper::is_struct;
+use paper::next_role;
+use record::Refusal;
+use record::kids_at;
+use record::kind_at;
+use record::le32;
+use tree::Walked;
+use tree::inside_role;
+ghost use mathlib.Core.Path.{_≡_};
+ghost use Prim.Native.Nat.{_+_, _*_, _≤_, _<_};
+ghost use lib.ListN.{length};
+ghost use Rattle.paper.specs.declared.Role.the-variants.{Member, Element, Key};
+ghost use Rattle.paper.specs.Field.{first};
+ghost use Rattle.paper.specs.Bytes.{kind-at, kids-at, slots};
+ghost use Rattle.walk.specs.There.{There};
+ghost use Rattle.prune_columns.specs.Split.{is-nested, direct};
+ghost use Rattle.prune_columns.specs.Projected.{Checked};
+
+// What was planned: the slot after the trees, the place after their plan, and how many of the siblings are kept.
+pub struct Step {
+    pub next: usize,
+    pub at: usize,
+    pub count: u32,
+}
+
+fn is_nested(k: Kind) -> bool
+    ensures { λ a. ⌜ a ≡ is-nested k ⌝ }
+{
+    match k {
+        Kind::Primitive => false,
+        Kind::Structure => false,
+        Kind::Listing => true,
+        Kind::Mapping => true,
+    }
+}
+
+// Whether a record is a list or map chosen directly, not in full mode. A key is never tested.
+fn is_direct(full: bool, role: Role, chosen: bool, kind: Kind) -> bool
+    ensures { λ r. ⌜ r ≡ direct full role chosen kind ⌝ }
+{
+    if is_key(role) {
+        return false;
+    }
+    chosen & (!full & is_nested(kind))
+}
+
+// Refusal 20 among `count` siblings and in their insides, which come first; or the slot after them.
+pub fn check_direct(
+    recs: &[u8],
+    marks: &[u8; 1024],
+    full: bool,
+    slot: usize,
+    count: u32,
+    levels: usize,
+    role: Role,
+) -> Walked
+    requires { ⌜ There (now recs) levels count slot ⌝ }
+    ensures { λ r. ⌜ Checked (now (recs .entry)) (now (marks .entry)) full levels count slot role r ⌝ }
+{
+    let mut at = slot;
+    let mut left = count;
+    let mut own = role;
+    while 0 < left {
+        let inside = inside_role(recs, at);
+        match check_direct(
+            recs,
+            marks,
+            full,
+            at + 1,
+            kids_at(recs, at),
+            levels - 1,
+            inside,
+        ) {
+            Walked::End(next) => {
+                let mark = marks[at];
+                if is_direct(full, own, mark == 1, kind_at(recs, at)) {
+                    return Walked::Refused(Refusal {
+                        number: 20, // refusal 20
+                        list: 0,
+                        place: at as u32,
+                    });
+                }
+                at = next;
+            }
+            Walked::Refused(r) => {
+                return Walked::Refused(r);
+            }
+        }
+        own = next_role(own);
+        left -= 1;
+    }
+    Walked::End(at)
+}
