@@ -1,1 +1,3 @@
 pub mod Directing
+pub mod Copying
+pub mod Planning

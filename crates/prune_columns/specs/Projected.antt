@@ -1,18 +1,18 @@
 -- What the two walks of pruning leave.
-use Prim.Native.Nat.{ℕ, _+_, _-_, _≤_}
+use Prim.Native.Nat.{ℕ, _+_, _-_, _*_, _≤_, _<_}
 use mathlib.Core.Path.{_≡_}
 use mathlib.Core.Bool.{Bool}
 use mathlib.Core.List.{List}
 use lib.Dec.{eqb}
-use lib.ListN.{getD, set}
+use lib.ListN.{length, getD, set}
 use lib.Seq.{sets}
 use Rattle.paper.specs.declared.Role.{Role}
 use Rattle.paper.specs.Forest.{Forest, empty, node, size, siblings, mapped}
-use Rattle.paper.specs.Bytes.{rec-at, kind-at, kids-at, from}
+use Rattle.paper.specs.Bytes.{rec-at, kind-at, kids-at, slots, from}
 use Rattle.paper.specs.declared.Role.the-variants.{Member}
 use Rattle.tree.specs.declared.Walked.{Walked}
 use Rattle.tree.specs.Read.{itself}
-use Rattle.walk.specs.There.{row-of}
+use Rattle.walk.specs.There.{row-of, There}
 use Rattle.tree.specs.Says.{walked-to}
 use Rattle.plan.specs.Plan.{Source, Laid}
 use Rattle.prune_columns.specs.declared.Step.{Step}
@@ -45,9 +45,28 @@ pub record Planned (s : List ℕ) (t : Forest ℕ) (past : ℕ) (xs is ks : List
 abbrev pub Kept : (s marks : List ℕ) (full : Bool) (r : Role) (lv c k : ℕ) (xs is ks : List ℕ) (i : ℕ) (x : Step) (xs′ is′ ks′ : List ℕ) → Type 0
 Kept s marks full r lv c k = Planned s (projected (marked marks) (kind-at s) full r (row-of s lv c k .trees)) (row-of s lv c k .next)
 
--- What is kept of the record at slot k, which is no key, and of its inside with lv levels left.
+-- The record at slot k with its inside, which has lv levels left; places up to i are planned.
+pub record Spot (s : List ℕ) (lv k i : ℕ) : Type 0 where
+  pub record-in : k < slots s
+  pub inside : There s lv (kids-at s k) (k + 1)
+  pub room : i ≤ k
+
+abbrev pub tree-at : List ℕ → (lv k : ℕ) → Forest ℕ
+tree-at s lv k = node k (row-of s lv (kids-at s k) (k + 1) .trees) empty
+
+abbrev pub KeptWhole : (s : List ℕ) (lv k : ℕ) (xs is ks : List ℕ) (i : ℕ) (x : Step) (xs′ is′ ks′ : List ℕ) → Type 0
+KeptWhole s lv k = Planned s (tree-at s lv k) (row-of s lv (kids-at s k) (k + 1) .next)
+
+-- What is kept of a record that is no key.
 abbrev pub KeptOne : (s marks : List ℕ) (full : Bool) (lv k : ℕ) (xs is ks : List ℕ) (i : ℕ) (x : Step) (xs′ is′ ks′ : List ℕ) → Type 0
-KeptOne s marks full lv k = Planned s (projected (marked marks) (kind-at s) full Member (node k (row-of s lv (kids-at s k) (k + 1) .trees) empty)) (row-of s lv (kids-at s k) (k + 1) .next)
+KeptOne s marks full lv k = Planned s (projected (marked marks) (kind-at s) full Member (tree-at s lv k)) (row-of s lv (kids-at s k) (k + 1) .next)
+
+-- The records from slot a to slot e may be planned from place i on.
+pub record Span (s : List ℕ) (a e i : ℕ) : Type 0 where
+  pub ordered : a ≤ e
+  pub bytes : e * 24 ≤ length s
+  pub few : e ≤ 1024
+  pub room : i ≤ a
 
 -- The records from slot a to slot e are planned as they stand, from place i on.
 pub record Copied (s : List ℕ) (a e : ℕ) (xs is ks : List ℕ) (i : ℕ) (xs′ is′ ks′ : List ℕ) : Type 0 where
@@ -55,8 +74,9 @@ pub record Copied (s : List ℕ) (a e : ℕ) (xs is ks : List ℕ) (i : ℕ) (xs
   pub ids : is′ ≡ sets is i (from (id-bits s) a (e - a))
   pub kids : ks′ ≡ sets ks i (from (kids-at s) a (e - a))
 
--- The record at slot k is planned at place i, with so many members.
-pub record Stored (s : List ℕ) (k c : ℕ) (xs is ks : List ℕ) (i : ℕ) (xs′ is′ ks′ : List ℕ) : Type 0 where
+-- The record at slot k is planned at place i, with the members that stand behind it.
+pub record Stored (s : List ℕ) (k : ℕ) (inside : Step) (xs is ks : List ℕ) (i : ℕ) (r : Step) (xs′ is′ ks′ : List ℕ) : Type 0 where
+  pub step : r ≡ record { next = inside .next; at = inside .at; count = 1 }
   pub slots : xs′ ≡ set xs i k
   pub ids : is′ ≡ set is i (id-bits s k)
-  pub kids : ks′ ≡ set ks i c
+  pub kids : ks′ ≡ set ks i (inside .count)

@@ -11,6 +11,7 @@ use record::kind_at;
 use record::le32;
 use tree::Walked;
 use tree::inside_role;
+use walk::row_past;
 ghost use mathlib.Core.Path.{_≡_};
 ghost use Prim.Native.Nat.{_+_, _*_, _≤_, _<_};
 ghost use lib.ListN.{length};
@@ -19,7 +20,7 @@ ghost use Rattle.paper.specs.Field.{first};
 ghost use Rattle.paper.specs.Bytes.{kind-at, kids-at, slots};
 ghost use Rattle.walk.specs.There.{There};
 ghost use Rattle.prune_columns.specs.Split.{is-nested, direct};
-ghost use Rattle.prune_columns.specs.Projected.{Checked};
+ghost use Rattle.prune_columns.specs.Projected.{Checked, KeptWhole, Spot, Span, Copied, Stored};
 
 // What was planned: the slot after the trees, the place after their plan, and how many of the siblings are kept.
 pub struct Step {
@@ -95,4 +96,73 @@ pub fn check_direct(
         left -= 1;
     }
     Walked::End(at)
+}
+
+// The records from slot `from` to slot `to` as they stand, planned from place `at` on.
+fn copy_records(
+    recs: &[u8],
+    from: usize,
+    to: usize,
+    slots: &mut [u16; 1024],
+    ids: &mut [u32; 1024],
+    kids: &mut [u16; 1024],
+    at: usize,
+)
+    requires { ⌜ Span (now recs) from to at ⌝ }
+    ensures { λ r. ⌜ Copied (now (recs .entry)) from to (now (slots .entry)) (now (ids .entry)) (now (kids .entry)) at (now (slots .exit)) (now (ids .exit)) (now (kids .exit)) ⌝ }
+{
+    let mut i = from;
+    let mut p = at;
+    while i < to {
+        slots[p] = i as u16;
+        ids[p] = le32(recs, i * 24);
+        kids[p] = kids_at(recs, i) as u16;
+        i += 1;
+        p += 1;
+    }
+}
+
+// The record at `slot`, planned at place `at` with what its type yielded, which stands behind that place.
+fn put_record(
+    recs: &[u8],
+    slot: usize,
+    inside: Step,
+    slots: &mut [u16; 1024],
+    ids: &mut [u32; 1024],
+    kids: &mut [u16; 1024],
+    at: usize,
+) -> Step
+    requires { ⌜ (slot * 24 + 24 ≤ length (now recs)) × (slot < 1024) × (at ≤ slot) × (inside .count < 65536) ⌝ }
+    ensures { λ r. ⌜ Stored (now (recs .entry)) slot inside (now (slots .entry)) (now (ids .entry)) (now (kids .entry)) at r (now (slots .exit)) (now (ids .exit)) (now (kids .exit)) ⌝ }
+{
+    slots[at] = slot as u16;
+    ids[at] = le32(recs, slot * 24);
+    kids[at] = inside.count as u16;
+    Step {
+        next: inside.next,
+        at: inside.at,
+        count: 1,
+    }
+}
+
+// The record at `slot` with all its inside.
+fn project_whole(
+    recs: &[u8],
+    slot: usize,
+    levels: usize,
+    slots: &mut [u16; 1024],
+    ids: &mut [u32; 1024],
+    kids: &mut [u16; 1024],
+    at: usize,
+) -> Step
+    requires { ⌜ Spot (now recs) levels slot at ⌝ }
+    ensures { λ r. ⌜ KeptWhole (now (recs .entry)) levels slot (now (slots .entry)) (now (ids .entry)) (now (kids .entry)) at r (now (slots .exit)) (now (ids .exit)) (now (kids .exit)) ⌝ }
+{
+    let past = row_past(recs, slot + 1, kids_at(recs, slot), levels);
+    copy_records(recs, slot, past, slots, ids, kids, at);
+    Step {
+        next: past,
+        at: at + (past - slot),
+        count: 1,
+    }
 }
