@@ -33,7 +33,7 @@ use Rattle.prune_columns.specs.Split.{held, projected}
 use Rattle.prune_columns.specs.Projected.{marked, id-bits, own-source, Planned, Spot, tree-at, KeptWhole, KeptOne, Span, Copied, Stored}
 
 -- A record stored after its inside.
-laid-last : (a : Source) (m : Forest Source) (i c : ℕ) (xs is ks x₁ i₁ k₁ : List ℕ) → c ≡ siblings m → Laid m (i + 1) xs is ks x₁ i₁ k₁ → Laid (node a m empty) i xs is ks (set x₁ i (a .slot)) (set i₁ i (a .id)) (set k₁ i c)
+pub laid-last : (a : Source) (m : Forest Source) (i c : ℕ) (xs is ks x₁ i₁ k₁ : List ℕ) → c ≡ siblings m → Laid m (i + 1) xs is ks x₁ i₁ k₁ → Laid (node a m empty) i xs is ks (set x₁ i (a .slot)) (set i₁ i (a .id)) (set k₁ i c)
 laid-last a m i c xs is ks x₁ i₁ k₁ e h =
     laid-node a m i c xs is ks (set x₁ i (a .slot)) (set i₁ i (a .id)) (set k₁ i c) e
     (record {
@@ -43,7 +43,7 @@ laid-last a m i c xs is ks x₁ i₁ k₁ e h =
     })
 
 -- Trees that stand in a row, copied.
-copied-laid : (s : List ℕ) (p : Part) (c k : ℕ) (xs is ks : List ℕ) (i : ℕ) (xs′ is′ ks′ : List ℕ) → Full (kids-at s) (slots s) c k p → Copied s k (p .next) xs is ks i xs′ is′ ks′ → Laid (mapped (own-source s) (p .trees)) i xs is ks xs′ is′ ks′
+pub copied-laid : (s : List ℕ) (p : Part) (c k : ℕ) (xs is ks : List ℕ) (i : ℕ) (xs′ is′ ks′ : List ℕ) → Full (kids-at s) (slots s) c k p → Copied s k (p .next) xs is ks i xs′ is′ ks′ → Laid (mapped (own-source s) (p .trees)) i xs is ks xs′ is′ ks′
 copied-laid s p c k xs is ks i xs′ is′ ks′ f h =
     let e : p .next - k ≡ size (p .trees) = omega (arith, f .next) in
     laid-row p (kids-at s) itself (id-bits s) (slots s) c k i (p .next - k) xs is ks xs′ is′ ks′ f e (h .slots) (h .ids) (h .kids)
@@ -59,6 +59,11 @@ module _ (s : List ℕ) (lv k i : ℕ) (h : Spot s lv k i) where
       let j = row-of s lv (kids-at s k) (k + 1) .next in
       let f : Full (kids-at s) (slots s) (kids-at s k) (suc k) (row-of s lv (kids-at s k) (k + 1)) = subst (λ (z : ℕ). Full (kids-at s) (slots s) (kids-at s k) z (row-of s lv (kids-at s k) (k + 1))) (add-one k) (there-full s lv (kids-at s k) (k + 1) (h .inside)) in
       full-join (kids-at s) (slots s) (kids-at s k) 0 k _ _ (h .record-in) refl f (full 0 (kids-at s) (slots s) 0 0 j (nothing j) (row-none 0 (kids-at s) (slots s) 0 0 j refl))
+
+  -- the record with its inside, copied
+  pub tree-laid : (xs is ks xs′ is′ ks′ : List ℕ) → Copied s k (row-of s lv (kids-at s k) (k + 1) .next) xs is ks i xs′ is′ ks′ → Laid (mapped (own-source s) (tree-at s lv k)) i xs is ks xs′ is′ ks′
+  unfolding alone
+  tree-laid xs is ks xs′ is′ ks′ c = copied-laid s alone 1 k xs is ks i xs′ is′ ks′ alone-full c
 
   pub spot-past : (k + 1 ≤ row-of s lv (kids-at s k) (k + 1) .next) × (row-of s lv (kids-at s k) (k + 1) .next ≤ 1024) × (row-of s lv (kids-at s k) (k + 1) .next * 24 ≤ length s)
   spot-past =
@@ -99,7 +104,7 @@ module _ (s : List ℕ) (lv k i : ℕ) (h : Spot s lv k i) where
         at = omega arith;
         count = refl;
         room = omega arith;
-        laid = copied-laid s alone 1 k xs is ks i xs′ is′ ks′ alone-full (rw q at c);
+        laid = tree-laid xs is ks xs′ is′ ks′ (rw q at c);
       }
 
 pub ruleset planning = (spot-there, spot-bytes, spot-place, copy-asks, whole-fits, whole-planned)

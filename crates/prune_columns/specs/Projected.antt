@@ -8,6 +8,7 @@ use lib.ListN.{length, getD, set}
 use lib.Seq.{sets}
 use Rattle.paper.specs.declared.Role.{Role}
 use Rattle.paper.specs.Forest.{Forest, empty, node, size, siblings, mapped}
+use Rattle.paper.specs.Field.{first}
 use Rattle.paper.specs.Bytes.{rec-at, kind-at, kids-at, slots, from}
 use Rattle.paper.specs.declared.Role.the-variants.{Member}
 use Rattle.tree.specs.declared.Walked.{Walked}
@@ -41,6 +42,11 @@ pub record Planned (s : List ℕ) (t : Forest ℕ) (past : ℕ) (xs is ks : List
   pub room : r .at ≤ r .next
   pub laid : Laid (mapped (own-source s) t) i xs is ks xs′ is′ ks′
 
+-- Trees that stand there; places up to i are planned.
+pub record Row (s : List ℕ) (lv c k i : ℕ) : Type 0 where
+  pub there : There s lv c k
+  pub room : i ≤ k
+
 -- What is kept of c siblings from slot k on, of which the first has a role.
 abbrev pub Kept : (s marks : List ℕ) (full : Bool) (r : Role) (lv c k : ℕ) (xs is ks : List ℕ) (i : ℕ) (x : Step) (xs′ is′ ks′ : List ℕ) → Type 0
 Kept s marks full r lv c k = Planned s (projected (marked marks) (kind-at s) full r (row-of s lv c k .trees)) (row-of s lv c k .next)
@@ -51,11 +57,27 @@ pub record Spot (s : List ℕ) (lv k i : ℕ) : Type 0 where
   pub inside : There s lv (kids-at s k) (k + 1)
   pub room : i ≤ k
 
+-- The same, with the record's own place passed.
+pub record Behind (s : List ℕ) (lv k i : ℕ) : Type 0 where
+  pub record-in : k < slots s
+  pub inside : There s lv (kids-at s k) (k + 1)
+  pub room : i ≤ k + 1
+
 abbrev pub tree-at : List ℕ → (lv k : ℕ) → Forest ℕ
 tree-at s lv k = node k (row-of s lv (kids-at s k) (k + 1) .trees) empty
 
 abbrev pub KeptWhole : (s : List ℕ) (lv k : ℕ) (xs is ks : List ℕ) (i : ℕ) (x : Step) (xs′ is′ ks′ : List ℕ) → Type 0
 KeptWhole s lv k = Planned s (tree-at s lv k) (row-of s lv (kids-at s k) (k + 1) .next)
+
+-- The record with what its type yields, and what its type yields.
+abbrev pub yield-at : (s marks : List ℕ) (full : Bool) (lv k : ℕ) → Forest ℕ
+yield-at s marks full lv k = projected (marked marks) (kind-at s) full (first (kind-at s k)) (row-of s lv (kids-at s k) (k + 1) .trees)
+
+abbrev pub KeptYield : (s marks : List ℕ) (full : Bool) (lv k : ℕ) (xs is ks : List ℕ) (i : ℕ) (x : Step) (xs′ is′ ks′ : List ℕ) → Type 0
+KeptYield s marks full lv k = Planned s (node k (yield-at s marks full lv k) empty) (row-of s lv (kids-at s k) (k + 1) .next)
+
+abbrev pub KeptInside : (s marks : List ℕ) (full : Bool) (lv k : ℕ) (xs is ks : List ℕ) (i : ℕ) (x : Step) (xs′ is′ ks′ : List ℕ) → Type 0
+KeptInside s marks full lv k = Planned s (yield-at s marks full lv k) (row-of s lv (kids-at s k) (k + 1) .next)
 
 -- What is kept of a record that is no key.
 abbrev pub KeptOne : (s marks : List ℕ) (full : Bool) (lv k : ℕ) (xs is ks : List ℕ) (i : ℕ) (x : Step) (xs′ is′ ks′ : List ℕ) → Type 0

@@ -11,6 +11,7 @@ use record::kind_at;
 use record::le32;
 use tree::Walked;
 use tree::inside_role;
+use walk::is_map;
 use walk::row_past;
 ghost use mathlib.Core.Path.{_≡_};
 ghost use Prim.Native.Nat.{_+_, _*_, _≤_, _<_};
@@ -20,7 +21,20 @@ ghost use Rattle.paper.specs.Field.{first};
 ghost use Rattle.paper.specs.Bytes.{kind-at, kids-at, slots};
 ghost use Rattle.walk.specs.There.{There};
 ghost use Rattle.prune_columns.specs.Split.{is-nested, direct};
-ghost use Rattle.prune_columns.specs.Projected.{Checked, KeptWhole, Spot, Span, Copied, Stored};
+ghost use Rattle.prune_columns.specs.Projected.{
+  Checked,
+  Row,
+  Spot,
+  Behind,
+  Kept,
+  KeptOne,
+  KeptWhole,
+  KeptYield,
+  KeptInside,
+  Span,
+  Copied,
+  Stored,
+};
 
 // What was planned: the slot after the trees, the place after their plan, and how many of the siblings are kept.
 pub struct Step {
@@ -164,5 +178,232 @@ fn project_whole(
         next: past,
         at: at + (past - slot),
         count: 1,
+    }
+}
+
+// What is kept of the roots, or of the members of a struct: what each keeps, in order.
+pub fn project_fields(
+    recs: &[u8],
+    marks: &[u8; 1024],
+    full: bool,
+    slot: usize,
+    count: u32,
+    levels: usize,
+    slots: &mut [u16; 1024],
+    ids: &mut [u32; 1024],
+    kids: &mut [u16; 1024],
+    at: usize,
+) -> Step
+    requires { ⌜ Row (now recs) levels count slot at ⌝ }
+    ensures { λ r. ⌜ Kept (now (recs .entry)) (now (marks .entry)) full Member levels count slot (now (slots .entry)) (now (ids .entry)) (now (kids .entry)) at r (now (slots .exit)) (now (ids .exit)) (now (kids .exit)) ⌝ }
+{
+    let mut next = slot;
+    let mut left = count;
+    let mut place = at;
+    let mut kept: u32 = 0;
+    while 0 < left {
+        let one = project_field(recs, marks, full, next, levels - 1, slots, ids, kids, place);
+        next = one.next;
+        place = one.at;
+        kept += one.count;
+        left -= 1;
+    }
+    Step {
+        next,
+        at: place,
+        count: kept,
+    }
+}
+
+// What is kept of one record that is no key: chosen, all of it or, of a struct, what it yields; not chosen, what its type
+// yields. (A list or map that is chosen directly was refused with 20.)
+fn project_field(
+    recs: &[u8],
+    marks: &[u8; 1024],
+    full: bool,
+    slot: usize,
+    levels: usize,
+    slots: &mut [u16; 1024],
+    ids: &mut [u32; 1024],
+    kids: &mut [u16; 1024],
+    at: usize,
+) -> Step
+    requires { ⌜ Spot (now recs) levels slot at ⌝ }
+    ensures { λ r. ⌜ KeptOne (now (recs .entry)) (now (marks .entry)) full levels slot (now (slots .entry)) (now (ids .entry)) (now (kids .entry)) at r (now (slots .exit)) (now (ids .exit)) (now (kids .exit)) ⌝ }
+{
+    let mark = marks[slot];
+    if mark == 1 {
+        if full | !is_struct(kind_at(recs, slot)) {
+            return project_whole(recs, slot, levels, slots, ids, kids, at);
+        }
+        return project_selected_struct(recs, marks, full, slot, levels, slots, ids, kids, at);
+    }
+    let inside = project_type(recs, marks, full, slot, levels, slots, ids, kids, at + 1);
+    if inside.count == 0 {
+        return Step {
+            next: inside.next,
+            at,
+            count: 0,
+        };
+    }
+    put_record(recs, slot, inside, slots, ids, kids, at)
+}
+
+// A chosen struct: what it yields, or an empty struct.
+fn project_selected_struct(
+    recs: &[u8],
+    marks: &[u8; 1024],
+    full: bool,
+    slot: usize,
+    levels: usize,
+    slots: &mut [u16; 1024],
+    ids: &mut [u32; 1024],
+    kids: &mut [u16; 1024],
+    at: usize,
+) -> Step
+    requires { ⌜ Spot (now recs) levels slot at ⌝ }
+    ensures { λ r. ⌜ KeptYield (now (recs .entry)) (now (marks .entry)) full levels slot (now (slots .entry)) (now (ids .entry)) (now (kids .entry)) at r (now (slots .exit)) (now (ids .exit)) (now (kids .exit)) ⌝ }
+{
+    let inside = project_type(recs, marks, full, slot, levels, slots, ids, kids, at + 1);
+    put_record(recs, slot, inside, slots, ids, kids, at)
+}
+
+// What the type of the record at `slot` yields.
+fn project_type(
+    recs: &[u8],
+    marks: &[u8; 1024],
+    full: bool,
+    slot: usize,
+    levels: usize,
+    slots: &mut [u16; 1024],
+    ids: &mut [u32; 1024],
+    kids: &mut [u16; 1024],
+    at: usize,
+) -> Step
+    requires { ⌜ Behind (now recs) levels slot at ⌝ }
+    ensures { λ r. ⌜ KeptInside (now (recs .entry)) (now (marks .entry)) full levels slot (now (slots .entry)) (now (ids .entry)) (now (kids .entry)) at r (now (slots .exit)) (now (ids .exit)) (now (kids .exit)) ⌝ }
+{
+    let members = kids_at(recs, slot);
+    if members == 0 {
+        return Step {
+            next: slot + 1,
+            at,
+            count: 0,
+        };
+    }
+    let kind = kind_at(recs, slot);
+    if is_map(kind) {
+        return project_map(
+            recs,
+            marks,
+            full,
+            slot + 1,
+            members,
+            levels,
+            slots,
+            ids,
+            kids,
+            at,
+        );
+    }
+    if is_nested(kind) {
+        return project_list(
+            recs,
+            marks,
+            full,
+            slot + 1,
+            members,
+            levels,
+            slots,
+            ids,
+            kids,
+            at,
+        );
+    }
+    project_fields(
+        recs,
+        marks,
+        full,
+        slot + 1,
+        members,
+        levels,
+        slots,
+        ids,
+        kids,
+        at,
+    )
+}
+
+// A list: the same tests on its element.
+fn project_list(
+    recs: &[u8],
+    marks: &[u8; 1024],
+    full: bool,
+    slot: usize,
+    count: u32,
+    levels: usize,
+    slots: &mut [u16; 1024],
+    ids: &mut [u32; 1024],
+    kids: &mut [u16; 1024],
+    at: usize,
+) -> Step
+    requires { ⌜ Row (now recs) levels count slot at ⌝ }
+    ensures { λ r. ⌜ Kept (now (recs .entry)) (now (marks .entry)) full Element levels count slot (now (slots .entry)) (now (ids .entry)) (now (kids .entry)) at r (now (slots .exit)) (now (ids .exit)) (now (kids .exit)) ⌝ }
+{
+    project_fields(recs, marks, full, slot, count, levels, slots, ids, kids, at)
+}
+
+// A map, from its key's slot on: the key whole if the value keeps something; else all of it for a chosen key; else nothing.
+fn project_map(
+    recs: &[u8],
+    marks: &[u8; 1024],
+    full: bool,
+    slot: usize,
+    count: u32,
+    levels: usize,
+    slots: &mut [u16; 1024],
+    ids: &mut [u32; 1024],
+    kids: &mut [u16; 1024],
+    at: usize,
+) -> Step
+    requires { ⌜ (0 < count) × Row (now recs) levels count slot at ⌝ }
+    ensures { λ r. ⌜ Kept (now (recs .entry)) (now (marks .entry)) full Key levels count slot (now (slots .entry)) (now (ids .entry)) (now (kids .entry)) at r (now (slots .exit)) (now (ids .exit)) (now (kids .exit)) ⌝ }
+{
+    let value = row_past(recs, slot + 1, kids_at(recs, slot), levels - 1);
+    let behind = at + (value - slot);
+    let rest = project_fields(
+        recs,
+        marks,
+        full,
+        value,
+        count - 1,
+        levels,
+        slots,
+        ids,
+        kids,
+        behind,
+    );
+    let past = rest.next;
+    if 0 < rest.count {
+        copy_records(recs, slot, value, slots, ids, kids, at);
+        return Step {
+            next: past,
+            at: rest.at,
+            count: rest.count + 1,
+        };
+    }
+    let mark = marks[slot];
+    if mark == 1 {
+        copy_records(recs, slot, past, slots, ids, kids, at);
+        return Step {
+            next: past,
+            at: at + (past - slot),
+            count,
+        };
+    }
+    Step {
+        next: past,
+        at,
+        count: 0,
     }
 }
