@@ -1,23 +1,23 @@
 -- The loop over the roots: `search rooting`. W is the whole answer.
-use mathlib.Core.Path.{_≡_, refl, sym, ap, _∙_}
-use mathlib.Core.List.{List, [], _∷_, _++_}
+use mathlib.Core.Path.{_≡_, refl, sym, _∙_}
 use Prim.Native.Nat.{ℕ, zero, suc, _+_, _-_, _<_, _≤_}
 use native.Mathlib.Nat.{add-zero}
 use native.Mathlib.Numerals.{add-one, sub-one}
 use native.Mathlib.Omega.{arith}
-use mathlib.Core.Logic.{_⊎_, inl, inr, ⊎-elim}
+use mathlib.Core.Logic.{⊎-elim}
 use borrow.Author.Tests.{lt-ltb, le-ltb}
 use Rattle.record.specs.declared.Refusal.{Refusal}
 use Rattle.paper.specs.Answer.{Answer, ok, refused, _>>=_}
-use Rattle.paper.specs.Forest.{Forest, empty, node, size, siblings, preorder, counts}
+use Rattle.paper.specs.Forest.{siblings}
 use Rattle.tree.specs.declared.Walked.{Walked}
 use Rattle.tree.specs.declared.Walked.the-variants as walked
 use Rattle.tree.specs.declared.Shaped.{Shaped}
 use Rattle.tree.specs.declared.Shaped.the-variants as shaped
 use Rattle.paper.specs.Layout.{Part, nothing, before, row, roots}
 use Rattle.tree.specs.Says.{ended, rooted}
-use Rattle.tree.proofs.Reading.{row-none, row-deep, row-past, row-in}
-use Rattle.tree.proofs.Filled.{lt-or-le, unbind, ok-is, full, end-room}
+use Rattle.tree.proofs.Reading.{row-none, row-in}
+use Rattle.tree.proofs.Filled.{lt-or-le, full, end-room}
+use Rattle.laws.proofs.Basics.{unbind, ok-is}
 
 module _ (li : ℕ) (kids : ℕ → ℕ) (n : ℕ) where
   pub roots-past : (f k : ℕ) → n ≤ k → roots li kids n f k ≡ ok (nothing k)

@@ -1,4 +1,5 @@
 // Trees of records: refusals 5 and 6, and 3 to 6 together.
+use limits::sized;
 use paper::Role;
 use paper::first_role;
 use paper::next_role;
@@ -23,18 +24,21 @@ ghost use Rattle.paper.specs.Layout.{row, roots};
 ghost use Rattle.paper.specs.Decode.{decode};
 ghost use Rattle.tree.specs.Read.{reads};
 ghost use Rattle.tree.specs.Says.{ended, rooted, decoded, Labelled};
+ghost use Rattle.tree.specs.Only.{only-read};
 
+// Where a walk over a row of trees ends, or why it stops.
 pub enum Walked {
     End(usize),
     Refused(Refusal),
 }
 
+// How many roots a tree has, or why it is turned down.
 pub enum Shaped {
     Roots(u32),
     Refused(Refusal),
 }
 
-// Where `count` trees from `slot` on end, with `levels` levels left for them. A loop over the siblings.
+// Where `count` trees from `slot` on end, with `levels` levels left for them, or refusal 5. A loop over the siblings.
 pub fn row_end(recs: &[u8], n: usize, slot: usize, count: u32, levels: usize, list: u32) -> Walked
     requires { ⌜ (n * 24 ≤ length (now recs)) × (n ≤ 1024) × (slot ≤ n) ⌝ }
     ensures { λ r. ⌜ r ≡ ended (row list (kids-at (now (recs .entry))) n levels count slot) ⌝ }
@@ -42,6 +46,7 @@ pub fn row_end(recs: &[u8], n: usize, slot: usize, count: u32, levels: usize, li
     let mut at = slot;
     let mut left = count;
     while 0 < left {
+        // refusal 5: level 17
         if levels == 0 {
             return Walked::Refused(Refusal {
                 number: 5,
@@ -49,6 +54,7 @@ pub fn row_end(recs: &[u8], n: usize, slot: usize, count: u32, levels: usize, li
                 place: at as u32,
             });
         }
+        // refusal 5: past the end
         if n <= at {
             return Walked::Refused(Refusal {
                 number: 5,
@@ -70,7 +76,7 @@ pub fn row_end(recs: &[u8], n: usize, slot: usize, count: u32, levels: usize, li
     Walked::End(at)
 }
 
-// Refusal 5, or the number of roots.
+// The number of roots, or refusal 5.
 pub fn check_shape(recs: &[u8], n: usize, list: u32) -> Shaped
     requires { ⌜ (n * 24 ≤ length (now recs)) × (n ≤ 1024) ⌝ }
     ensures { λ r. ⌜ r ≡ rooted 0 (roots list (kids-at (now (recs .entry))) n n 0) ⌝ }
@@ -112,6 +118,7 @@ pub fn inside_role(recs: &[u8], slot: usize) -> Role
     first_role(kind_at(recs, slot))
 }
 
+// Whether a record has a name that its role allows.
 fn label_ok(recs: &[u8], pool: &[u8], slot: usize, role: Role) -> bool
     requires { ⌜ (slot * 24 + 24 ≤ length (now recs)) × (in-pool (length (now pool)) (now recs) slot ≡ true) ⌝ }
     ensures { λ r. ⌜ r ≡ fitting role (name-of (now (pool .entry)) (now (recs .entry)) slot) ⌝ }
@@ -119,7 +126,7 @@ fn label_ok(recs: &[u8], pool: &[u8], slot: usize, role: Role) -> bool
     fits_role(name_at(pool, recs, slot), role)
 }
 
-// Refusal 6 in a row of trees, or where the row ends.
+// Where a row of trees ends, or refusal 6. A loop over the siblings; refusal 5 was tested, so each is there.
 pub fn check_labels(
     recs: &[u8],
     pool: &[u8],
@@ -133,40 +140,34 @@ pub fn check_labels(
     requires { ⌜ (n * 24 ≤ length (now recs)) × (n ≤ 1024) × (slot ≤ n) × (reads list (kids-at (now recs)) n levels count slot ≡ true) × (lowest (in-pool (length (now pool)) (now recs)) 0 n ≡ none) ⌝ }
     ensures { λ r. ⌜ Labelled (now (pool .entry)) (now (recs .entry)) list n levels count slot role r ⌝ }
 {
-    if count == 0 {
-        return Walked::End(slot);
+    let mut at = slot;
+    let mut left = count;
+    let mut part = role;
+    while 0 < left {
+        if !label_ok(recs, pool, at, part) {
+            return Walked::Refused(Refusal {
+                number: 6,
+                list,
+                place: at as u32,
+            });
+        }
+        let kids = kids_at(recs, at);
+        let inside = inside_role(recs, at);
+        match check_labels(recs, pool, n, at + 1, kids, levels - 1, inside, list) {
+            Walked::End(next) => {
+                at = next;
+            }
+            Walked::Refused(r) => {
+                return Walked::Refused(r);
+            }
+        }
+        part = next_role(part);
+        left -= 1;
     }
-    if levels == 0 {
-        return Walked::End(slot);
-    }
-    if n <= slot {
-        return Walked::End(slot);
-    }
-    if !label_ok(recs, pool, slot, role) {
-        return Walked::Refused(Refusal {
-            number: 6,
-            list,
-            place: slot as u32,
-        });
-    }
-    let kids = kids_at(recs, slot);
-    let inside = inside_role(recs, slot);
-    match check_labels(recs, pool, n, slot + 1, kids, levels - 1, inside, list) {
-        Walked::End(next) => check_labels(
-            recs,
-            pool,
-            n,
-            next,
-            count - 1,
-            levels,
-            next_role(role),
-            list,
-        ),
-        Walked::Refused(r) => Walked::Refused(r),
-    }
+    Walked::End(at)
 }
 
-// Refusals 3 to 6, or the number of roots.
+// Refusals 3 to 6, or the number of roots: what `decode` gives. Refusal 2 is tested before it, for everything at once, hence the length.
 pub fn check_tree(recs: &[u8], pool: &[u8], list: u32) -> Shaped
     requires { ⌜ length (now recs) ≤ 24576 ⌝ }
     ensures { λ r. ⌜ r ≡ decoded (decode list (now (recs .entry)) (now (pool .entry))) ⌝ }
@@ -194,4 +195,19 @@ pub fn check_tree(recs: &[u8], pool: &[u8], list: u32) -> Shaped
         },
         Shaped::Refused(r) => Shaped::Refused(r),
     }
+}
+
+// Refusals 2 to 6, or the number of roots, of a tree that is only read.
+pub fn read_tree(recs: &[u8], pool: &[u8]) -> Shaped
+    ensures { λ r. ⌜ r ≡ decoded (only-read (now (recs .entry)) (now (pool .entry))) ⌝ }
+{
+    if !sized(recs, pool) {
+        // refusal 2
+        return Shaped::Refused(Refusal {
+            number: 2,
+            list: 0,
+            place: 0,
+        });
+    }
+    check_tree(recs, pool, 0)
 }
