@@ -10,3 +10,4 @@ pub mod Written
 pub mod RoundTrip
 pub mod Fitting
 pub mod Natural
+pub mod Same
