@@ -22,8 +22,10 @@ use Rattle.laws.proofs.Fitting.{size-mapped, siblings-mapped}
 use Rattle.laws.proofs.Runs.{sets-before, sets-append}
 use Rattle.laws.proofs.Written.{siblings-size}
 use Rattle.tree.specs.Read.{itself}
-use Rattle.tree.proofs.Reading.{row-none}
-use Rattle.tree.proofs.Filled.{Full, full, full-join}
+use Rattle.tree.proofs.Reading.{row-none, row-in}
+use Rattle.tree.proofs.Steps.{was-read}
+use Rattle.tree.proofs.Filled.{Full, full}
+use Rattle.laws.proofs.Basics.{rebind}
 use Rattle.plan.specs.Plan.{Source, slot-of, bits-of, Laid}
 use Rattle.plan.proofs.Laying.{laid-none, laid-node, laid-row, laid-then}
 use Rattle.walk.specs.There.{row-of, There}
@@ -57,8 +59,10 @@ module _ (s : List ℕ) (lv k i : ℕ) (h : Spot s lv k i) where
   unfolding alone
   alone-full =
       let j = row-of s lv (kids-at s k) (k + 1) .next in
-      let f : Full (kids-at s) (slots s) (kids-at s k) (suc k) (row-of s lv (kids-at s k) (k + 1)) = subst (λ (z : ℕ). Full (kids-at s) (slots s) (kids-at s k) z (row-of s lv (kids-at s k) (k + 1))) (add-one k) (there-full s lv (kids-at s k) (k + 1) (h .inside)) in
-      full-join (kids-at s) (slots s) (kids-at s k) 0 k _ _ (h .record-in) refl f (full 0 (kids-at s) (slots s) 0 0 j (nothing j) (row-none 0 (kids-at s) (slots s) 0 0 j refl))
+      let q : lv + 1 - 1 ≡ lv = omega arith in
+      full 0 (kids-at s) (slots s) (lv + 1) 1 k alone
+      (row-in 0 (kids-at s) (slots s) (lv + 1) 1 k (λ z. omega arith) (λ z. omega arith) (h .record-in)
+      ∙ rw q (rebind _ _ (was-read 0 (kids-at s) (slots s) lv (kids-at s k) (k + 1) (h .inside .read)) (rebind _ _ (row-none 0 (kids-at s) (slots s) (lv + 1) 0 j refl) refl)))
 
   -- the record with its inside, copied
   pub tree-laid : (xs is ks xs′ is′ ks′ : List ℕ) → Copied s k (row-of s lv (kids-at s k) (k + 1) .next) xs is ks i xs′ is′ ks′ → Laid (mapped (own-source s) (tree-at s lv k)) i xs is ks xs′ is′ ks′
