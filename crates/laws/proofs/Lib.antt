@@ -11,3 +11,4 @@ pub mod RoundTrip
 pub mod Fitting
 pub mod Natural
 pub mod Same
+pub mod Finding
