@@ -17,7 +17,7 @@ use Rattle.record.specs.declared.Changed.{Changed}
 use Rattle.record.specs.declared.Changed.the-variants as changed
 use Rattle.record.specs.Says.{refusal-of, checked, changes}
 use Rattle.paper.specs.declared.Role.the-variants.{Member}
-use Rattle.paper.specs.Answer.{Answer, ok, refused, _>>=_, _>>_, fault, among, repeated}
+use Rattle.paper.specs.Answer.{Answer, ok, refused, _>>=_, fault, among, repeated}
 use Rattle.paper.specs.Refusals.{roomy, limited}
 use Rattle.paper.specs.Forest.{Forest}
 use Rattle.paper.specs.Field.{Field, kind-of}
@@ -25,6 +25,7 @@ use Rattle.paper.specs.Bytes.{turned, field-at, slots, from}
 use Rattle.paper.specs.Lists.{id-list}
 use Rattle.paper.specs.Decode.{decode}
 use Rattle.paper.specs.Limits.{room, sized, sized-ids}
+use Rattle.paper.specs.Limits as limits
 use Rattle.paper.specs.Prune.{is-chosen, pruned, prune}
 use Rattle.paper.specs.Sound.{ids, sound}
 use Rattle.paper.specs.Entries.{Result, prune-entry}
@@ -33,7 +34,7 @@ use Rattle.laws.proofs.Basics.{unbind, fault-ok}
 use Rattle.laws.proofs.RoundTrip.{both}
 use Rattle.laws.proofs.Fitting.{sized-slots}
 use Rattle.laws.proofs.Runs.{getD-sets, length-from}
-use Rattle.limits.proofs.Within.{ids-tree, tree-most}
+use Rattle.limits.proofs.Within.{ids-tree}
 use Rattle.tree.specs.declared.Shaped.{Shaped}
 use Rattle.tree.specs.declared.Shaped.the-variants as shaped
 use Rattle.tree.specs.Read.{fine}
@@ -47,6 +48,10 @@ use Rattle.pruned.specs.Pruned as whole
 use Rattle.pruned.specs.Pruned.{Ready, the-result, pruning, Agrees}
 use Rattle.based.specs.Based.{Readable, BaseIndexed}
 use Rattle.prune.specs.Pruning.{entered, Entered, Choosable, Chosen, Prunes}
+
+-- An array of zeros.
+abbrev zeroed : ℕ → List ℕ
+zeroed n = replicate {A = ℕ} n 0
 
 bind-assoc : {A B C : Type 0} (x : Answer A) (f : A → Answer B) (g : B → Answer C) → ((x >>= f) >>= g) ≡ (x >>= λ a. f a >>= g)
 unfolding _>>=_
@@ -62,6 +67,10 @@ fine-checked : (P : Type 0) (x : Answer (Unit {0})) (r : Check) → r ≡ checke
 unfolding checked
 fine-checked P (ok u) r e d f = f refl
 fine-checked P (refused n l q) r e d f = let z : _≡_ {A = ℕ} 0 1 = cc in absurd (omega arith)
+
+ids-sized : (most : ℕ) (s p i : List ℕ) → sized-ids most s p i ≡ true → sized s p ≡ true
+unfolding sized-ids
+ids-sized most s p i e = both (sized s p) (limits.whole 4 most i) e .0
 
 rooms-of : (lr ln : ℕ) → room lr ln ≡ true → (24576 ≤ lr) × (32768 ≤ ln)
 unfolding room
@@ -97,7 +106,7 @@ module _ (s p sel : List ℕ) (lr ln : ℕ) where
       go-on r t e = rw (← eb, not-false b f, ← ez, not-false z t) e
 
       pub tree-asks : not z ≡ false → length s ≤ 24576
-      tree-asks t = tree-most s p (ids-tree 1024 s p sel (sym ez ∙ not-false z t))
+      tree-asks t = ids-tree 1024 s p sel z ez t
 
   -- what was passed
   pub record Passed (c : ℕ) : Type 0 where
@@ -127,6 +136,19 @@ module _ (s p sel : List ℕ) (lr ln : ℕ) where
   was-refused P (ok t) w y e d f = let z : _≡_ {A = ℕ} 0 1 = cc in absurd (omega arith)
   was-refused P (refused n l q) w y e d f = f n l q refl cc
 
+  pub base-readable : (c : ℕ) → Entered s p sel c lr ln → (k : ℕ) (zs : List ℕ) → zs ≡ [] → length (zeroed k) ≡ 1024 → Readable s p zs (zeroed k) (zeroed k) (zeroed k) (zeroed k) (zeroed k)
+  base-readable c h k zs ez ek =
+      record {
+        limits = ids-sized 1024 s p sel (passed c h .limits);
+        decodes = was-ok _ (decode 0 s p) c (passed c h .roots) λ t e. rw e;
+        few = rw ez (omega arith);
+        slots-room = ek;
+        ids-room = ek;
+        kids-room = ek;
+        heads-room = ek;
+        next-room = ek;
+      }
+
   -- ---- the entry after 6
 
   module _ (full : Bool) where
@@ -136,7 +158,7 @@ module _ (s p sel : List ℕ) (lr ln : ℕ) where
     entry-is : prune-entry s p sel full lr ln ≡ (entered s p sel lr ln >>= after-6)
     unfolding prune-entry entered after-6
     entry-is =
-        sym (bind-assoc (roomy (room lr ln)) (λ _. limited (sized-ids 1024 s p sel) >> decode 0 s p) after-6
+        sym (bind-assoc (roomy (room lr ln)) (λ _. limited (sized-ids 1024 s p sel) >>= λ _. decode 0 s p) after-6
         ∙ ap (λ (y : Answer Result). roomy (room lr ln) >>= λ _. y) (bind-assoc (limited (sized-ids 1024 s p sel)) (λ _. decode 0 s p) after-6))
 
     module _ (out text : List ℕ) (el : lr ≡ length out) (en : ln ≡ length text) where
@@ -147,6 +169,9 @@ module _ (s p sel : List ℕ) (lr ln : ℕ) where
       refuses : (n l q : ℕ) (y : Refusal) → prune-entry s p sel full lr ln ≡ refused n l q → y ≡ refusal-of n l q → Prunes s p sel full out text (changed.Refused y) out text
       unfolding changes leaves
       refuses n l q y e d = answers (refused n l q) (changed.Refused y) out text e (rw d) refl refl
+
+      pub go-6 : (c : ℕ) (w : Shaped) → w ≡ decoded (entered s p sel lr ln) → w ≡ shaped.Roots c → Entered s p sel c (length out) (length text)
+      go-6 c w e d = rw (← el, ← en) (record { roots = sym d ∙ e })
 
       pub stop-6 : (w : Shaped) (y : Refusal) → w ≡ decoded (entered s p sel lr ln) → w ≡ shaped.Refused y → Prunes s p sel full out text (changed.Refused y) out text
       unfolding _>>=_
@@ -160,16 +185,7 @@ module _ (s p sel : List ℕ) (lr ln : ℕ) where
             was-ok P (decode 0 s p) c (a .roots) λ t e. f t e (entry-is ∙ rw (a .rooms, a .limits, e))
 
         base-limits : sized s p ≡ true
-        base-limits = ids-tree 1024 s p sel (passed c h .limits)
-
-        pub base-readable : (k : ℕ) (zs : List ℕ) → zs ≡ [] → length (replicate k 0) ≡ 1024 → Readable s p zs (replicate k 0) (replicate k 0) (replicate k 0) (replicate k 0) (replicate k 0)
-        base-readable k zs ez ek =
-            record {
-              limits = base-limits;
-              decodes = tree-of _ (λ t e _. rw e);
-              few = rw ez (omega arith);
-              slots-room = ek; ids-room = ek; kids-room = ek; heads-room = ek; next-room = ek;
-            }
+        base-limits = ids-sized 1024 s p sel (passed c h .limits)
 
         module _ (zs : List ℕ) (ez : zs ≡ []) (xs is ks : List ℕ) (lx : length xs ≡ 1024) (li : length is ≡ 1024) (lk : length ks ≡ 1024) (r : Check) (xs′ is′ ks′ heads next : List ℕ) (b : BaseIndexed s p zs xs is ks r xs′ is′ ks′ heads next) where
           no-identifiers : id-list zs ≡ []
@@ -198,9 +214,14 @@ module _ (s p sel : List ℕ) (lr ln : ℕ) where
                 let k = b .taken in
                 record {
                   ready = record {
-                    limits = base-limits; roots = a .roots;
-                    slots-room = ap length (k .slots) ∙ length-sets xs 0 _ ∙ lx; ids-room = ap length (k .ids) ∙ length-sets is 0 _ ∙ li; kids-room = ap length (k .kids) ∙ length-sets ks 0 _ ∙ lk;
-                    records-room = omega arith; names-room = omega arith };
+                    limits = base-limits;
+                    roots = a .roots;
+                    slots-room = ap length (k .slots) ∙ simp length-sets lx;
+                    ids-room = ap length (k .ids) ∙ simp length-sets li;
+                    kids-room = ap length (k .kids) ∙ simp length-sets lk;
+                    records-room = omega arith;
+                    names-room = omega arith;
+                  };
                   chained = b .chained d;
                   distinct = tree-of _ λ t e _. fine-checked _ (sound 0 t []) r (sound-is t e) d λ f. unbind _ _ f λ _ e₁ _. record { tested = rw (← (b .order t e)) (fault-ok 7 0 (repeated eqb [] 0 (ids t)) e₁) };
                   own-ids = λ j l. own-at s is is′ j (k .ids) li (sized-slots s p base-limits .0) l;
@@ -212,31 +233,29 @@ module _ (s p sel : List ℕ) (lr ln : ℕ) where
                 same : prune-entry s p sel full lr ln ≡ pruning s p (is-chosen (id-list sel)) full
                 same = tree-of _ λ t e q. fine-checked _ (sound 0 t []) r (sound-is t e) d λ f. q ∙ sound-pruning t e f
 
-pub ruleset entering = (stop-1, stop-2, go-on, tree-asks, stop-6)
-
-pub ruleset carrying = (base-readable, stop-8, choose-asks, all-chosen)
+pub ruleset entering = (stop-1, stop-2, go-on, tree-asks, go-6, stop-6)
 
 -- ---- the chosen
 
-zeros : (n k : ℕ) → getD (replicate n 0) k 0 ≡ 0
+zeros : (n k : ℕ) → getD (zeroed n) k 0 ≡ 0
 zeros zero k = refl
 zeros (suc n) zero = refl
 zeros (suc n) (suc k) = zeros n k
 
-pub unmarked : Unmarked (replicate 1024 0)
-unmarked = record { room = length-replicate 1024 0; none-marked = zeros 1024 }
+pub unmarked : Unmarked (zeroed 1024)
+unmarked = record { room = length-replicate {A = ℕ} 1024 0; none-marked = zeros 1024 }
 
 module _ (s p sel : List ℕ) (full : Bool) (c : ℕ) (xs is ks heads next out text : List ℕ) (h : Choosable s p c xs is ks heads next out text) where
-  pub mark-asks : (slots s ≤ 1024) × (Chained (id-bucket is) heads next (slots s) × (Distinct-ids is (slots s) × Unmarked (replicate 1024 0)))
-  mark-asks = (sized-slots s p (h .ready .limits) .0, (h .chained, (h .distinct, unmarked)))
+  pub mark-few : slots s ≤ 1024
+  mark-few = sized-slots s p (h .ready .limits) .0
 
   pub chosen-done : (marks : List ℕ) (r : Changed) (out′ text′ : List ℕ) → Marks sel is (slots s) marks → whole.Prunes s p marks full out text r out′ text′ → Chosen s p sel full out text r out′ text′
+  unfolding field-at
   chosen-done marks r out′ text′ k v =
       let g : Agrees s p marks (is-chosen (id-list sel)) = record { same = λ j l. agree j l } in
       record { answer = v .answer (is-chosen (id-list sel)) g; records = v .records (is-chosen (id-list sel)) g; names = v .names (is-chosen (id-list sel)) g }
     where
       agree : (j : ℕ) → j < slots s → is-chosen (id-list sel) (field-at p s j) ≡ marked marks j
-      unfolding field-at
       agree j l = sym (k .exactly j l ∙ rw (h .own-ids j l))
 
-pub ruleset choosing = (mark-asks, chosen-done)
+pub ruleset choosing = (mark-few, unmarked, chosen-done)

@@ -95,7 +95,14 @@ fn carry_out(
     let mut heads = [0u16; 1024];
     let mut next = [0u16; 1024];
     let sound = index_base(
-        records, pool, b"", &mut slots, &mut ids, &mut kids, &mut heads, &mut next,
+        records,
+        pool,
+        b"",
+        &mut slots,
+        &mut ids,
+        &mut kids,
+        &mut heads,
+        &mut next,
     );
     if let Check::Refused(r) = sound {
         return Changed::Refused(r);
