@@ -1,8 +1,8 @@
 // id_reassigner.rs: new numbers for the records of a tree. Numbers are counted as in the paper, the signed id plus 2^31, and
 // stored as 32 bits. Member renumbering and type renumbering call each other; levels left and records left fall.
-use paper::Kind;
 use record::kids_at;
 use record::kind_at;
+use walk::is_map;
 ghost use mathlib.Core.Path.{_≡_};
 ghost use Prim.Native.Nat.{_+_, _*_, _≤_, _<_};
 ghost use mathlib.Core.Bool.{true, false};
@@ -22,17 +22,6 @@ pub fn turn(x: u32) -> u32
     ensures { λ r. ⌜ r ≡ turned x ⌝ }
 {
     std::num::wrapping_add_u32(x, 2147483648)
-}
-
-fn is_map(k: Kind) -> bool
-    ensures { λ a. ⌜ a ≡ is-map k ⌝ }
-{
-    match k {
-        Kind::Primitive => false,
-        Kind::Structure => false,
-        Kind::Listing => false,
-        Kind::Mapping => true,
-    }
 }
 
 // The roots, the members of a struct or a list's element: `count` siblings from `slot` on get the numbers from `first` on,

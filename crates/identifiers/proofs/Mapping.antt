@@ -49,6 +49,9 @@ module _ (s is new : List ℕ) (m : ℕ) (out : List ℕ) where
   unfolding from id-bytes
   mapping-starts = record { so-far = refl }
 
+  pub mapping-length : (i : ℕ) (out′ : List ℕ) → Mapping s is new m out i out′ → length out′ ≡ length out
+  mapping-length i out′ h = ap length (h .so-far) ∙ simp length-sets
+
   pub mapping-done : (n i : ℕ) (out′ : List ℕ) → Mapping s is new m out i out′ → n ≡ length s / 4 → n ≤ i → i ≤ n → Mapped s is new m out out′
   unfolding id-list
   mapping-done n i out′ h e l g =

@@ -4,12 +4,13 @@ use lists::id_at;
 use plan::put_bytes;
 ghost use mathlib.Core.Path.{_≡_};
 ghost use mathlib.Core.List.{[]};
+ghost use Prim.Native.Nat.{_<_};
 ghost use Rattle.paper.specs.Encode.{bytes32};
 ghost use Rattle.identifiers.specs.Mapped.{Mappable, Mapped};
 
-// The four bytes of an id.
+// The four bytes of an id, which is 32 bits.
 fn id_bytes(id: u32) -> [u8; 4]
-    ensures { λ r. ⌜ r ≡ bytes32 id [] ⌝ }
+    ensures { λ r. ⌜ (r ≡ bytes32 id []) × (id < 4294967296) ⌝ }
 {
     [
         (id % 256) as u8,
