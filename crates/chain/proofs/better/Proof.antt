@@ -1,3 +1,4 @@
+-- The test of the slot picks the place.
 use Rattle.chain.proofs.IdLaws.{ids}
 use native.Mathlib.Omega.{arith}
 use borrow.Author.Needs.{needs}

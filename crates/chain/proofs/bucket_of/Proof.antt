@@ -1,3 +1,4 @@
+-- The bits of an id turned twice are the bits, so the bucket is the definition's.
 use Rattle.chain.proofs.IdLaws.{ids}
 use native.Mathlib.Omega.{arith}
 use borrow.Author.Needs.{needs}

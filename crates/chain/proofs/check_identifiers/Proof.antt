@@ -1,3 +1,4 @@
+-- The identifiers below i were found, and what is left gives the whole answer.
 use Rattle.chain.proofs.IdLaws.{Naming}
 use Prim.Native.Nat.{_-_}
 use Rattle.chain.proofs.IdLaws.{nine}

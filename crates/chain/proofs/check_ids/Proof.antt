@@ -1,3 +1,4 @@
+-- The slots below k stand in chains, and what is left to test gives the whole answer.
 use Rattle.chain.proofs.IdLaws.{Checking}
 use Prim.Native.Nat.{_-_}
 use Rattle.chain.proofs.IdLaws.{checking}

@@ -1,3 +1,4 @@
+-- The heads below b are 0, and b counts up to 1,024.
 use Rattle.chain.proofs.IdLaws.{Clearing}
 use Prim.Native.Nat.{_-_}
 use Rattle.chain.proofs.IdLaws.{clearing}

@@ -1,3 +1,4 @@
+-- What is left of the chain gives the whole answer; links fall.
 use Rattle.paper.specs.Bytes.{turned}
 use Rattle.chain.specs.Chain.{lowest-below}
 use Rattle.chain.specs.Ids.{id-bucket, is-id}

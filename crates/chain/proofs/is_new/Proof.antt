@@ -1,3 +1,4 @@
+-- No slot below k has the id where the lowest place is 0.
 use Rattle.chain.proofs.IdLaws.{ids}
 use native.Mathlib.Omega.{arith}
 use borrow.Author.Needs.{needs}

@@ -1,3 +1,4 @@
+-- `turned` is one to one on 32 bits.
 use Rattle.chain.proofs.IdLaws.{ids}
 use native.Mathlib.Omega.{arith}
 use borrow.Author.Needs.{needs}

@@ -1,3 +1,4 @@
+-- A refusal is `read`'s; else the look-up is in the tree that was read.
 use Rattle.index.proofs.Opening.{id-refused, id-looked}
 use native.Mathlib.Omega.{arith}
 use borrow.Author.Needs.{needs}

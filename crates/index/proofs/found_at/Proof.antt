@@ -1,3 +1,4 @@
+-- The bits of an id turned twice are the bits.
 use Rattle.index.proofs.Looking.{placing}
 use native.Mathlib.Omega.{arith}
 use borrow.Author.Needs.{needs}

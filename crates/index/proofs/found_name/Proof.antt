@@ -1,3 +1,4 @@
+-- A name that is in the pool is shown where it lies; else no byte is.
 use mathlib.Core.Path.{refl, sym, _∙_}
 use mathlib.Core.Bool.{true≢false}
 use borrow.Author.Tests.{not-true, not-false}

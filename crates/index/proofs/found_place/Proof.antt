@@ -1,3 +1,4 @@
+-- A place is one more than a slot.
 use Rattle.index.proofs.Looking.{nothing-at, slot-found}
 use native.Mathlib.Omega.{arith}
 use borrow.Author.Needs.{needs}

@@ -1,3 +1,4 @@
+-- The walk tells the full names, and the chains tell which are equal.
 use Rattle.index.proofs.Sounding.{marked-spelt, marked-hashed, names-indexed}
 use native.Mathlib.Omega.{arith}
 use borrow.Author.Needs.{needs}

@@ -1,3 +1,4 @@
+-- The chain finds the lowest slot, which is the first row.
 use mathlib.Core.Path.{sym, _∙_}
 use Rattle.index.proofs.Looking.{place-within, by-id}
 use native.Mathlib.Omega.{arith}

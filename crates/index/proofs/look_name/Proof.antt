@@ -1,3 +1,4 @@
+-- Full name by the chain; without a dot there is no other; else the short name.
 use Rattle.index.proofs.Looking.{place-within, by-full, by-short, by-root}
 use Rattle.index.proofs.Rows.{plan-sources}
 use native.Mathlib.Omega.{arith}

@@ -1,3 +1,4 @@
+-- The place above holds the parent's id, which is looked up.
 use Rattle.index.proofs.Looking.{place-within, up-small, no-id, no-parent, the-parent}
 use native.Mathlib.Omega.{arith}
 use borrow.Author.Needs.{needs}

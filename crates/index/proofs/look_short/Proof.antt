@@ -1,3 +1,4 @@
+-- The walk over all roots finds what the paper's short names find.
 use Rattle.index.proofs.Looking.{short-none, short-some, short-place, short-fits}
 use native.Mathlib.Omega.{arith}
 use borrow.Author.Needs.{needs}

@@ -1,3 +1,4 @@
+-- 2 to 6, then the base as a plan, then 7 and 8, are the paper's `read`.
 use Rattle.index.proofs.Opening.{open-refused, open-few, open-plan, opened}
 use native.Mathlib.Omega.{arith}
 use borrow.Author.Needs.{needs}

@@ -1,3 +1,4 @@
+-- What is left of the row ends where the whole ends; levels fall.
 use mathlib.Core.Path.{_≡_, refl}
 use Rattle.plan.specs.Plan.{kids-in}
 use Rattle.names.specs.Walk.{walk}

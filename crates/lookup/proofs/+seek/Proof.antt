@@ -1,3 +1,4 @@
+-- What is left of the row gives the whole answer; levels fall.
 use mathlib.Core.Path.{_≡_, refl}
 use native.Mathlib.Numerals.{add-one}
 use Rattle.plan.specs.Plan.{lent, kids-in}

@@ -1,3 +1,4 @@
+-- The first of two places, if there is one.
 use Rattle.lookup.proofs.Fitting.{small}
 use native.Mathlib.Omega.{arith}
 use borrow.Author.Needs.{needs}

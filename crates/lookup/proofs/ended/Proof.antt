@@ -1,3 +1,4 @@
+-- What waits, or the end of the row.
 use Rattle.lookup.proofs.Fitting.{small}
 use native.Mathlib.Omega.{arith}
 use borrow.Author.Needs.{needs}

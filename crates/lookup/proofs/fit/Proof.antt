@@ -1,3 +1,4 @@
+-- The bytes of the name below i are those of x from pos on.
 use Prim.Native.Nat.{_-_, _+_, _≤_}
 use mathlib.Core.Path.{_≡_}
 use lib.ListN.{length, drop}

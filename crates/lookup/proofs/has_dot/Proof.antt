@@ -1,3 +1,4 @@
+-- No byte below i is a dot.
 use Prim.Native.Nat.{_-_, _≤_}
 use mathlib.Core.Path.{_≡_}
 use lib.ListN.{length, drop}

@@ -1,3 +1,4 @@
+-- The source at the place stands in its list.
 use Rattle.names.proofs.Naming.{source-in, sourced}
 use native.Mathlib.Omega.{arith}
 use borrow.Author.Needs.{needs}

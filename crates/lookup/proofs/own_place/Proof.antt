@@ -1,3 +1,4 @@
+-- The record itself where its name is all that is left.
 use Rattle.lookup.proofs.Fitting.{small}
 use native.Mathlib.Omega.{arith}
 use borrow.Author.Needs.{needs}

@@ -1,3 +1,4 @@
+-- Late records join what waits.
 use Rattle.lookup.proofs.Fitting.{small}
 use native.Mathlib.Omega.{arith}
 use borrow.Author.Needs.{needs}

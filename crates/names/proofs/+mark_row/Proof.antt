@@ -1,3 +1,4 @@
+-- Whatever marks the rest of the row marks the whole; levels fall.
 use native.Mathlib.Numerals.{add-one}
 use Rattle.plan.specs.Plan.{lent, kids-in}
 use Rattle.names.specs.Told.{name-in}

@@ -1,3 +1,4 @@
+-- Before the own name stands the dot, else the byte is the name's.
 use Rattle.names.proofs.Spelling.{byting}
 use native.Mathlib.Omega.{arith}
 use borrow.Author.Needs.{needs}

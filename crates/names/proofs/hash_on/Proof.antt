@@ -1,3 +1,4 @@
+-- What is left of the name carries the hash on to the whole.
 use Prim.Native.Nat.{_-_, _≤_}
 use mathlib.Core.Path.{_≡_}
 use lib.ListN.{length, drop}

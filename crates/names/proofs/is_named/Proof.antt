@@ -1,3 +1,4 @@
+-- The bytes from i on are equal, and those below i are those of a record at or above.
 use Rattle.plan.specs.Plan.{lent}
 use Rattle.names.specs.Told.{name-in}
 use Rattle.names.proofs.Spelling.{Matching, match-differs, match-starts, match-room, match-asked, match-ends, match-stops, match-goes}

@@ -1,3 +1,4 @@
+-- One step of the hash, with room in 64 bits.
 use Rattle.names.specs.Hash.{mix}
 use Rattle.names.proofs.Hashing.{hashing}
 use native.Mathlib.Omega.{arith}

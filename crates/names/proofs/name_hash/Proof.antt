@@ -1,3 +1,4 @@
+-- The hash is carried on over the name.
 use Rattle.names.proofs.Naming.{sourced}
 use native.Mathlib.Omega.{arith}
 use borrow.Author.Needs.{needs}

@@ -1,3 +1,4 @@
+-- The length is the source's, at most 255.
 use Rattle.names.proofs.Naming.{sourced, source-in}
 use native.Mathlib.Omega.{arith}
 use borrow.Author.Needs.{needs}

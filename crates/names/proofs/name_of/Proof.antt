@@ -1,3 +1,4 @@
+-- The source at the place sits, so its name is a part of its pool.
 use Rattle.names.proofs.Naming.{sourced}
 use native.Mathlib.Omega.{arith}
 use borrow.Author.Needs.{needs}

@@ -1,3 +1,4 @@
+-- The byte stands in the full name above as long as it is before the own name; places above fall.
 use mathlib.Core.Path.{refl}
 use Rattle.names.proofs.Spelling.{Reading, read-starts, read-ends, read-dot, read-up, read-falls, read-small, read-goes}
 use Rattle.names.proofs.Spelling.{Reading}

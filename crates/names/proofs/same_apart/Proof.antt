@@ -1,3 +1,4 @@
+-- The bytes from i on are equal, and those below i are those of two records at or above.
 use Rattle.plan.specs.Plan.{lent}
 use Rattle.names.specs.Told.{name-in}
 use Rattle.names.proofs.Spelling.{Comparing, names-differ, names-start, names-left, names-right, names-end, names-meet, names-stop, names-go}

@@ -1,3 +1,4 @@
+-- Equal bytes by both bytes.
 use Rattle.names.proofs.Spelling.{same-bytes}
 use native.Mathlib.Omega.{arith}
 use borrow.Author.Needs.{needs}

@@ -1,3 +1,4 @@
+-- Siblings have one prefix; others are compared byte by byte.
 use Rattle.names.proofs.Spelling.{siblings-same}
 use native.Mathlib.Omega.{arith}
 use borrow.Author.Needs.{needs}

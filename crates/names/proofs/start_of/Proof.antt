@@ -1,3 +1,4 @@
+-- A full name ends with the own name.
 use Rattle.names.proofs.Spelling.{starting}
 use native.Mathlib.Omega.{arith}
 use borrow.Author.Needs.{needs}
