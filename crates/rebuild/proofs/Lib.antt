@@ -1,0 +1,7 @@
+pub mod Depth
+pub mod Onward
+pub mod Adding
+pub mod Trees
+pub mod Arriving
+pub mod Rebuilding
+pub mod Whole
