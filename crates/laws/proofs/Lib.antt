@@ -7,3 +7,6 @@ pub mod Written
 pub mod RoundTrip
 pub mod Fitting
 pub mod Natural
+pub mod Runs
+pub mod Preorder
+pub mod Counted
