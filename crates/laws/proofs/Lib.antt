@@ -10,3 +10,4 @@ pub mod Natural
 pub mod Runs
 pub mod Preorder
 pub mod Counted
+pub mod Pointwise

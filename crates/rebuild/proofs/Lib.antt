@@ -5,3 +5,4 @@ pub mod Trees
 pub mod Arriving
 pub mod Rebuilding
 pub mod Whole
+pub mod Paper
