@@ -1,3 +1,4 @@
 pub mod Lowest
+pub mod Testing
 pub mod Naming
 pub mod Comparing

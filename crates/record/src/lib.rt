@@ -179,10 +179,10 @@ pub fn check_bounds(recs: &[u8], n: usize, pool: usize, list: u32) -> Check
     Check::Fine
 }
 
-// A record's name: the very part of the pool that holds it.
+// A record's name: the very part of the pool that holds it, at its offset, with no copy.
 pub fn name_at<'a>(pool: &'a [u8], recs: &[u8], slot: usize) -> &'a [u8]
     requires { ⌜ (slot * 24 + 24 ≤ length (now recs)) × (in-pool (length (now pool)) (now recs) slot ≡ true) ⌝ }
-    ensures { λ r. ⌜ now r ≡ name-of (now (pool .entry)) (now (recs .entry)) slot ⌝ }
+    ensures { λ r. ⌜ (now r ≡ name-of (now (pool .entry)) (now (recs .entry)) slot) × (r .ptr .0 ≡ pool .entry .ptr .0) × (r .ptr .1 ≡ pool .entry .ptr .1 + rec-at (now (recs .entry)) slot .name-at) ⌝ }
 {
     let from = size(le32(recs, slot * 24 + 4));
     let len = length_of(recs[slot * 24 + 8]);

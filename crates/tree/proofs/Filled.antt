@@ -1,4 +1,4 @@
--- What is read from a slot on: how many trees, and which slots with which counts.
+-- What is read from a slot on: how many trees, and which slots with which counts. The laws say so of the trees that are laid there.
 use mathlib.Core.Path.{_≡_, refl, sym, ap, _∙_}
 use mathlib.Core.Logic.{_⊎_, inl, inr, ⊎-elim}
 use mathlib.Core.List.{List, [], _∷_, _++_}
@@ -9,10 +9,12 @@ use native.Mathlib.Numerals.{add-one, sub-one}
 use native.Mathlib.Omega.{arith}
 use borrow.Author.Tests.{lt-ltb, le-ltb, ltb-true, ltb-false}
 use lib.Dec.{ltb}
-use Rattle.paper.specs.Answer.{Answer, ok, refused, _>>=_}
+use Rattle.paper.specs.Answer.{Answer, ok, refused}
 use Rattle.paper.specs.Forest.{Forest, empty, node, size, siblings, preorder, counts}
 use Rattle.paper.specs.Bytes.{from}
-use Rattle.paper.specs.Layout.{Part, nothing, before, row}
+use Rattle.paper.specs.Layout.{Part, before, row}
+use Rattle.laws.proofs.Basics.{refused≢ok, unbind, ok-is}
+use Rattle.laws.proofs.Taken.{Laid, row-take}
 use Rattle.tree.specs.Read.{got, fine, part, reads, itself}
 use Rattle.tree.specs.declared.Walked.{Walked}
 use Rattle.tree.specs.declared.Walked.the-variants.{End, Refused}
@@ -25,17 +27,6 @@ lt-or-le a b = go (ltb a b) refl
     go : (t : Bool) → ltb a b ≡ t → (a < b) ⊎ (b ≤ a)
     go true e = inl (ltb-true a b e)
     go false e = inr (ltb-false a b e)
-
-pub refused≢ok : {A : Type 0} {n l p : ℕ} {a : A} → refused n l p ≡ ok a → ⊥
-refused≢ok e = let z : _≡_ {A = ℕ} 0 1 = cc in omega arith
-
-pub unbind : {A B P : Type 0} (x : Answer A) (f : A → Answer B) {b : B} → (x >>= f) ≡ ok b → ((a : A) → x ≡ ok a → f a ≡ ok b → P) → P
-unfolding _>>=_
-unbind (ok a) f e k = k a refl e
-unbind (refused n l p) f e k = absurd (refused≢ok e)
-
-pub ok-is : {A : Type 0} {a b : A} → ok a ≡ ok b → a ≡ b
-ok-is e = cc
 
 pub from-append : (g : ℕ → ℕ) (k a b : ℕ) → from g k (a + b) ≡ from g k a ++ from g (k + a) b
 unfolding from
@@ -50,20 +41,15 @@ pub record Full (kids : ℕ → ℕ) (n c k : ℕ) (p : Part) : Type 0 where
   pub slots : preorder (p .trees) ≡ from itself k (size (p .trees))
   pub sizes : counts (p .trees) ≡ from kids k (size (p .trees))
 
-full-none : (kids : ℕ → ℕ) (n k : ℕ) → Full kids n 0 k (nothing k)
-unfolding size siblings preorder counts from
-full-none kids n k = record { next = omega arith; most = λ h. h; trees = refl; slots = refl; sizes = refl }
+laid-slots : (kids : ℕ → ℕ) (n k : ℕ) (t : Forest ℕ) → Laid kids n k t → preorder t ≡ from itself k (size t)
+unfolding size preorder from
+laid-slots kids n k empty h = refl
+laid-slots kids n k (node j m u) h = rw (h .0, laid-slots kids n (suc k) m (h .3), laid-slots kids n (suc (k + size m)) u (h .4), from-append itself (suc k) (size m) (size u), suc-add k (size m))
 
-pub full-join : (kids : ℕ → ℕ) (n m c k : ℕ) (a b : Part) → k < n → m ≡ kids k → Full kids n m (suc k) a → Full kids n c (a .next) b → Full kids n (suc c) k (before k a b)
-unfolding size siblings preorder counts from
-full-join kids n m c k a b l e f g =
-    record {
-      next = omega (arith, f .next, g .next);
-      most = λ h. g .most (f .most l);
-      trees = ap suc (g .trees);
-      slots = rw (f .slots, g .slots, f .next, from-append itself (suc k) (size (a .trees)) (size (b .trees)));
-      sizes = rw (f .trees, f .sizes, g .sizes, f .next, from-append kids (suc k) (size (a .trees)) (size (b .trees)), e);
-    }
+laid-sizes : (kids : ℕ → ℕ) (n k : ℕ) (t : Forest ℕ) → Laid kids n k t → counts t ≡ from kids k (size t)
+unfolding size counts from
+laid-sizes kids n k empty h = refl
+laid-sizes kids n k (node j m u) h = rw (← (h .2), laid-sizes kids n (suc k) m (h .3), laid-sizes kids n (suc (k + size m)) u (h .4), from-append kids (suc k) (size m) (size u), suc-add k (size m))
 
 module _ (li : ℕ) (kids : ℕ → ℕ) (n : ℕ) where
   -- how an answer came to be
@@ -76,16 +62,10 @@ module _ (li : ℕ) (kids : ℕ → ℕ) (n : ℕ) where
       (λ l. absurd (refused≢ok (sym (row-past li kids n (suc lv) c k (λ z. omega arith) h l) ∙ e)))
       (lt-or-le k n)
 
-  full-row : (lv : ℕ) → ((c k : ℕ) (p : Part) → row li kids n lv c k ≡ ok p → Full kids n c k p) → (c k : ℕ) (p : Part) → row li kids n (suc lv) c k ≡ ok p → Full kids n c k p
-  full-row lv ih zero k p e = rw (sym (ok-is (sym (row-none li kids n (suc lv) 0 k refl) ∙ e))) (full-none kids n k)
-  full-row lv ih (suc c) k p e =
-      row-parts _ (suc lv) (suc c) k p (λ z. omega arith) e λ a b q l ea eb ej.
-      rw (← ej) (full-join kids n (kids k) c k a b l refl (ih (kids k) (suc k) a (rw (sub-one (suc lv), add-one k) at ea)) (full-row lv ih c (a .next) b (rw (sub-one (suc c)) at eb)))
-
   pub full : (lv c k : ℕ) (p : Part) → row li kids n lv c k ≡ ok p → Full kids n c k p
-  full zero zero k p e = rw (sym (ok-is (sym (row-none li kids n 0 0 k refl) ∙ e))) (full-none kids n k)
-  full zero (suc c) k p e = absurd (refused≢ok (sym (row-deep li kids n 0 (suc c) k refl (λ z. omega arith)) ∙ e))
-  full (suc lv) c k p e = full-row lv (full lv) c k p e
+  full lv c k p e =
+      let t = row-take li kids n lv c k p e in
+      record { next = t .took .end; most = t .took .inside; trees = t .count; slots = laid-slots kids n k (p .trees) (t .took .laid); sizes = laid-sizes kids n k (p .trees) (t .took .laid) }
 
 -- a row that ends, ends within the list, at or after the slot where it began
 pub ended-ok : (P : Type 0) (x : Answer Part) (w : Walked) (j : ℕ) → w ≡ ended x → w ≡ End j → ((p : Part) → x ≡ ok p → p .next ≡ j → P) → P

@@ -1,9 +1,9 @@
--- Refusal 6: `search labelling`.
+-- Refusal 6 by a loop over the trees of a row: what is left says the same as the whole. `search labelling`.
 use mathlib.Core.Path.{_≡_, refl, sym, ap, _∙_}
 use mathlib.Core.List.{List, [], _∷_}
 use mathlib.Core.Bool.{Bool, true, false, not, cond, _&&_}
 use mathlib.Core.Option.{Option, none, some}
-use Prim.Native.Nat.{ℕ, zero, suc, _+_, _-_, _<_, _≤_}
+use Prim.Native.Nat.{ℕ, suc, _+_, _*_, _-_, _<_, _≤_}
 use native.Mathlib.Numerals.{add-one}
 use native.Mathlib.Omega.{arith}
 use borrow.Author.Tests.{not-true, not-false, eq-eqb, ne-eqb}
@@ -26,15 +26,8 @@ use Rattle.tree.specs.Read.{part, reads}
 use Rattle.paper.specs.Decode.{fields}
 use Rattle.record.specs.Says.{refusal-of}
 use Rattle.tree.specs.Says.{walked-to, Labelled}
-use Rattle.tree.proofs.Filled.{Full}
-use Rattle.tree.proofs.Steps.{part-none, part-in, part-full, no-deep, no-past, reads-inner, reads-rest, next-in, lowest-none}
-
--- ---- the slots of a mapped forest
-
-pub size-mapped : {A B : Type 0} (g : A → B) (t : Forest A) → size (mapped g t) ≡ size t
-unfolding size mapped
-size-mapped g empty = refl
-size-mapped g (node a m n) = rw (size-mapped g m, size-mapped g n)
+use Rattle.tree.proofs.Steps.{part-none, part-in, part-full, few, shallow, reads-inner, reads-rest, next-in}
+use Rattle.laws.proofs.Fitting.{size-mapped, lowest-none}
 
 -- ---- the walk
 
@@ -67,56 +60,85 @@ unfolding walked-to
 walked-end num li next j none w e d = (refl, cc)
 walked-end num li next j (some p) w e d = let z : _≡_ {A = ℕ} 0 1 = cc in absurd (omega arith)
 
+-- what is to be said of c trees from slot k on
+abbrev Said : (pool s : List ℕ) (li n lv c k : ℕ) (r : Role) → Walked
+Said pool s li n lv c k r = walked-to 6 li (part li (kids-at s) n lv c k .next) (misnamed r k (fields pool s (part li (kids-at s) n lv c k .trees)))
+
 module _ (pool s : List ℕ) (li n lv c k : ℕ) (r : Role) where
-  pub label-none : c ≡ 0 → Labelled pool s li n lv c k r (End k)
+  said-none : c ≡ 0 → End k ≡ Said pool s li n lv c k r
   unfolding walked-to
-  label-none e = record { says = rw (part-none li (kids-at s) n lv c k e, misnamed-none pool s r k) }
+  said-none e = rw (part-none li (kids-at s) n lv c k e, misnamed-none pool s r k)
 
   module _ (sr : reads li (kids-at s) n lv c k ≡ true) (h : c ≡ 0 → ⊥) where
-    pub label-deep : lv ≡ 0 → Labelled pool s li n lv c k r (End k)
-    label-deep e = absurd (no-deep li (kids-at s) n lv c k sr h e)
-
-    pub label-past : n ≤ k → Labelled pool s li n lv c k r (End k)
-    label-past e = absurd (no-past li (kids-at s) n lv c k sr h e)
-
-    pub label-bad : (b : Bool) → b ≡ fitting r (name-of pool s k) → not b ≡ true → Labelled pool s li n lv c k r (Refused (refusal-of 6 li k))
+    said-bad : fitting r (name-of pool s k) ≡ false → Refused (refusal-of 6 li k) ≡ Said pool s li n lv c k r
     unfolding walked-to
-    label-bad b eb t = record { says = rw (part-in li (kids-at s) n lv c k sr (kids-at s k) h refl, misnamed-bad pool s r k _ _ (sym eb ∙ not-true b t)) }
+    said-bad e = rw (part-in li (kids-at s) n lv c k sr (kids-at s k) h refl, misnamed-bad pool s r k _ _ e)
 
-    module _ (m : ℕ) (em : m ≡ kids-at s k) (b : Bool) (eb : b ≡ fitting r (name-of pool s k)) (t : not b ≡ false) (q : Role) (eq : q ≡ first (kind-at s k))
-        (w : Walked) (ew : Labelled pool s li n (lv - 1) m (k + 1) q w) where
-      good : (q′ : Role) → q′ ≡ after r → misnamed r k (fields pool s (part li (kids-at s) n lv c k .trees)) ≡ or-else (misnamed q (k + 1) (fields pool s (part li (kids-at s) n (lv - 1) m (k + 1) .trees))) (misnamed q′ (part li (kids-at s) n (lv - 1) m (k + 1) .next) (fields pool s (part li (kids-at s) n lv (c - 1) (part li (kids-at s) n (lv - 1) m (k + 1) .next) .trees)))
-      good q′ eq′ =
-          let pa = part li (kids-at s) n (lv - 1) m (k + 1) in
+    module _ (m : ℕ) (em : m ≡ kids-at s k) (e : fitting r (name-of pool s k) ≡ true) (q : Role) (eq : q ≡ first (kind-at s k)) where
+      inside : Part
+      inside = part li (kids-at s) n (lv - 1) m (k + 1)
+
+      -- the first tree's name fits: its inside, then the rest
+      said-in : Said pool s li n lv c k r ≡ walked-to 6 li (part li (kids-at s) n lv (c - 1) (inside .next) .next) (or-else (misnamed q (k + 1) (fields pool s (inside .trees))) (misnamed (after r) (inside .next) (fields pool s (part li (kids-at s) n lv (c - 1) (inside .next) .trees))))
+      unfolding inside
+      said-in =
           let f = part-full li (kids-at s) n (lv - 1) m (k + 1) (reads-inner li (kids-at s) n lv c k sr m h em) in
-          let d : pa .next ≡ suc (k + size (pa .trees)) = omega (arith, f .next) in
-          rw (part-in li (kids-at s) n lv c k sr m h em) (misnamed-good pool s r q q′ k (pa .next) (pa .trees) (part li (kids-at s) n lv (c - 1) (pa .next) .trees) (sym eb ∙ not-false b t) eq eq′ d)
+          let d : inside .next ≡ suc (k + size (inside .trees)) = omega (arith, f .next) in
+          rw (part-in li (kids-at s) n lv c k sr m h em, misnamed-good pool s r q (after r) k (inside .next) (inside .trees) (part li (kids-at s) n lv (c - 1) (inside .next) .trees) e eq refl d)
 
-      next-same : part li (kids-at s) n lv c k .next ≡ part li (kids-at s) n lv (c - 1) (part li (kids-at s) n (lv - 1) m (k + 1) .next) .next
-      next-same = rw (part-in li (kids-at s) n lv c k sr m h em)
+      module _ (w : Walked) (ew : w ≡ Said pool s li n (lv - 1) m (k + 1) q) where
+        said-goes : (j : ℕ) → w ≡ End j → Said pool s li n lv (c - 1) j (after r) ≡ Said pool s li n lv c k r
+        unfolding inside
+        said-goes j d = rw (← (walked-end 6 li _ j _ w ew d .1)) (sym (said-in ∙ walked-goes 6 li _ _ j _ _ w ew d))
 
-      pub label-goes : (q′ : Role) (j : ℕ) (v : Walked) → q′ ≡ after r → w ≡ End j → Labelled pool s li n lv (c - 1) j q′ v → Labelled pool s li n lv c k r v
-      label-goes q′ j v eq′ d g =
-          let e = walked-end 6 li _ j _ w (ew .says) d in
-          record { says = rw (good q′ eq′, next-same) ((rw (← (e .1)) at (g .says)) ∙ sym (walked-goes 6 li _ _ j _ _ w (ew .says) d)) }
+        said-stops : (y : Refusal) → w ≡ Refused y → Refused y ≡ Said pool s li n lv c k r
+        unfolding inside
+        said-stops y d = walked-stops 6 li _ _ y _ _ w ew d ∙ sym said-in
 
-      pub label-stops : (y : Refusal) → w ≡ Refused y → Labelled pool s li n lv c k r (Refused y)
-      label-stops y d = record { says = rw (good (after r) refl, next-same) (walked-stops 6 li _ _ y _ _ w (ew .says) d) }
+-- ---- the loop: what is left of a row says the same as the whole row
 
-    -- what the second call asks
-    module _ (m : ℕ) (em : m ≡ kids-at s k) (q : Role) (w : Walked) (ew : Labelled pool s li n (lv - 1) m (k + 1) q w) (j : ℕ) (d : w ≡ End j) where
-      pub label-within : k < n → j ≤ n
-      label-within l = next-in li (kids-at s) n lv c k sr m h em j l (sym (walked-end 6 li _ j _ w (ew .says) d .1))
+pub record Onward (pool s : List ℕ) (li n lv c k : ℕ) (r : Role) (c′ k′ : ℕ) (r′ : Role) : Type 0 where
+  pub few : k′ + c′ ≤ n
+  pub shallow : c′ ≤ lv * 1024
+  pub read : reads li (kids-at s) n lv c′ k′ ≡ true
+  pub same : Said pool s li n lv c′ k′ r′ ≡ Said pool s li n lv c k r
 
-      pub label-reads : reads li (kids-at s) n lv (c - 1) j ≡ true
-      label-reads = reads-rest li (kids-at s) n lv c k sr m h em j (sym (walked-end 6 li _ j _ w (ew .says) d .1))
+module _ (pool s : List ℕ) (li n lv c k : ℕ) (r : Role) (l : n ≤ 1024) where
+  pub label-starts : k ≤ n → reads li (kids-at s) n lv c k ≡ true → Onward pool s li n lv c k r c k r
+  label-starts h e = record { few = few li (kids-at s) n lv c k e h; shallow = shallow li (kids-at s) n lv c k e h l; read = e; same = refl }
 
-pub label-pool : (pool s : List ℕ) (n k : ℕ) → lowest (in-pool (length pool) s) 0 n ≡ none → k < n → in-pool (length pool) s k ≡ true
-label-pool pool s n k e l = lowest-none (in-pool (length pool) s) n 0 k e (omega arith) (omega arith)
+  module _ (c′ k′ : ℕ) (r′ : Role) (o : Onward pool s li n lv c k r c′ k′ r′) where
+    pub label-ends : c′ ≤ 0 → Labelled pool s li n lv c k r (End k′)
+    label-ends h = record { says = said-none pool s li n lv c′ k′ r′ (omega arith) ∙ o .same }
 
-pub ruleset labelling = (label-none, label-deep, label-past, label-bad, label-goes, label-stops)
+    module _ (h : 0 < c′) (b : Bool) (eb : b ≡ fitting r′ (name-of pool s k′)) where
+      pub label-bad : not b ≡ true → Labelled pool s li n lv c k r (Refused (refusal-of 6 li k′))
+      label-bad t = record { says = said-bad pool s li n lv c′ k′ r′ (o .read) (λ z. omega arith) (sym eb ∙ not-true b t) ∙ o .same }
 
-pub ruleset label-rest = (label-within, label-reads, reads-inner, label-pool)
+      module _ (t : not b ≡ false) (m : ℕ) (em : m ≡ kids-at s k′) (q : Role) (eq : q ≡ first (kind-at s k′)) (w : Walked) (ew : Labelled pool s li n (lv - 1) m (k′ + 1) q w) where
+        pub label-goes : (j : ℕ) (q′ : Role) → w ≡ End j → q′ ≡ after r′ → Onward pool s li n lv c k r (c′ - 1) j q′
+        label-goes j q′ d e =
+            let nx = sym (walked-end 6 li _ j _ w (ew .says) d .1) in
+            let jn = next-in li (kids-at s) n lv c′ k′ (o .read) m (λ z. omega arith) em j (omega arith) nx in
+            let rd = reads-rest li (kids-at s) n lv c′ k′ (o .read) m (λ z. omega arith) em j nx in
+            record {
+              few = few li (kids-at s) n lv (c′ - 1) j rd jn;
+              shallow = shallow li (kids-at s) n lv (c′ - 1) j rd jn l;
+              read = rd;
+              same = rw e (said-goes pool s li n lv c′ k′ r′ (o .read) (λ z. omega arith) m em (sym eb ∙ not-false b t) q eq w (ew .says) j d ∙ o .same);
+            }
+
+        pub label-stops : (y : Refusal) → w ≡ Refused y → Labelled pool s li n lv c k r (Refused y)
+        label-stops y d = record { says = said-stops pool s li n lv c′ k′ r′ (o .read) (λ z. omega arith) m em (sym eb ∙ not-false b t) q eq w (ew .says) y d ∙ o .same }
+
+    -- what the calls ask
+    pub label-reads : (m : ℕ) → 0 < c′ → m ≡ kids-at s k′ → reads li (kids-at s) n (lv - 1) m (k′ + 1) ≡ true
+    label-reads m h em = reads-inner li (kids-at s) n lv c′ k′ (o .read) m (λ z. omega arith) em
+
+    pub label-pool : 0 < c′ → lowest (in-pool (length pool) s) 0 n ≡ none → in-pool (length pool) s k′ ≡ true
+    label-pool h e = lowest-none (in-pool (length pool) s) 0 n e k′ (omega arith) (omega arith)
+
+pub ruleset labelling = (label-starts, label-ends, label-bad, label-goes, label-stops, label-reads, label-pool)
 
 -- ---- the names of the roles
 

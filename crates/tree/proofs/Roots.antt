@@ -17,7 +17,8 @@ use Rattle.tree.specs.declared.Shaped.the-variants as shaped
 use Rattle.paper.specs.Layout.{Part, nothing, before, row, roots}
 use Rattle.tree.specs.Says.{ended, rooted}
 use Rattle.tree.proofs.Reading.{row-none, row-deep, row-past, row-in}
-use Rattle.tree.proofs.Filled.{lt-or-le, unbind, ok-is, full, end-room}
+use Rattle.tree.proofs.Filled.{lt-or-le, full, end-room}
+use Rattle.laws.proofs.Basics.{unbind, ok-is}
 
 module _ (li : ℕ) (kids : ℕ → ℕ) (n : ℕ) where
   pub roots-past : (f k : ℕ) → n ≤ k → roots li kids n f k ≡ ok (nothing k)

@@ -1,15 +1,14 @@
 -- A row that is read: its first record, the row inside it and the rest. For walks that come after refusal 5 was tested.
 use mathlib.Core.Path.{_≡_, refl, sym, ap, _∙_}
 use mathlib.Core.Bool.{Bool, true, false, true≢false}
-use mathlib.Core.Option.{Option, none, some}
-use Prim.Native.Nat.{ℕ, zero, suc, _+_, _-_, _<_, _≤_}
+use Prim.Native.Nat.{ℕ, zero, suc, _+_, _*_, _-_, _<_, _≤_}
 use native.Mathlib.Omega.{arith}
-use Rattle.paper.specs.Answer.{Answer, ok, refused, lowest}
+use Rattle.paper.specs.Answer.{Answer, ok, refused}
 use Rattle.paper.specs.Layout.{Part, nothing, before, row}
 use Rattle.tree.specs.Read.{got, fine, part, reads}
+use Rattle.laws.proofs.Written.{siblings-size}
 use Rattle.tree.proofs.Reading.{row-none}
-use Rattle.tree.proofs.Filled.{Full, full, row-parts, lt-or-le}
-use mathlib.Core.Logic.{⊎-elim}
+use Rattle.tree.proofs.Filled.{Full, full, row-parts}
 
 fine-got : (x : Answer Part) → fine x ≡ true → x ≡ ok (got x)
 fine-got (ok p) e = refl
@@ -40,6 +39,10 @@ module _ (li : ℕ) (kids : ℕ → ℕ) (n lv c k : ℕ) (s : reads li kids n l
   pub part-full : Full kids n c k (part li kids n lv c k)
   part-full = full li kids n lv c k (part li kids n lv c k) was-read
 
+  -- each of the trees is a record at least
+  pub few : k ≤ n → k + c ≤ n
+  few h = let f = part-full in omega (arith, f .next, f .most h, f .trees, siblings-size (part li kids n lv c k .trees))
+
   pub no-deep : (c ≡ 0 → ⊥) → lv ≡ 0 → ⊥
   no-deep h = row-parts li kids n (lv ≡ 0 → ⊥) lv c k (part li kids n lv c k) h was-read λ a b q l ea eb ej. q
 
@@ -64,14 +67,10 @@ module _ (li : ℕ) (kids : ℕ → ℕ) (n lv c k : ℕ) (s : reads li kids n l
     next-in j l ej = row-parts li kids n _ lv c k (part li kids n lv c k) h was-read λ a b q _ ea eb _.
         rw (ej, em, part-is li kids n (lv - 1) (kids k) (k + 1) a ea) (full li kids n (lv - 1) (kids k) (k + 1) a ea .most (omega arith))
 
-pub ruleset steps = (reads-inner, reads-rest, next-in)
+-- where no level is left there is no tree left
+pub shallow : (li : ℕ) (kids : ℕ → ℕ) (n lv c k : ℕ) → reads li kids n lv c k ≡ true → k ≤ n → n ≤ 1024 → c ≤ lv * 1024
+shallow li kids n zero zero k s h l = omega arith
+shallow li kids n zero (suc c) k s h l = absurd (no-deep li kids n 0 (suc c) k s (λ z. omega arith) refl)
+shallow li kids n (suc lv) c k s h l = omega (arith, few li kids n (suc lv) c k s h)
 
--- A test that fails at no place holds at each.
-pub lowest-none : (t : ℕ → Bool) (n i k : ℕ) → lowest t i n ≡ none → i ≤ k → k < i + n → t k ≡ true
-unfolding lowest
-lowest-none t zero i k e l h = absurd (omega arith)
-lowest-none t (suc n) i k e l h = go (t i) refl (λ d w. lowest-none t n (suc i) k d w (omega arith))
-  where
-    go : (b : Bool) → t i ≡ b → (lowest t (suc i) n ≡ none → suc i ≤ k → t k ≡ true) → t k ≡ true
-    go false q ih = let z : some i ≡ none = sym (rw (q, lowest)) ∙ e in let y : _≡_ {A = ℕ} 0 1 = cc in absurd (omega arith)
-    go true q ih = ⊎-elim (λ w. ih (rw (q, lowest) at e) w) (λ w. let g : i ≡ k = omega arith in rw (← g) q) (lt-or-le i k)
+pub ruleset steps = (reads-inner, reads-rest, next-in)

@@ -1,4 +1,5 @@
 // Trees of records: refusals 5 and 6, and 3 to 6 together.
+use limits::sized;
 use paper::Role;
 use paper::first_role;
 use paper::next_role;
@@ -23,6 +24,7 @@ ghost use Rattle.paper.specs.Layout.{row, roots};
 ghost use Rattle.paper.specs.Decode.{decode};
 ghost use Rattle.tree.specs.Read.{reads};
 ghost use Rattle.tree.specs.Says.{ended, rooted, decoded, Labelled};
+ghost use Rattle.tree.specs.Only.{only-read};
 
 pub enum Walked {
     End(usize),
@@ -119,7 +121,7 @@ fn label_ok(recs: &[u8], pool: &[u8], slot: usize, role: Role) -> bool
     fits_role(name_at(pool, recs, slot), role)
 }
 
-// Refusal 6 in a row of trees, or where the row ends.
+// Refusal 6 in a row of trees, or where the row ends. A loop over the siblings; refusal 5 was tested, so each is there.
 pub fn check_labels(
     recs: &[u8],
     pool: &[u8],
@@ -133,40 +135,34 @@ pub fn check_labels(
     requires { ⌜ (n * 24 ≤ length (now recs)) × (n ≤ 1024) × (slot ≤ n) × (reads list (kids-at (now recs)) n levels count slot ≡ true) × (lowest (in-pool (length (now pool)) (now recs)) 0 n ≡ none) ⌝ }
     ensures { λ r. ⌜ Labelled (now (pool .entry)) (now (recs .entry)) list n levels count slot role r ⌝ }
 {
-    if count == 0 {
-        return Walked::End(slot);
+    let mut at = slot;
+    let mut left = count;
+    let mut part = role;
+    while 0 < left {
+        if !label_ok(recs, pool, at, part) {
+            return Walked::Refused(Refusal {
+                number: 6,
+                list,
+                place: at as u32,
+            });
+        }
+        let kids = kids_at(recs, at);
+        let inside = inside_role(recs, at);
+        match check_labels(recs, pool, n, at + 1, kids, levels - 1, inside, list) {
+            Walked::End(next) => {
+                at = next;
+            }
+            Walked::Refused(r) => {
+                return Walked::Refused(r);
+            }
+        }
+        part = next_role(part);
+        left -= 1;
     }
-    if levels == 0 {
-        return Walked::End(slot);
-    }
-    if n <= slot {
-        return Walked::End(slot);
-    }
-    if !label_ok(recs, pool, slot, role) {
-        return Walked::Refused(Refusal {
-            number: 6,
-            list,
-            place: slot as u32,
-        });
-    }
-    let kids = kids_at(recs, slot);
-    let inside = inside_role(recs, slot);
-    match check_labels(recs, pool, n, slot + 1, kids, levels - 1, inside, list) {
-        Walked::End(next) => check_labels(
-            recs,
-            pool,
-            n,
-            next,
-            count - 1,
-            levels,
-            next_role(role),
-            list,
-        ),
-        Walked::Refused(r) => Walked::Refused(r),
-    }
+    Walked::End(at)
 }
 
-// Refusals 3 to 6, or the number of roots.
+// Refusals 3 to 6, or the number of roots: what `decode` gives. Refusal 2 is tested before it, for everything at once, hence the length.
 pub fn check_tree(recs: &[u8], pool: &[u8], list: u32) -> Shaped
     requires { ⌜ length (now recs) ≤ 24576 ⌝ }
     ensures { λ r. ⌜ r ≡ decoded (decode list (now (recs .entry)) (now (pool .entry))) ⌝ }
@@ -194,4 +190,19 @@ pub fn check_tree(recs: &[u8], pool: &[u8], list: u32) -> Shaped
         },
         Shaped::Refused(r) => Shaped::Refused(r),
     }
+}
+
+// Refusals 2 to 6, or the number of roots, of a tree that is only read.
+pub fn read_tree(recs: &[u8], pool: &[u8]) -> Shaped
+    ensures { λ r. ⌜ r ≡ decoded (only-read (now (recs .entry)) (now (pool .entry))) ⌝ }
+{
+    if !sized(recs, pool) {
+        // refusal 2
+        return Shaped::Refused(Refusal {
+            number: 2,
+            list: 0,
+            place: 0,
+        });
+    }
+    check_tree(recs, pool, 0)
 }

@@ -1,0 +1,54 @@
+-- Refusals 3 and 4 over a list of entries, once for both lists: whatever the rule is. `search listing`.
+use mathlib.Core.Path.{_≡_, refl, sym, ap, _∙_}
+use mathlib.Core.List.{List}
+use mathlib.Core.Bool.{Bool, true, false}
+use Prim.Native.Nat.{ℕ, _+_, _-_, _/_, _≤_, _<_}
+use native.Mathlib.Nat.{add-sub-cancel-left}
+use native.Mathlib.Omega.{arith}
+use borrow.Author.Tests.{leb-true}
+use lib.ListN.{length, take, drop}
+use Rattle.paper.specs.Answer.{ok, lowest}
+use Rattle.paper.specs.Lists.{entry-at, path-in, path-of, entries, entries-ok}
+use Rattle.laws.proofs.Basics.{unbind, fault-ok}
+use Rattle.laws.proofs.Fitting.{lowest-none}
+use Rattle.record.specs.declared.Refusal.{Refusal}
+use Rattle.record.specs.declared.Check.{Check}
+use Rattle.record.specs.declared.Check.the-variants.{Fine, Refused}
+use Rattle.record.specs.Says.{tested, checked}
+use Rattle.record.proofs.Testing.{tested-fault, chain-goes, chain-stops, checked-ok}
+
+module _ (list : ℕ) (rule : List ℕ → ℕ → Bool) (s pool : List ℕ) where
+  -- 3, then 4
+  module _ (a : Check) (ea : a ≡ tested 3 list (lowest (rule s) 0 (entries s))) where
+    pub rule-stops : (x : Refusal) → a ≡ Refused x → Refused x ≡ checked (entries-ok list rule s pool)
+    unfolding checked entries-ok
+    rule-stops x d = sym (ap checked (chain-stops 3 list (lowest (rule s) 0 (entries s)) a _ x ea d))
+
+    pub rule-goes : (b : Check) → a ≡ Fine → b ≡ tested 4 list (lowest (path-in (length pool) s) 0 (entries s)) → b ≡ checked (entries-ok list rule s pool)
+    unfolding entries-ok
+    rule-goes b d eb = eb ∙ tested-fault 4 list (lowest (path-in (length pool) s) 0 (entries s)) ∙ sym (ap checked (chain-goes 3 list (lowest (rule s) 0 (entries s)) a _ ea d))
+
+  -- what an accepted list tells of each entry
+  module _ (a : Check) (ea : a ≡ checked (entries-ok list rule s pool)) (d : a ≡ Fine) (k : ℕ) (l : k < entries s) where
+    pub entry-fine : rule s k ≡ true
+    unfolding entries-ok
+    entry-fine = unbind _ _ (checked-ok _ a ea d) λ u e _. lowest-none (rule s) 0 (entries s) (fault-ok 3 list _ e) k (omega arith) (omega arith)
+
+    pub path-fine : path-in (length pool) s k ≡ true
+    unfolding entries-ok
+    path-fine = unbind _ _ (checked-ok _ a ea d) λ u _ e. lowest-none (path-in (length pool) s) 0 (entries s) (fault-ok 4 list _ e) k (omega arith) (omega arith)
+
+pub ruleset listing = (rule-stops, rule-goes)
+
+-- ---- a path is a part of the request pool
+
+module _ (s : List ℕ) (k from len : ℕ) (ef : from ≡ entry-at s k .path-at) (el : len ≡ entry-at s k .path-len) where
+  pub path-within : (n : ℕ) → path-in n s k ≡ true → from + len ≤ n
+  unfolding path-in
+  path-within n h = omega (arith, leb-true)
+
+  pub path-is : (pool : List ℕ) → take (from + len - from) (drop from pool) ≡ path-of pool s k
+  unfolding path-of
+  path-is pool = rw (add-sub-cancel-left from len, ef, el)
+
+pub ruleset pathing = (path-within, path-is)
