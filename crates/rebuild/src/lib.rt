@@ -239,7 +239,7 @@ fn goes(recs: &[u8], slot: usize, opens: bool, dropped: Dropped) -> bool
 }
 
 // Where a record with its inside ends.
-fn tree_end(recs: &[u8], n: usize, slot: usize, levels: usize) -> usize
+pub fn tree_end(recs: &[u8], n: usize, slot: usize, levels: usize) -> usize
     requires { ⌜ Inside (now recs) n levels slot ⌝ }
     ensures { λ r. ⌜ r ≡ part 0 (kids-at (now (recs .entry))) n (levels - 1) (kids-at (now (recs .entry)) slot) (slot + 1) .next ⌝ }
 {
