@@ -7,14 +7,17 @@ use mathlib.Core.Option.{Option, none, some}
 use lib.Dec.{eqb, ltb}
 use lib.ListN.{length}
 use Rattle.paper.specs.Answer.{Answer, ok, refused, _>>=_, _>>_, among, lowest}
-use Rattle.paper.specs.Refusals.{found-column, no-identifier, dotless, fillable, free-name}
+use Rattle.paper.specs.Refusals.{found-column, no-identifier, dotless, fillable, found-parent, found-struct, free-name}
 use Rattle.paper.specs.Field.{highest}
 use Rattle.paper.specs.Rows.{Row}
-use Rattle.paper.specs.Bytes.{turned, rec-at, name-of, in-pool}
-use Rattle.paper.specs.Update.{root-taken, member-taken}
+use Rattle.paper.specs.Bytes.{turned, rec-at, name-of, in-pool, ok-bytes}
+use Rattle.paper.specs.Update.{root-taken, member-taken, receiver}
+use Rattle.record.specs.declared.FieldId.{FieldId}
+use Rattle.record.specs.declared.Slot.{Slot}
 use Rattle.record.specs.declared.Found.{Found}
+use Rattle.record.specs.declared.Found.the-variants as found
 use Rattle.record.specs.Says.{refusal-of, found-row}
-use Rattle.parents.specs.Target.{members-at, Standing}
+use Rattle.parents.specs.Target.{members-at, Standing, Stands}
 use Rattle.decide.specs.declared.Dropping.{Dropping}
 use Rattle.decide.specs.declared.Dropping.the-variants as dropping
 use Rattle.decide.specs.declared.Going.{Going}
@@ -74,6 +77,21 @@ under-place pool s n slot ds k x = do
 pub record Sited (pool s : List ℕ) (n slot : ℕ) : Type 0 where
   pub stands : Standing s n slot
   pub named : lowest (in-pool (length pool) s) 0 n ≡ none
+
+-- 15 the path finds nothing, 16 leads to no struct, then 17
+unfoldable pub parent-place : Option Row → (ds : List ℕ) → (k : ℕ) → (x : List ℕ) → Answer (Option ℕ)
+parent-place o ds k x = do
+  r ← found-parent k o
+  s ← found-struct k (receiver (r .field) (r .inside) (r .field .kind))
+  free-name k (not (among (s .id) ds) && member-taken (s .members) x ds)
+  ok (some (s .id))
+
+-- What was found is a record of the list, and its bytes are in order.
+pub record FoundSited (pool s : List ℕ) (n : ℕ) (f : Found) : Type 0 where
+  pub at : (x : FieldId) (p : Slot) → f ≡ found.At x p → Sited pool s n (p .0) × (ok-bytes s (p .0) ≡ true)
+
+pub record UnderParent (f : Found) (pool s : List ℕ) (n : ℕ) (ds : List ℕ) (k : ℕ) (x : List ℕ) (r : Going) : Type 0 where
+  pub says : (o : Option Row) → ((row : Row) → o ≡ some row → Stands pool s n row) → f ≡ found-row o → r ≡ goes (parent-place o ds k x)
 
 -- 18; ids from last + 1 on
 unfoldable pub freshly : (last records k : ℕ) → Fresh

@@ -1,7 +1,9 @@
 // One deletion, one addition: what a look-up's answer decides. Refusals 11 to 18.
 use dropped::Dropped;
 use lists::id_at;
+use parents::Target;
 use parents::name_taken;
+use parents::resolve_parent_target;
 use record::Check;
 use record::FieldId;
 use record::Found;
@@ -17,7 +19,7 @@ ghost use Rattle.paper.specs.Answer.{among, lowest};
 ghost use Rattle.paper.specs.Bytes.{turned, name-of, in-pool, ok-bytes};
 ghost use Rattle.paper.specs.Lists.{id-list};
 ghost use Rattle.record.specs.Says.{checked};
-ghost use Rattle.decide.specs.Entry.{Deleted, unbarred, goes, AtRoot, under-place, Sited, freshly};
+ghost use Rattle.decide.specs.Entry.{Deleted, unbarred, goes, AtRoot, under-place, Sited, FoundSited, UnderParent, freshly};
 
 // The id that a deletion drops, or refusal 11 or 12.
 pub enum Dropping {
@@ -167,6 +169,39 @@ fn join(
         });
     }
     Going::Under(under_of(id))
+}
+
+// An addition under a parent: the struct that its path leads to by one step receives it.
+pub fn place_under(
+    found: Found,
+    recs: &[u8],
+    pool: &[u8],
+    n: usize,
+    name: &[u8],
+    place: u32,
+    dropped: Dropped,
+) -> Going
+    requires { ⌜ FoundSited (now pool) (now recs) n found × Good dropped ⌝ }
+    ensures { λ r. ⌜ UnderParent found (now (pool .entry)) (now (recs .entry)) n (dropped-ids dropped) place (now (name .entry)) r ⌝ }
+{
+    let Found::At(_, parent) = found else {
+        // refusal 15
+        return Going::Refused(Refusal {
+            number: 15,
+            list: 3,
+            place,
+        });
+    };
+    let target = resolve_parent_target(recs, n, parent.0);
+    let Target::Struct(slot) = target else {
+        // refusal 16
+        return Going::Refused(Refusal {
+            number: 16,
+            list: 3,
+            place,
+        });
+    };
+    join(recs, pool, n, slot.0, name, place, dropped)
 }
 
 // The ids of an addition, in preorder after the last one that was consumed.

@@ -21,6 +21,7 @@ use Rattle.laws.proofs.Lies.{slotted}
 use Rattle.laws.proofs.Counted.{Counted, row-counted}
 use Rattle.tree.specs.Read.{part, reads}
 use Rattle.tree.proofs.Steps.{part-is, reads-is}
+use Rattle.parents.specs.Target.{Stands}
 
 -- ---- what was read
 
@@ -46,12 +47,6 @@ laid-row : (kids : ℕ → ℕ) (n k lv : ℕ) (t : Forest ℕ) → k ≤ n → 
 laid-row kids n k lv t l d h = row-counted 0 kids n t lv k d (laid-ends kids n k t l h) (laid-counted kids n k t h) ∙ rw (laid-slotted kids n k t h)
 
 -- ---- rows
-
-pub record Stands (pool s : List ℕ) (n : ℕ) (r : Row) : Type 0 where
-  pub there : r .slot < n
-  pub read : reads 0 (kids-at s) n 15 (kids-at s (r .slot)) (r .slot + 1) ≡ true
-  pub field : r .field ≡ field-at pool s (r .slot)
-  pub inside : r .inside ≡ fields pool s (part 0 (kids-at s) n 15 (kids-at s (r .slot)) (r .slot + 1) .trees)
 
 unfoldable Every : {A : Type 0} → (A → Type 0) → List A → Type 0
 Every P [] = Unit {0}

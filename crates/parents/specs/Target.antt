@@ -7,11 +7,11 @@ use mathlib.Core.Option.{Option, none, some}
 use lib.ListN.{length}
 use Rattle.paper.specs.declared.Kind.{Kind}
 use Rattle.paper.specs.declared.Kind.the-variants.{Primitive, Structure, Listing, Mapping}
-use Rattle.paper.specs.Answer.{lowest}
 use Rattle.paper.specs.Forest.{Forest}
 use Rattle.paper.specs.Field.{Field, is-struct}
-use Rattle.paper.specs.Bytes.{turned, rec-at, kind-at, kids-at, ok-bytes, in-pool}
+use Rattle.paper.specs.Bytes.{turned, rec-at, kind-at, kids-at, field-at}
 use Rattle.paper.specs.Decode.{fields}
+use Rattle.paper.specs.Rows.{Row}
 use Rattle.paper.specs.Update.{Receiver}
 use Rattle.tree.specs.Read.{part, reads}
 use Rattle.record.specs.declared.Slot.{Slot}
@@ -54,3 +54,10 @@ pub record Standing (s : List ℕ) (n k : ℕ) : Type 0 where
   pub small : n ≤ 1024
   pub there : k < n
   pub read : reads 0 (kids-at s) n 15 (kids-at s k) (k + 1) ≡ true
+
+-- A row is the record at its slot, whose inside was read.
+pub record Stands (pool s : List ℕ) (n : ℕ) (r : Row) : Type 0 where
+  pub there : r .slot < n
+  pub read : reads 0 (kids-at s) n 15 (kids-at s (r .slot)) (r .slot + 1) ≡ true
+  pub field : r .field ≡ field-at pool s (r .slot)
+  pub inside : r .inside ≡ fields pool s (part 0 (kids-at s) n 15 (kids-at s (r .slot)) (r .slot + 1) .trees)
