@@ -1,18 +1,22 @@
 -- Reading counts back gives the tree that they are of.
-use Prim.Native.Nat.{ℕ, zero, suc, _+_, _≤_, _<_, max}
+use Prim.Native.Nat.{ℕ, zero, suc, _+_, _≤_, _<_}
 use mathlib.Core.Path.{_≡_, refl, sym, ap, _∙_}
-use mathlib.Core.List.{List, [], _∷_, _++_}
+use mathlib.Core.List.{List, _∷_, _++_}
 use native.Mathlib.Nat.{add-zero}
 use native.Mathlib.Omega.{arith}
 use lib.ListN.{length, getD, List·getD-append}
 use lib.Seq.{getD-append-add}
 use borrow.Author.Tests.{lt-ltb, le-ltb}
-use Rattle.paper.specs.Answer.{Answer, ok, refused, _>>=_}
+use Rattle.paper.specs.Answer.{ok, _>>=_}
 use Rattle.paper.specs.Forest.{Forest, empty, node, size, siblings, levels, preorder, counts, mapped}
-use Rattle.paper.specs.Layout.{Part, nothing, before, deep, row-with, row, roots}
+use Rattle.paper.specs.Layout.{nothing, before, deep, row-with, row, roots}
 use Rattle.laws.proofs.Basics.{rebind}
-use Rattle.laws.proofs.Lies.{slotted}
 use Rattle.laws.proofs.Preorder.{length-preorder, length-counts}
+
+-- The slots of a tree that begins at slot k.
+unfoldable pub slotted : {A : Type 0} → ℕ → Forest A → Forest ℕ
+slotted k empty = empty
+slotted k (node f m n) = node k (slotted (suc k) m) (slotted (suc (k + size m)) n)
 
 -- From place k on the counts are those of t.
 abbrev pub Counted : {A : Type 0} → (ℕ → ℕ) → ℕ → Forest A → Type 0

@@ -1,6 +1,9 @@
 -- Laws of the definitions of document 01, which proofs of code and of theorems cite.
 pub mod Basics
 pub mod Words
+pub mod Runs
+pub mod Preorder
+pub mod Counted
 pub mod Taken
 pub mod Lies
 pub mod Written
@@ -11,3 +14,4 @@ pub mod Runs
 pub mod Preorder
 pub mod Counted
 pub mod Pointwise
+pub mod Same

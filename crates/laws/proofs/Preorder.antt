@@ -1,12 +1,11 @@
 -- Forests as lists: the records in slot order, and how many members each has.
-use Prim.Native.Nat.{ℕ, suc, _+_, _≤_, _<_, max}
-use mathlib.Core.Path.{_≡_, refl, sym, ap, ap₂, _∙_}
-use mathlib.Core.List.{List, [], _∷_, _++_, map, append-assoc}
+use Prim.Native.Nat.{ℕ, suc, _+_, max}
+use mathlib.Core.Path.{_≡_, refl, sym, ap, _∙_}
+use mathlib.Core.List.{List, _∷_, _++_, map, append-assoc}
 use native.Mathlib.Omega.{arith}
 use lib.ListN.{length, length-append}
 use Rattle.paper.specs.Forest.{Forest, empty, node, size, siblings, levels, preorder, counts, mapped, _then_}
 use Rattle.laws.proofs.Runs.{map-append}
-use Rattle.laws.proofs.Fitting.{siblings-mapped}
 
 module _ {A : Type 0} where
   pub length-preorder : (t : Forest A) → length (preorder t) ≡ size t
@@ -59,6 +58,21 @@ module _ {A : Type 0} where
 -- ---- mapping
 
 module _ {A B : Type 0} (g : A → B) where
+  pub size-mapped : (t : Forest A) → size (mapped g t) ≡ size t
+  unfolding size mapped
+  size-mapped empty = refl
+  size-mapped (node a m n) = rw (size-mapped m, size-mapped n)
+
+  pub siblings-mapped : (t : Forest A) → siblings (mapped g t) ≡ siblings t
+  unfolding siblings mapped
+  siblings-mapped empty = refl
+  siblings-mapped (node a m n) = rw (siblings-mapped n)
+
+  pub levels-mapped : (t : Forest A) → levels (mapped g t) ≡ levels t
+  unfolding levels mapped
+  levels-mapped empty = refl
+  levels-mapped (node a m n) = rw (levels-mapped m, levels-mapped n)
+
   pub preorder-mapped : (t : Forest A) → preorder (mapped g t) ≡ map g (preorder t)
   unfolding preorder mapped
   preorder-mapped empty = refl
@@ -67,7 +81,7 @@ module _ {A B : Type 0} (g : A → B) where
   pub counts-mapped : (t : Forest A) → counts (mapped g t) ≡ counts t
   unfolding counts mapped
   counts-mapped empty = refl
-  counts-mapped (node a m n) = rw (siblings-mapped g m, counts-mapped m, counts-mapped n)
+  counts-mapped (node a m n) = rw (siblings-mapped m, counts-mapped m, counts-mapped n)
 
 pub mapped-mapped : {A B C : Type 0} (g : A → B) (h : B → C) (t : Forest A) → mapped h (mapped g t) ≡ mapped (λ a. h (g a)) t
 unfolding mapped

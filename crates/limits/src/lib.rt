@@ -1,4 +1,5 @@
-// Refusals 1 and 2: the lengths of all that is lent, tested before anything is read.
+// Refusals 1 and 2: the lengths of all that is lent, tested before anything else is read. Each test takes any bytes at all.
+use record::wide;
 ghost use mathlib.Core.Path.{_≡_};
 ghost use mathlib.Core.Bool.{_&&_};
 ghost use Prim.Native.Nat.{_+_, _*_, _≤_, _<_};
@@ -6,14 +7,14 @@ ghost use lib.Dec.{leb};
 ghost use lib.ListN.{length};
 ghost use Rattle.paper.specs.Limits.{room, whole, sum-from, name-lens, tree-sized, sized, sized-ids, sized-update};
 
-// Refusal 1 is given where this is false: output buffers of these lengths hold any answer.
+// Output buffers of these lengths hold any answer; where they do not, refusal 1.
 pub fn room(records: usize, names: usize) -> bool
     ensures { λ r. ⌜ r ≡ room records names ⌝ }
 {
     (24576 <= records) & (32768 <= names)
 }
 
-// The same for renumbering, which writes as many identifier bytes as it is given.
+// The same, refusal 1, for renumbering, which writes as many identifier bytes as it is given.
 pub fn room_with_identifiers(records: usize, names: usize, given: usize, identifiers: usize) -> bool
     ensures { λ r. ⌜ r ≡ (room records names && leb given identifiers) ⌝ }
 {
@@ -28,26 +29,21 @@ fn whole_list(s: &[u8], item: usize, most: usize) -> bool
     (s.len() % item == 0) & (s.len() <= item * most)
 }
 
-fn length_of(x: u8) -> usize
-    ensures { λ r. ⌜ (r ≡ x) × (r ≤ 255) ⌝ }
-{
-    x as usize
-}
-
-// The sum of the name lengths of n records: at most 255 * 1,024.
-fn name_sum(recs: &[u8], n: usize) -> usize
+// The sum of the name lengths of n records, whatever else they hold: at most 255 * 1,024.
+fn name_sum(recs: &[u8], n: usize) -> u32
     requires { ⌜ (n * 24 ≤ length (now recs)) × (n ≤ 1024) ⌝ }
     ensures { λ r. ⌜ r ≡ sum-from (name-lens (now (recs .entry))) 0 n ⌝ }
 {
     let mut i = 0;
-    let mut sum: usize = 0;
+    let mut sum: u32 = 0;
     while i < n {
-        sum += length_of(recs[i * 24 + 8]);
+        sum += wide(recs[i * 24 + 8]);
         i += 1;
     }
     sum
 }
 
+// At most 1,024 whole records, and at most 32,768 name bytes.
 fn sized_tree(recs: &[u8]) -> bool
     ensures { λ r. ⌜ r ≡ tree-sized (now (recs .entry)) ⌝ }
 {
@@ -57,21 +53,21 @@ fn sized_tree(recs: &[u8]) -> bool
     name_sum(recs, recs.len() / 24) <= 32768
 }
 
-// Refusal 2 is given where this is false: a tree that is only read.
+// The limits on a tree that is only read; where they are passed, refusal 2.
 pub fn sized(recs: &[u8], pool: &[u8]) -> bool
     ensures { λ r. ⌜ r ≡ sized (now (recs .entry)) (now (pool .entry)) ⌝ }
 {
     sized_tree(recs) & (pool.len() <= 32768)
 }
 
-// Refusal 2, a tree and at most 64 identifiers.
+// The limits on a tree and its identifiers, at most 64; where they are passed, refusal 2.
 pub fn sized_identifiers(recs: &[u8], pool: &[u8], identifiers: &[u8]) -> bool
     ensures { λ r. ⌜ r ≡ sized-ids 64 (now (recs .entry)) (now (pool .entry)) (now (identifiers .entry)) ⌝ }
 {
     sized(recs, pool) & whole_list(identifiers, 4, 64)
 }
 
-// Refusal 2, a tree and at most 1,024 selected ids.
+// The limits on a tree and selected ids, at most 1,024; where they are passed, refusal 2.
 pub fn sized_selected(recs: &[u8], pool: &[u8], selected: &[u8]) -> bool
     ensures { λ r. ⌜ r ≡ sized-ids 1024 (now (recs .entry)) (now (pool .entry)) (now (selected .entry)) ⌝ }
 {
@@ -85,7 +81,7 @@ fn sized_entries(deletions: &[u8], additions: &[u8]) -> bool
     whole_list(deletions, 8, 64) & whole_list(additions, 8, 64)
 }
 
-// Refusal 2, all that an update is lent.
+// The limits on all that an update is lent; where one is passed, refusal 2.
 pub fn sized_update(
     recs: &[u8],
     pool: &[u8],

@@ -14,7 +14,7 @@ ghost use Rattle.paper.specs.Lists.{entry-at, ok-deletion, ok-addition, path-in
 ghost use Rattle.record.specs.Says.{tested, checked};
 ghost use Rattle.lists.specs.Rule.{rule-of};
 
-// The 32 bits of the i-th id.
+// The 32 bits of the i-th id; turned, they are the id of the paper.
 pub fn id_at(ids: &[u8], i: usize) -> u32
     requires { ⌜ i * 4 + 4 ≤ length (now ids) ⌝ }
     ensures { λ r. ⌜ (r ≡ word32 (now (ids .entry)) (i * 4)) × (id-at (now (ids .entry)) i ≡ turned r) ⌝ }
@@ -30,6 +30,7 @@ pub fn has_path(entries: &[u8], k: usize) -> bool
     entries[k * 8 + 6] == 1
 }
 
+// The offset of an entry's path in the request pool.
 fn path_from(entries: &[u8], k: usize) -> usize
     requires { ⌜ k * 8 + 8 ≤ length (now entries) ⌝ }
     ensures { λ r. ⌜ (r ≡ entry-at (now (entries .entry)) k .path-at) × (r < 4294967296) ⌝ }
@@ -37,6 +38,7 @@ fn path_from(entries: &[u8], k: usize) -> usize
     le32(entries, k * 8) as usize
 }
 
+// The length of an entry's path.
 fn path_len(entries: &[u8], k: usize) -> usize
     requires { ⌜ k * 8 + 8 ≤ length (now entries) ⌝ }
     ensures { λ r. ⌜ (r ≡ entry-at (now (entries .entry)) k .path-len) × (r < 65536) ⌝ }
@@ -54,6 +56,7 @@ pub fn path_at<'a>(pool: &'a [u8], entries: &[u8], k: usize) -> &'a [u8]
     &pool[from..from + len]
 }
 
+// Whether a deletion keeps its byte rules: it has a path.
 fn deletion_ok(entries: &[u8], k: usize) -> bool
     requires { ⌜ k * 8 + 8 ≤ length (now entries) ⌝ }
     ensures { λ r. ⌜ r ≡ ok-deletion (now (entries .entry)) k ⌝ }
@@ -61,6 +64,7 @@ fn deletion_ok(entries: &[u8], k: usize) -> bool
     (entries[k * 8 + 6] == 1) & (entries[k * 8 + 7] == 0)
 }
 
+// Whether an addition keeps its byte rules: without a path its offset and length are 0.
 fn addition_ok(entries: &[u8], k: usize) -> bool
     requires { ⌜ k * 8 + 8 ≤ length (now entries) ⌝ }
     ensures { λ r. ⌜ r ≡ ok-addition (now (entries .entry)) k ⌝ }
@@ -71,6 +75,7 @@ fn addition_ok(entries: &[u8], k: usize) -> bool
     ((has == 1) | (has == 0) & (from == 0) & (len == 0)) & (entries[k * 8 + 7] == 0)
 }
 
+// Whether an entry keeps the byte rules of its list.
 fn entry_ok(entries: &[u8], k: usize, deletion: bool) -> bool
     requires { ⌜ k * 8 + 8 ≤ length (now entries) ⌝ }
     ensures { λ r. ⌜ r ≡ rule-of deletion (now (entries .entry)) k ⌝ }
@@ -81,14 +86,17 @@ fn entry_ok(entries: &[u8], k: usize, deletion: bool) -> bool
     addition_ok(entries, k)
 }
 
+// Whether an entry's path lies in a pool of a length. The sum is of 64 bits, so it can't wrap.
 fn path_ok(entries: &[u8], pool: usize, k: usize) -> bool
     requires { ⌜ k * 8 + 8 ≤ length (now entries) ⌝ }
     ensures { λ r. ⌜ r ≡ path-in pool (now (entries .entry)) k ⌝ }
 {
-    path_from(entries, k) + path_len(entries, k) <= pool
+    let from = path_from(entries, k);
+    let len = path_len(entries, k);
+    from + len <= pool
 }
 
-// Refusal 3 over the first n entries.
+// The lowest of n entries that breaks its byte rule: refusal 3.
 fn check_rules(entries: &[u8], n: usize, list: u32, deletion: bool) -> Check
     requires { ⌜ (n * 8 ≤ length (now entries)) × (n ≤ 64) ⌝ }
     ensures { λ r. ⌜ r ≡ tested 3 list (lowest (rule-of deletion (now (entries .entry))) 0 n) ⌝ }
@@ -107,26 +115,26 @@ fn check_rules(entries: &[u8], n: usize, list: u32, deletion: bool) -> Check
     Check::Fine
 }
 
-// Refusal 4 over the first n entries.
+// The lowest of n entries whose path passes the end of the request pool: refusal 4.
 fn check_paths(entries: &[u8], n: usize, pool: usize, list: u32) -> Check
     requires { ⌜ (n * 8 ≤ length (now entries)) × (n ≤ 64) ⌝ }
     ensures { λ r. ⌜ r ≡ tested 4 list (lowest (path-in pool (now (entries .entry))) 0 n) ⌝ }
 {
-    let mut i = 0;
-    while i < n {
-        if !path_ok(entries, pool, i) {
+    let mut k = 0;
+    while k < n {
+        if !path_ok(entries, pool, k) {
             return Check::Refused(Refusal {
                 number: 4,
                 list,
-                place: i as u32,
+                place: k as u32,
             });
         }
-        i += 1;
+        k += 1;
     }
     Check::Fine
 }
 
-// 3 over the whole list, then 4; the two lists differ in their number and their rule alone.
+// Refusal 3 over the whole list, then refusal 4. The two lists differ in their number and their rule alone.
 fn check_entries(entries: &[u8], pool: &[u8], list: u32, deletion: bool) -> Check
     requires { ⌜ length (now entries) ≤ 512 ⌝ }
     ensures { λ r. ⌜ r ≡ checked (entries-ok list (rule-of deletion) (now (entries .entry)) (now (pool .entry))) ⌝ }
@@ -138,7 +146,7 @@ fn check_entries(entries: &[u8], pool: &[u8], list: u32, deletion: bool) -> Chec
     check_paths(entries, n, pool.len(), list)
 }
 
-// Refusals 3 and 4 of the deletions, list 2.
+// Refusal 3 or refusal 4 of the deletions, list 2. Refusal 2 was tested before, hence the length.
 pub fn check_deletions(deletions: &[u8], request: &[u8]) -> Check
     requires { ⌜ length (now deletions) ≤ 512 ⌝ }
     ensures { λ r. ⌜ r ≡ checked (entries-ok 2 ok-deletion (now (deletions .entry)) (now (request .entry))) ⌝ }
@@ -146,7 +154,7 @@ pub fn check_deletions(deletions: &[u8], request: &[u8]) -> Check
     check_entries(deletions, request, 2, true)
 }
 
-// Refusals 3 and 4 of the additions, list 3.
+// Refusal 3 or refusal 4 of the additions, list 3. Refusal 2 was tested before, hence the length.
 pub fn check_additions(additions: &[u8], request: &[u8]) -> Check
     requires { ⌜ length (now additions) ≤ 512 ⌝ }
     ensures { λ r. ⌜ r ≡ checked (entries-ok 3 ok-addition (now (additions .entry)) (now (request .entry))) ⌝ }

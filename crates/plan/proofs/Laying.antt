@@ -1,15 +1,14 @@
 -- Trees laid into a plan, one behind the other, and read back: a run of stores behind a run is one run, and counts tell the tree.
 use Prim.Native.Nat.{ℕ, zero, suc, _+_, _-_, _<_, _≤_}
-use mathlib.Core.Path.{_≡_, refl, sym, ap, subst, _∙_}
+use mathlib.Core.Path.{_≡_, refl, sym, ap, _∙_}
 use mathlib.Core.Bool.{true}
-use mathlib.Core.Logic.{⊎-elim}
 use mathlib.Core.List.{List, [], _∷_, _++_, map}
 use native.Mathlib.Nat.{zero-add}
 use native.Mathlib.Numerals.{add-one}
 use native.Mathlib.Omega.{arith}
-use lib.ListN.{length, getD, set, length-map, List·getD-map, List·getD-append}
-use lib.Seq.{sets, length-sets, getD-append-add}
-use Rattle.paper.specs.Answer.{Answer, ok, refused}
+use lib.ListN.{length, getD, set, length-map, List·getD-map}
+use lib.Seq.{sets, length-sets}
+use Rattle.paper.specs.Answer.{Answer, ok}
 use Rattle.paper.specs.Forest.{Forest, empty, node, size, siblings, levels, preorder, counts, mapped, _then_}
 use Rattle.paper.specs.Sound.{name-bytes}
 use Rattle.paper.specs.Bytes.{from}
@@ -17,10 +16,10 @@ use Rattle.paper.specs.Layout.{Part, roots}
 use Rattle.laws.proofs.Lies.{slotted}
 use Rattle.laws.proofs.Written.{siblings-size}
 use Rattle.laws.proofs.Runs.{sets-append, sets-before, getD-sets, map-append, map-from}
-use Rattle.laws.proofs.Preorder.{length-preorder, length-counts, preorder-then, counts-then, size-then, preorder-mapped, counts-mapped}
+use Rattle.laws.proofs.Preorder.{length-preorder, length-counts, preorder-then, counts-then, preorder-mapped, counts-mapped}
 use Rattle.laws.proofs.Counted.{counted, placed, roots-counted}
 use Rattle.tree.specs.Read.{got, fine, itself}
-use Rattle.tree.proofs.Filled.{lt-or-le, Full}
+use Rattle.tree.proofs.Filled.{Full}
 use Rattle.plan.specs.Plan.{Lent, Source, slot-of, bits-of, planned-field, source-in, kids-in, plan-slots, plan-tree, plan-fields, Sits, Plan, Laid}
 use Rattle.plan.specs.Draft.{Draft, Drawn}
 

@@ -1,1 +1,6 @@
 pub mod Laying
+pub mod Sourcing
+pub mod Standing
+pub mod Summing
+pub mod Taking
+pub mod Writing

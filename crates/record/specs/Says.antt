@@ -1,6 +1,5 @@
 -- What an answer of the code says: for each of its cases the paper's number and values.
 use Prim.Native.Nat.{ℕ}
-use mathlib.Core.List.{List}
 use mathlib.Core.Option.{Option, none, some}
 use lib.ListN.{length}
 use Rattle.paper.specs.Answer.{Answer, ok, refused}
@@ -9,10 +8,7 @@ use Rattle.paper.specs.Rows.{Row}
 use Rattle.paper.specs.Bytes.{turned}
 use Rattle.paper.specs.Encode.{pool-bytes}
 use Rattle.paper.specs.Entries.{Result}
-use Rattle.record.specs.declared.FieldId.{FieldId}
-use Rattle.record.specs.declared.Slot.{Slot}
 use Rattle.record.specs.declared.Refusal.{Refusal}
-use Rattle.record.specs.declared.Sizes.{Sizes}
 use Rattle.record.specs.declared.Check.{Check}
 use Rattle.record.specs.declared.Check.the-variants as check
 use Rattle.record.specs.declared.Found.{Found}

@@ -52,12 +52,14 @@ pub enum Changed {
     Refused(Refusal),
 }
 
+// A byte as a number of 32 bits.
 pub fn wide(x: u8) -> u32
     ensures { λ r. ⌜ (r ≡ x) × (r < 256) ⌝ }
 {
     x as u32
 }
 
+// The little-endian word of 16 bits at a place.
 pub fn le16(s: &[u8], at: usize) -> u32
     requires { ⌜ at + 2 ≤ length (now s) ⌝ }
     ensures { λ r. ⌜ (r ≡ word16 (now (s .entry)) at) × (r < 65536) ⌝ }
@@ -65,6 +67,7 @@ pub fn le16(s: &[u8], at: usize) -> u32
     wide(s[at]) + wide(s[at + 1]) * 256
 }
 
+// The little-endian word of 32 bits at a place.
 pub fn le32(s: &[u8], at: usize) -> u32
     requires { ⌜ at + 4 ≤ length (now s) ⌝ }
     ensures { λ r. ⌜ r ≡ word32 (now (s .entry)) at ⌝ }
@@ -80,6 +83,7 @@ pub fn kids_at(recs: &[u8], slot: usize) -> u32
     le16(recs, slot * 24 + 12)
 }
 
+// The kind that a byte stands for; 3 and above are maps, and refusal 3 turns down those above.
 pub fn kind_of(b: u8) -> Kind
     ensures { λ r. ⌜ r ≡ kind-from b ⌝ }
 {
@@ -95,6 +99,7 @@ pub fn kind_of(b: u8) -> Kind
     Kind::Mapping
 }
 
+// The kind of a record.
 pub fn kind_at(recs: &[u8], slot: usize) -> Kind
     requires { ⌜ slot * 24 + 24 ≤ length (now recs) ⌝ }
     ensures { λ r. ⌜ r ≡ kind-at (now (recs .entry)) slot ⌝ }
@@ -102,12 +107,14 @@ pub fn kind_at(recs: &[u8], slot: usize) -> Kind
     kind_of(recs[slot * 24 + 9])
 }
 
+// Whether a record of this kind may have so many direct children.
 pub fn kids_fit(kind: u8, kids: u32) -> bool
     ensures { λ r. ⌜ r ≡ kids-fit kind kids ⌝ }
 {
     (kind == 0) & (kids == 0) | (kind == 1) | (kind == 2) & (kids == 1) | (kind == 3) & (kids == 2)
 }
 
+// Whether a record keeps its byte rules.
 pub fn bytes_ok(recs: &[u8], slot: usize) -> bool
     requires { ⌜ slot * 24 + 24 ≤ length (now recs) ⌝ }
     ensures { λ r. ⌜ r ≡ ok-bytes (now (recs .entry)) slot ⌝ }
@@ -122,7 +129,7 @@ pub fn bytes_ok(recs: &[u8], slot: usize) -> bool
     kids_fit(kind, kids) & (flags < 4) & (pad == 0) & (pad2 == 0) & ((kind == 0) | (code == 0))
 }
 
-// Refusal 3.
+// The lowest of n records that breaks a byte rule: refusal 3.
 pub fn check_bytes(recs: &[u8], n: usize, list: u32) -> Check
     requires { ⌜ (n * 24 ≤ length (now recs)) × (n ≤ 1024) ⌝ }
     ensures { λ r. ⌜ r ≡ tested 3 list (lowest (ok-bytes (now (recs .entry))) 0 n) ⌝ }
@@ -153,14 +160,17 @@ fn length_of(x: u8) -> usize
     x as usize
 }
 
+// Whether a record's name lies in a pool of a length. The sum is of 64 bits, so it can't wrap.
 pub fn name_ok(recs: &[u8], pool: usize, slot: usize) -> bool
     requires { ⌜ slot * 24 + 24 ≤ length (now recs) ⌝ }
     ensures { λ r. ⌜ r ≡ in-pool pool (now (recs .entry)) slot ⌝ }
 {
-    size(le32(recs, slot * 24 + 4)) + length_of(recs[slot * 24 + 8]) <= pool
+    let from = size(le32(recs, slot * 24 + 4));
+    let len = length_of(recs[slot * 24 + 8]);
+    from + len <= pool
 }
 
-// Refusal 4.
+// The lowest of n records whose name passes the end of its pool: refusal 4.
 pub fn check_bounds(recs: &[u8], n: usize, pool: usize, list: u32) -> Check
     requires { ⌜ (n * 24 ≤ length (now recs)) × (n ≤ 1024) ⌝ }
     ensures { λ r. ⌜ r ≡ tested 4 list (lowest (in-pool pool (now (recs .entry))) 0 n) ⌝ }
@@ -189,6 +199,7 @@ pub fn name_at<'a>(pool: &'a [u8], recs: &[u8], slot: usize) -> &'a [u8]
     &pool[from..from + len]
 }
 
+// Whether two parts have the same bytes.
 pub fn equal(a: &[u8], b: &[u8]) -> bool
     ensures { λ r. ⌜ r ≡ same (now (a .entry)) (now (b .entry)) ⌝ }
 {

@@ -22,7 +22,7 @@ use Rattle.record.specs.declared.Refusal.{Refusal}
 use Rattle.record.specs.declared.Check.{Check}
 use Rattle.record.specs.declared.Check.the-variants as check
 use Rattle.record.specs.Says.{tested, refusal-of}
-use Rattle.record.proofs.Testing.{refused-as, was-fine, chain-goes, chain-stops}
+use Rattle.record.proofs.Testing.{refused-as, chain-goes, chain-stops}
 use Rattle.limits.proofs.Within.{tree-most}
 use Rattle.tree.specs.declared.Walked.{Walked}
 use Rattle.tree.specs.declared.Walked.the-variants as walked

@@ -1,5 +1,5 @@
 -- The end of a row, by a loop over its trees: what is left ends where the whole ends. `search looping`.
-use mathlib.Core.Path.{_≡_, refl, sym, _∙_}
+use mathlib.Core.Path.{_≡_, refl, _∙_}
 use Prim.Native.Nat.{ℕ, _+_, _-_, _<_, _≤_}
 use native.Mathlib.Omega.{arith}
 use Rattle.record.specs.declared.Refusal.{Refusal}

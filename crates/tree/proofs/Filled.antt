@@ -1,13 +1,12 @@
 -- What is read from a slot on: how many trees, and which slots with which counts. The laws say so of the trees that are laid there.
 use mathlib.Core.Path.{_≡_, refl, sym, ap, _∙_}
 use mathlib.Core.Logic.{_⊎_, inl, inr, ⊎-elim}
-use mathlib.Core.List.{List, [], _∷_, _++_}
+use mathlib.Core.List.{List, _∷_, _++_}
 use mathlib.Core.Bool.{Bool, true, false}
 use Prim.Native.Nat.{ℕ, zero, suc, _+_, _-_, _<_, _≤_}
-use native.Mathlib.Nat.{add-zero, add-suc, suc-add}
-use native.Mathlib.Numerals.{add-one, sub-one}
+use native.Mathlib.Nat.{add-zero, suc-add}
 use native.Mathlib.Omega.{arith}
-use borrow.Author.Tests.{lt-ltb, le-ltb, ltb-true, ltb-false}
+use borrow.Author.Tests.{ltb-true, ltb-false}
 use lib.Dec.{ltb}
 use Rattle.paper.specs.Answer.{Answer, ok, refused}
 use Rattle.paper.specs.Forest.{Forest, empty, node, size, siblings, preorder, counts}
@@ -15,11 +14,11 @@ use Rattle.paper.specs.Bytes.{from}
 use Rattle.paper.specs.Layout.{Part, before, row}
 use Rattle.laws.proofs.Basics.{refused≢ok, unbind, ok-is}
 use Rattle.laws.proofs.Taken.{Laid, row-take}
-use Rattle.tree.specs.Read.{got, fine, part, reads, itself}
+use Rattle.tree.specs.Read.{itself}
 use Rattle.tree.specs.declared.Walked.{Walked}
-use Rattle.tree.specs.declared.Walked.the-variants.{End, Refused}
+use Rattle.tree.specs.declared.Walked.the-variants.{End}
 use Rattle.tree.specs.Says.{ended}
-use Rattle.tree.proofs.Reading.{row-none, row-deep, row-past, row-in}
+use Rattle.tree.proofs.Reading.{row-deep, row-past, row-in}
 
 pub lt-or-le : (a b : ℕ) → (a < b) ⊎ (b ≤ a)
 lt-or-le a b = go (ltb a b) refl

@@ -1,27 +1,24 @@
 -- Refusal 6 by a loop over the trees of a row: what is left says the same as the whole. `search labelling`.
-use mathlib.Core.Path.{_≡_, refl, sym, ap, _∙_}
-use mathlib.Core.List.{List, [], _∷_}
-use mathlib.Core.Bool.{Bool, true, false, not, cond, _&&_}
+use mathlib.Core.Path.{_≡_, refl, sym, _∙_}
+use mathlib.Core.List.{List}
+use mathlib.Core.Bool.{Bool, true, false, not}
 use mathlib.Core.Option.{Option, none, some}
 use Prim.Native.Nat.{ℕ, suc, _+_, _*_, _-_, _<_, _≤_}
 use native.Mathlib.Numerals.{add-one}
 use native.Mathlib.Omega.{arith}
-use borrow.Author.Tests.{not-true, not-false, eq-eqb, ne-eqb}
-use lib.Dec.{eqb}
-use lib.ListN.{length, drop, getD}
-use lib.Seq.{drop-cons, drop-length}
+use borrow.Author.Tests.{not-true, not-false}
+use lib.ListN.{length}
 use Rattle.record.specs.declared.Refusal.{Refusal}
-use Rattle.paper.specs.declared.Kind.{Kind}
 use Rattle.paper.specs.declared.Role.{Role}
 use Rattle.paper.specs.declared.Role.the-variants.{Member, Element, Key, Value}
-use Rattle.paper.specs.Answer.{Answer, ok, refused, lowest, same, or-else}
+use Rattle.paper.specs.Answer.{lowest, same, or-else}
 use Rattle.paper.specs.Forest.{Forest, empty, node, size, mapped}
-use Rattle.paper.specs.Field.{Field, first, after}
+use Rattle.paper.specs.Field.{first, after}
 use Rattle.paper.specs.Sound.{fitting, misnamed, text}
 use Rattle.tree.specs.declared.Walked.{Walked}
 use Rattle.tree.specs.declared.Walked.the-variants.{End, Refused}
 use Rattle.paper.specs.Bytes.{in-pool, name-of, field-at, kind-at, kids-at}
-use Rattle.paper.specs.Layout.{Part, nothing, before}
+use Rattle.paper.specs.Layout.{Part}
 use Rattle.tree.specs.Read.{part, reads}
 use Rattle.paper.specs.Decode.{fields}
 use Rattle.record.specs.Says.{refusal-of}
@@ -158,3 +155,5 @@ module _ (x : List ℕ) (r : Role) where
   pub fits-value : (b : Bool) → r ≡ Value → b ≡ same x (text "value") → b ≡ fitting r x
   unfolding fitting
   fits-value b d e = rw d e
+
+pub ruleset fits = (fits-member, fits-element, fits-key, fits-value)

@@ -1,6 +1,5 @@
 -- The clauses of `row`, at the numbers that the code has.
-use mathlib.Core.Path.{_≡_, refl, sym, ap, _∙_}
-use mathlib.Core.Bool.{Bool, true, false}
+use mathlib.Core.Path.{_≡_, refl, sym, _∙_}
 use Prim.Native.Nat.{ℕ, zero, suc, _+_, _-_, _<_, _≤_}
 use native.Mathlib.Numerals.{add-one, sub-one}
 use native.Mathlib.Omega.{arith}
@@ -71,5 +70,3 @@ module _ (li : ℕ) (kids : ℕ → ℕ) (n lv c k : ℕ) where
 
     pub end-stops : (t : Refusal) → w ≡ Refused t → Refused t ≡ ended (row li kids n lv c k)
     end-stops t e = rw (row-in li kids n lv c k p q l, ← em) (ended-stops (row li kids n (lv - 1) m (k + 1)) (λ i. row li kids n lv (c - 1) i) k t w ew e)
-
-pub ruleset ending = (end-none, end-deep, end-past, end-goes, end-stops)

@@ -1,22 +1,21 @@
 -- The loop over the roots: `search rooting`. W is the whole answer.
-use mathlib.Core.Path.{_≡_, refl, sym, ap, _∙_}
-use mathlib.Core.List.{List, [], _∷_, _++_}
+use mathlib.Core.Path.{_≡_, refl, sym, _∙_}
 use Prim.Native.Nat.{ℕ, zero, suc, _+_, _-_, _<_, _≤_}
 use native.Mathlib.Nat.{add-zero}
 use native.Mathlib.Numerals.{add-one, sub-one}
 use native.Mathlib.Omega.{arith}
-use mathlib.Core.Logic.{_⊎_, inl, inr, ⊎-elim}
+use mathlib.Core.Logic.{⊎-elim}
 use borrow.Author.Tests.{lt-ltb, le-ltb}
 use Rattle.record.specs.declared.Refusal.{Refusal}
 use Rattle.paper.specs.Answer.{Answer, ok, refused, _>>=_}
-use Rattle.paper.specs.Forest.{Forest, empty, node, size, siblings, preorder, counts}
+use Rattle.paper.specs.Forest.{siblings}
 use Rattle.tree.specs.declared.Walked.{Walked}
 use Rattle.tree.specs.declared.Walked.the-variants as walked
 use Rattle.tree.specs.declared.Shaped.{Shaped}
 use Rattle.tree.specs.declared.Shaped.the-variants as shaped
 use Rattle.paper.specs.Layout.{Part, nothing, before, row, roots}
 use Rattle.tree.specs.Says.{ended, rooted}
-use Rattle.tree.proofs.Reading.{row-none, row-deep, row-past, row-in}
+use Rattle.tree.proofs.Reading.{row-none, row-in}
 use Rattle.tree.proofs.Filled.{lt-or-le, full, end-room}
 use Rattle.laws.proofs.Basics.{unbind, ok-is}
 
@@ -73,8 +72,8 @@ module _ (li : ℕ) (kids : ℕ → ℕ) (n : ℕ) where
     pub left-stops : (t : Refusal) → w ≡ walked.Refused t → shaped.Refused t ≡ W
     left-stops t d = sym (h .same ∙ rw (roots-in li kids n (h .turns) k l (h .enough), ← em) (sym (rooted-stops (row li kids n 15 m (k + 1)) (λ i. roots li kids n (h .turns - 1) i) i k t w ew d)))
 
-    pub left-less : (j : ℕ) → w ≡ walked.End j → n - j < n - k
-    left-less j d = let r = end-room li kids n 15 m (k + 1) j w ew d in omega arith
+  pub left-less : (lv k m : ℕ) (w : Walked) → k < n → w ≡ ended (row li kids n lv m (k + 1)) → (j : ℕ) → w ≡ walked.End j → n - j < n - k
+  left-less lv k m w l ew j d = let r = end-room li kids n lv m (k + 1) j w ew d in omega arith
 
   pub left-ends : (W : Shaped) (i k : ℕ) → Left li kids n W i k → n ≤ k → shaped.Roots i ≡ W
   unfolding siblings rooted

@@ -26,17 +26,19 @@ ghost use Rattle.tree.specs.Read.{reads};
 ghost use Rattle.tree.specs.Says.{ended, rooted, decoded, Labelled};
 ghost use Rattle.tree.specs.Only.{only-read};
 
+// Where a walk over a row of trees ends, or why it stops.
 pub enum Walked {
     End(usize),
     Refused(Refusal),
 }
 
+// How many roots a tree has, or why it is turned down.
 pub enum Shaped {
     Roots(u32),
     Refused(Refusal),
 }
 
-// Where `count` trees from `slot` on end, with `levels` levels left for them. A loop over the siblings.
+// Where `count` trees from `slot` on end, with `levels` levels left for them, or refusal 5. A loop over the siblings.
 pub fn row_end(recs: &[u8], n: usize, slot: usize, count: u32, levels: usize, list: u32) -> Walked
     requires { ⌜ (n * 24 ≤ length (now recs)) × (n ≤ 1024) × (slot ≤ n) ⌝ }
     ensures { λ r. ⌜ r ≡ ended (row list (kids-at (now (recs .entry))) n levels count slot) ⌝ }
@@ -44,6 +46,7 @@ pub fn row_end(recs: &[u8], n: usize, slot: usize, count: u32, levels: usize, li
     let mut at = slot;
     let mut left = count;
     while 0 < left {
+        // refusal 5: level 17
         if levels == 0 {
             return Walked::Refused(Refusal {
                 number: 5,
@@ -51,6 +54,7 @@ pub fn row_end(recs: &[u8], n: usize, slot: usize, count: u32, levels: usize, li
                 place: at as u32,
             });
         }
+        // refusal 5: past the end
         if n <= at {
             return Walked::Refused(Refusal {
                 number: 5,
@@ -72,7 +76,7 @@ pub fn row_end(recs: &[u8], n: usize, slot: usize, count: u32, levels: usize, li
     Walked::End(at)
 }
 
-// Refusal 5, or the number of roots.
+// The number of roots, or refusal 5.
 pub fn check_shape(recs: &[u8], n: usize, list: u32) -> Shaped
     requires { ⌜ (n * 24 ≤ length (now recs)) × (n ≤ 1024) ⌝ }
     ensures { λ r. ⌜ r ≡ rooted 0 (roots list (kids-at (now (recs .entry))) n n 0) ⌝ }
@@ -114,6 +118,7 @@ pub fn inside_role(recs: &[u8], slot: usize) -> Role
     first_role(kind_at(recs, slot))
 }
 
+// Whether a record has a name that its role allows.
 fn label_ok(recs: &[u8], pool: &[u8], slot: usize, role: Role) -> bool
     requires { ⌜ (slot * 24 + 24 ≤ length (now recs)) × (in-pool (length (now pool)) (now recs) slot ≡ true) ⌝ }
     ensures { λ r. ⌜ r ≡ fitting role (name-of (now (pool .entry)) (now (recs .entry)) slot) ⌝ }
@@ -121,7 +126,7 @@ fn label_ok(recs: &[u8], pool: &[u8], slot: usize, role: Role) -> bool
     fits_role(name_at(pool, recs, slot), role)
 }
 
-// Refusal 6 in a row of trees, or where the row ends. A loop over the siblings; refusal 5 was tested, so each is there.
+// Where a row of trees ends, or refusal 6. A loop over the siblings; refusal 5 was tested, so each is there.
 pub fn check_labels(
     recs: &[u8],
     pool: &[u8],

@@ -9,10 +9,10 @@ use Rattle.lists.proofs.check_paths.Statement.{statement}
 use Rattle.lists.proofs.check_paths.Tie as tie
 
 abbrev Inv-loop : tie.InvT-loop
-Inv-loop entries n pool list i₀ i = (i ≤ n) × (lowest (path-in pool entries) 0 n ≡ lowest (path-in pool entries) i (n - i))
+Inv-loop entries n pool list k₀ k = (k ≤ n) × (lowest (path-in pool entries) 0 n ≡ lowest (path-in pool entries) k (n - k))
 
 abbrev μ-loop : tie.MeasureT-loop
-μ-loop entries n pool list i₀ i = n - i
+μ-loop entries n pool list k₀ k = n - k
 
 pub check-paths-spec : {M : Type 1} → statement M
 check-paths-spec =
@@ -24,7 +24,7 @@ check-paths-spec =
     (λ c κs. search (looking, needs))  -- path-ok-requires
     (λ c. search (looking, needs))  -- cast-t8
     (λ c. search (looking, needs))  -- returns
-    (λ c. search (looking, needs))  -- add-i
+    (λ c. search (looking, needs))  -- add-k
     (λ c. search (looking, needs))  -- loop-less
     (λ c. search (looking, needs))  -- loop-again
     (λ c. search (looking, needs))  -- returns-2

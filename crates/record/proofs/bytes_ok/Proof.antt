@@ -1,5 +1,5 @@
+-- The code is the definition, read off the same bytes.
 use Rattle.paper.specs.Bytes.{ok-bytes}
-use native.Mathlib.Omega.{arith}
 use borrow.Author.Needs.{needs}
 use Rattle.record.proofs.bytes_ok.Statement.{statement}
 use Rattle.record.proofs.bytes_ok.Tie as tie

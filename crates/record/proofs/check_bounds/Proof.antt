@@ -1,9 +1,9 @@
+-- What is left of the list gives the whole answer.
 use Rattle.record.proofs.Lowest.{looking}
 use mathlib.Core.Path.{_≡_}
-use Prim.Native.Nat.{ℕ, _≤_, _-_}
+use Prim.Native.Nat.{_≤_, _-_}
 use Rattle.paper.specs.Answer.{lowest}
-use Rattle.paper.specs.Bytes.{ok-bytes, in-pool}
-use native.Mathlib.Omega.{arith}
+use Rattle.paper.specs.Bytes.{in-pool}
 use borrow.Author.Needs.{needs}
 use Rattle.record.proofs.check_bounds.Statement.{statement}
 use Rattle.record.proofs.check_bounds.Tie as tie

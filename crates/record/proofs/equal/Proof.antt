@@ -1,9 +1,9 @@
+-- Up to the place reached the two are the same, so what is left decides.
 use Rattle.record.proofs.Comparing.{comparing}
 use mathlib.Core.Path.{_≡_}
 use Prim.Native.Nat.{_-_, _≤_}
-use lib.ListN.{length, drop}
+use lib.ListN.{drop}
 use Rattle.paper.specs.Answer.{same}
-use native.Mathlib.Omega.{arith}
 use borrow.Author.Needs.{needs}
 use Rattle.record.proofs.equal.Statement.{statement}
 use Rattle.record.proofs.equal.Tie as tie

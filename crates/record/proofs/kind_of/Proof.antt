@@ -1,6 +1,5 @@
+-- Each test is a clause of the definition.
 use Rattle.record.proofs.Naming.{kinds}
-use native.Mathlib.Omega.{arith}
-use borrow.Author.Needs.{needs}
 use Rattle.record.proofs.kind_of.Statement.{statement}
 use Rattle.record.proofs.kind_of.Tie as tie
 

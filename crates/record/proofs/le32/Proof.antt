@@ -1,3 +1,4 @@
+-- The definition is opened at the return; the rest is arithmetic.
 use borrow.Author.Needs.{needs}
 use Rattle.paper.specs.Bytes.{word16, word32}
 use Rattle.record.proofs.le32.Statement.{statement}

@@ -1,5 +1,5 @@
+-- Offset and length are those of the record, and 4 was tested.
 use Rattle.record.proofs.Naming.{naming}
-use native.Mathlib.Omega.{arith}
 use borrow.Author.Needs.{needs}
 use Rattle.record.proofs.name_at.Statement.{statement}
 use Rattle.record.proofs.name_at.Tie as tie

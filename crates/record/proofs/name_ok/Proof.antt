@@ -1,5 +1,5 @@
+-- The code is the definition; a sum of 32 and 8 bits fits.
 use Rattle.paper.specs.Bytes.{in-pool}
-use native.Mathlib.Omega.{arith}
 use borrow.Author.Needs.{needs}
 use Rattle.record.proofs.name_ok.Statement.{statement}
 use Rattle.record.proofs.name_ok.Tie as tie

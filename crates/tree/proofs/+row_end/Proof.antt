@@ -1,4 +1,4 @@
-use native.Mathlib.Omega.{arith}
+-- The levels left fall at each call, and what is left of the row ends where the whole ends.
 use borrow.Author.Needs.{needs}
 use Rattle.paper.specs.Bytes.{kids-at}
 use Rattle.tree.proofs.Ending.{Ends, looping}

@@ -1,9 +1,9 @@
+-- Each root takes a record at least, and what is left gives the whole answer.
 use Rattle.tree.proofs.Roots.{Left, rooting}
 use Prim.Native.Nat.{_-_}
 use Rattle.paper.specs.Bytes.{kids-at}
 use Rattle.paper.specs.Layout.{roots}
 use Rattle.tree.specs.Says.{rooted}
-use native.Mathlib.Omega.{arith}
 use borrow.Author.Needs.{needs}
 use Rattle.tree.proofs.check_shape.Statement.{statement}
 use Rattle.tree.proofs.check_shape.Tie as tie

@@ -1,0 +1,3 @@
+pub mod Fitting
+pub mod Nexts
+pub mod Seeking

@@ -1,0 +1,63 @@
+-- The loop that adds the lengths of names: `search summing`.
+use Prim.Native.Nat.{ℕ, suc, _+_, _-_, _*_, _<_, _≤_}
+use mathlib.Core.Path.{_≡_, sym, _∙_}
+use mathlib.Core.Bool.{Bool, true, false}
+use mathlib.Core.List.{List}
+use native.Mathlib.Omega.{arith}
+use borrow.Author.Tests.{leb-true}
+use lib.Dec.{leb}
+use lib.ListN.{getD}
+use Rattle.paper.specs.Sound.{name-bytes}
+use Rattle.paper.specs.Limits.{sum-from}
+use Rattle.plan.specs.Plan.{Lent, lent, plan-fields, Plan}
+use Rattle.plan.specs.Draft.{Draft}
+use Rattle.plan.specs.Sources.{source-len, In, Inside, Summed}
+use Rattle.plan.proofs.Sourcing.{sits-in}
+use Rattle.plan.proofs.Standing.{len-in, draft-sum}
+use Rattle.plan.proofs.Laying.{draft-plan}
+
+-- What is left from place i on gives the whole sum.
+pub record Adding (base added xs : List ℕ) (m i sum : ℕ) : Type 0 where
+  pub within : i ≤ m
+  pub small : sum ≤ i * 255
+  pub same : sum-from (len-in base added xs) 0 m ≡ sum + sum-from (len-in base added xs) i (m - i)
+
+module _ (base added xs : List ℕ) (m : ℕ) where
+  pub sum-starts : Adding base added xs m 0 0
+  sum-starts = let d : m - 0 ≡ m = omega arith in record { within = omega arith; small = omega arith; same = rw d (omega arith) }
+
+  pub sum-goes : (i sum r : ℕ) → Adding base added xs m i sum → i < m → r ≡ source-len base added (getD xs i 0) → r ≤ 255 → Adding base added xs m (i + 1) (sum + r)
+  unfolding sum-from
+  sum-goes i sum r h l e b =
+      let d : m - i ≡ suc (m - (i + 1)) = omega arith in
+      let s : suc i ≡ i + 1 = omega arith in
+      let g : sum-from (len-in base added xs) 0 m ≡ sum + (len-in base added xs i + sum-from (len-in base added xs) (suc i) (m - (i + 1))) = rw d at (h .same) in
+      let f : sum-from (len-in base added xs) 0 m ≡ sum + r + sum-from (len-in base added xs) (suc i) (m - (i + 1)) = omega (arith, e, g) in
+      let a = h .small in
+      record { within = omega arith; small = omega arith; same = rw s at f }
+
+  pub sum-ends : (i sum : ℕ) → Adding base added xs m i sum → m ≤ i → Summed base added xs m (leb sum 32768)
+  unfolding sum-from
+  sum-ends i sum h l =
+      let d : m - i ≡ 0 = omega arith in
+      let e : sum-from (len-in base added xs) 0 m ≡ sum + 0 = rw d at (h .same) in
+      let f : sum-from (len-in base added xs) 0 m ≡ sum = omega arith in
+      record { says = λ pool request is ks g. rw (draft-sum (lent pool base request added) xs is ks m g, f) }
+
+  pub source-inside : Inside base added xs m → (i : ℕ) → i < m → In base added (getD xs i 0)
+  source-inside h i l = h .all i l
+
+pub ruleset summing = (sum-starts, sum-goes, sum-ends, source-inside)
+
+-- ---- for callers
+
+pub draft-inside : (l : Lent) (xs is ks : List ℕ) (m : ℕ) → Draft l xs is ks m → Inside (l .base) (l .added) xs m
+draft-inside l xs is ks m d = record { few = d .few; all = λ i b. sits-in l (getD xs i 0) (d .sits i b) }
+
+-- A draft whose names fit is a plan; one whose names do not fit passes 01's limit.
+pub summed-plan : (l : Lent) (xs is ks : List ℕ) (m : ℕ) (r : Bool) → Summed (l .base) (l .added) xs m r → Draft l xs is ks m → r ≡ true → Plan l xs is ks m
+summed-plan l xs is ks m r h d e =
+    draft-plan l xs is ks m d (leb-true (name-bytes (plan-fields l xs is ks m)) 32768 (sym (h .says (l .pool) (l .request) is ks d) ∙ e))
+
+pub summed-over : (l : Lent) (xs is ks : List ℕ) (m : ℕ) (r : Bool) → Summed (l .base) (l .added) xs m r → Draft l xs is ks m → r ≡ false → leb (name-bytes (plan-fields l xs is ks m)) 32768 ≡ false
+summed-over l xs is ks m r h d e = sym (h .says (l .pool) (l .request) is ks d) ∙ e

@@ -1,0 +1,25 @@
+-- The definition word for word.
+use Rattle.plan.specs.Sources.{row-of}
+use borrow.Author.Needs.{needs}
+use Rattle.plan.proofs.changed_bytes.Statement.{statement}
+use Rattle.plan.proofs.changed_bytes.Tie as tie
+
+pub changed-bytes-spec : {M : Type 1} → statement M
+unfolding row-of
+changed-bytes-spec =
+    tie.close
+    (tie.spec
+    (λ c. search needs)  -- mul-p
+    (λ c. search needs)  -- add-row-bytes
+    (λ c. search needs)  -- shared-slice-read-row-bytes
+    (λ c κs. search needs)  -- kind-at-requires
+    (λ c κs. search needs)  -- kind-byte-requires
+    (λ c. search needs)  -- add-row-bytes-2
+    (λ c. search needs)  -- shared-slice-read-row-bytes-2
+    (λ c. search needs)  -- add-le32
+    (λ c κs. search needs)  -- le32-requires
+    (λ c. search needs)  -- add-le32-2
+    (λ c κs. search needs)  -- le32-requires-2
+    (λ c κs. search needs)  -- row-bytes-requires
+    (λ c. cc)  -- returns
+    )

@@ -1,0 +1,17 @@
+-- The record's bytes, put at its place.
+use Rattle.plan.proofs.Sourcing.{sourcing}
+use borrow.Author.Needs.{needs}
+use Rattle.plan.proofs.put_record.Statement.{statement}
+use Rattle.plan.proofs.put_record.Tie as tie
+
+pub put-record-spec : {M : Type 1} → statement M
+put-record-spec =
+    tie.close
+    (tie.spec
+    (λ c κs. search needs)  -- planned-bytes-requires
+    (λ c. search needs)  -- mul-put-bytes
+    (λ c. search needs)  -- slice-aggregate-put-bytes
+    (λ c κs. search needs)  -- put-bytes-requires
+    (λ c. search needs)  -- same-length
+    (λ c. search (sourcing, needs))  -- returns
+    )
