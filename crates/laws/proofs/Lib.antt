@@ -10,8 +10,5 @@ pub mod Written
 pub mod RoundTrip
 pub mod Fitting
 pub mod Natural
-pub mod Runs
-pub mod Preorder
-pub mod Counted
 pub mod Pointwise
 pub mod Same
