@@ -11,7 +11,7 @@ ghost use mathlib.Core.Bool.{not, _&&_, cond};
 ghost use Prim.Native.Nat.{_+_, _≤_, _<_};
 ghost use lib.Dec.{eqb, ltb};
 ghost use lib.ListN.{length, drop};
-ghost use Rattle.paper.specs.Answer.{or-else};
+ghost use Rattle.paper.specs.Answer.{among, or-else};
 ghost use Rattle.paper.specs.Rows.{skipped, late};
 ghost use Rattle.plan.specs.Plan.{lent, kids-in};
 ghost use Rattle.chain.specs.Chain.{pick};
@@ -23,6 +23,20 @@ ghost use Rattle.lookup.specs.Seek.{left-at, fits, inside, seen, outcome
 pub enum Sighting {
     Found(usize),
     Past(usize),
+}
+
+// Whether a name has a dot. One without is no short name of a record below a root.
+pub fn has_dot(name: &[u8]) -> bool
+    ensures { λ r. ⌜ r ≡ among 46 (now (name .entry)) ⌝ }
+{
+    let mut i = 0;
+    while i < name.len() {
+        if name[i] == 46 {
+            return true;
+        }
+        i += 1;
+    }
+    false
 }
 
 fn wide(x: u16) -> u32

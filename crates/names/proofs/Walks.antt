@@ -12,7 +12,8 @@ use Rattle.paper.specs.Forest.{Forest, empty, node, size}
 use Rattle.paper.specs.Layout.{Part, nothing, before, row, roots}
 use Rattle.tree.specs.Read.{got, fine}
 use Rattle.tree.proofs.Reading.{row-none, row-deep}
-use Rattle.tree.proofs.Filled.{lt-or-le, refused≢ok, unbind, ok-is, row-parts, full}
+use Rattle.laws.proofs.Basics.{refused≢ok, unbind, ok-is}
+use Rattle.tree.proofs.Filled.{lt-or-le, row-parts, full}
 use Rattle.tree.proofs.Roots.{roots-past, roots-in}
 use Rattle.names.specs.Walk.{walk-with, walk, trees-of}
 
