@@ -1,9 +1,19 @@
 // update_schema.rs: deletions and additions decided one at a time, the rebuilt tree, its tests, and the answer.
+use decide::Dropping;
+use decide::drop_one;
 use dropped::Dropped;
+use index::look_name;
+use lists::path_at;
+use record::Check;
 use record::FieldId;
 ghost use mathlib.Core.Path.{_≡_};
 ghost use Prim.Native.Nat.{_≤_};
-ghost use Rattle.update_schema.specs.Deletions.{Gathered};
+ghost use lib.ListN.{length};
+ghost use Rattle.paper.specs.Lists.{id-list};
+ghost use Rattle.plan.specs.Plan.{lent, plan-fields};
+ghost use Rattle.index.specs.Index.{Index};
+ghost use Rattle.update_schema.specs.Base.{Based, Entries};
+ghost use Rattle.update_schema.specs.Deletions.{Gathered, DropsAll};
 
 // The dropped ids as a set.
 fn gather(gone: &[u32; 64], total: usize) -> Dropped
@@ -18,4 +28,51 @@ fn gather(gone: &[u32; 64], total: usize) -> Dropped
         i += 1;
     }
     dropped
+}
+
+// The deletions, one at a time: refusal 11 or 12, or the ids that they drop.
+fn drop_columns<'a>(
+    pool: &'a [u8],
+    base: &[u8],
+    request: &'a [u8],
+    added: &[u8],
+    slots: &[u16; 1024],
+    ids: &[u32; 1024],
+    kids: &[u16; 1024],
+    n: usize,
+    id_heads: &[u16; 1024],
+    id_next: &[u16; 1024],
+    ups: &[u16; 1024],
+    lens: &[u16; 1024],
+    hashes: &[u32; 1024],
+    name_heads: &[u16; 1024],
+    name_next: &[u16; 1024],
+    identifiers: &[u8],
+    deletions: &[u8],
+    total: usize,
+    gone: &mut [u32; 64],
+) -> Check
+    requires { ⌜ Based (lent (now pool) (now base) (now request) (now added)) (now slots) (now ids) (now kids) n
+        × Index (lent (now pool) (now base) (now request) (now added)) (now slots) (now ids) (now kids) n (now «id_heads») (now «id_next») (now ups) (now lens) (now hashes) (now «name_heads») (now «name_next»)
+        × (length (now identifiers) ≤ 256) × Entries (now request) (now deletions) total × (length (now gone) ≡ 64) ⌝ }
+    ensures { λ r. ⌜ DropsAll (plan-fields (lent (now (pool .entry)) (now (base .entry)) (now (request .entry)) (now (added .entry))) (now (slots .entry)) (now (ids .entry)) (now (kids .entry)) n) (id-list (now (identifiers .entry))) (now (request .entry)) (now (deletions .entry)) total r (now (gone .exit)) ⌝ }
+{
+    let mut k = 0;
+    while k < total {
+        let path = path_at(request, deletions, k);
+        let found = look_name(
+            pool, base, request, added, slots, ids, kids, n, id_heads, id_next, ups, lens, hashes,
+            name_heads, name_next, path,
+        );
+        match drop_one(found, identifiers, k as u32) {
+            Dropping::Gone(id) => {
+                gone[k] = id.0;
+            }
+            Dropping::Refused(r) => {
+                return Check::Refused(r);
+            }
+        }
+        k += 1;
+    }
+    Check::Fine
 }
