@@ -61,8 +61,22 @@ fn drop_columns<'a>(
     while k < total {
         let path = path_at(request, deletions, k);
         let found = look_name(
-            pool, base, request, added, slots, ids, kids, n, id_heads, id_next, ups, lens, hashes,
-            name_heads, name_next, path,
+            pool,
+            base,
+            request,
+            added,
+            slots,
+            ids,
+            kids,
+            n,
+            id_heads,
+            id_next,
+            ups,
+            lens,
+            hashes,
+            name_heads,
+            name_next,
+            path,
         );
         match drop_one(found, identifiers, k as u32) {
             Dropping::Gone(id) => {
