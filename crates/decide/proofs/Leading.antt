@@ -35,7 +35,7 @@ parent-nothing f pool s n ds k x e = record { says = λ o. go o }
     go none h q = refl
     go (some r) h q = absurd (nothing-some r (sym e ∙ q))
 
-slot-is : (x : FieldId) (p : Slot) (r : Row) → At x p ≡ found-row (some r) → r .slot ≡ p .0
+pub slot-is : (x : FieldId) (p : Slot) (r : Row) → At x p ≡ found-row (some r) → r .slot ≡ p .0
 unfolding found-row
 slot-is x p r e = let z : p ≡ record { 0 = r .slot } = cc in rw z
 

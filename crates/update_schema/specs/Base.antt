@@ -1,7 +1,8 @@
 -- What was tested before anything is decided: the base as a plan of itself, and a list of entries.
-use Prim.Native.Nat.{ℕ, _*_, _≤_}
+use Prim.Native.Nat.{ℕ, _+_, _*_, _<_, _≤_}
 use mathlib.Core.Path.{_≡_}
 use mathlib.Core.List.{List}
+use mathlib.Core.Bool.{true}
 use mathlib.Core.Option.{none}
 use lib.ListN.{length}
 use Rattle.paper.specs.Answer.{ok, lowest}
@@ -26,3 +27,11 @@ pub record Entries (request entries : List ℕ) (total : ℕ) : Type 0 where
   pub whole : total * 8 ≤ length entries
   pub few : total ≤ 64
   pub pathed : lowest (path-in (length request) entries) 0 total ≡ none
+
+-- The addition k, with its path in the request pool, and its column at a slot of the additions tree.
+pub record Addition (request added additions : List ℕ) (k slot : ℕ) : Type 0 where
+  pub few : k < 64
+  pub entry : k * 8 + 8 ≤ length additions
+  pub pathed : path-in (length request) additions k ≡ true
+  pub column : slot * 24 + 24 ≤ length added
+  pub named : in-pool (length request) added slot ≡ true

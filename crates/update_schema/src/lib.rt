@@ -1,18 +1,27 @@
 // update_schema.rs: deletions and additions decided one at a time, the rebuilt tree, its tests, and the answer.
 use decide::Dropping;
+use decide::Going;
 use decide::drop_one;
+use decide::place_at_root;
+use decide::place_under;
 use dropped::Dropped;
 use index::look_name;
+use lists::has_path;
 use lists::path_at;
 use record::Check;
 use record::FieldId;
+use record::name_at;
 ghost use mathlib.Core.Path.{_≡_};
 ghost use Prim.Native.Nat.{_≤_};
 ghost use lib.ListN.{length};
-ghost use Rattle.paper.specs.Lists.{id-list};
+ghost use Rattle.paper.specs.Bytes.{name-of};
+ghost use Rattle.paper.specs.Lists.{id-list, parent-path};
+ghost use Rattle.paper.specs.Update.{placed};
+ghost use Rattle.dropped.specs.Set.{dropped-ids, Good};
+ghost use Rattle.decide.specs.Entry.{goes};
 ghost use Rattle.plan.specs.Plan.{lent, plan-fields};
 ghost use Rattle.index.specs.Index.{Index};
-ghost use Rattle.update_schema.specs.Base.{Based, Entries};
+ghost use Rattle.update_schema.specs.Base.{Based, Entries, Addition};
 ghost use Rattle.update_schema.specs.Deletions.{Gathered, DropsAll};
 
 // The dropped ids as a set.
@@ -89,4 +98,75 @@ fn drop_columns<'a>(
         k += 1;
     }
     Check::Fine
+}
+
+// Where the addition k goes, whose column is at a slot of the additions tree: refusals 15 to 17.
+fn find_place<'a>(
+    pool: &'a [u8],
+    base: &[u8],
+    request: &'a [u8],
+    added: &[u8],
+    slots: &[u16; 1024],
+    ids: &[u32; 1024],
+    kids: &[u16; 1024],
+    n: usize,
+    id_heads: &[u16; 1024],
+    id_next: &[u16; 1024],
+    ups: &[u16; 1024],
+    lens: &[u16; 1024],
+    hashes: &[u32; 1024],
+    name_heads: &[u16; 1024],
+    name_next: &[u16; 1024],
+    additions: &[u8],
+    k: usize,
+    slot: usize,
+    dropped: Dropped,
+) -> Going
+    requires { ⌜ Based (lent (now pool) (now base) (now request) (now added)) (now slots) (now ids) (now kids) n
+        × Index (lent (now pool) (now base) (now request) (now added)) (now slots) (now ids) (now kids) n (now «id_heads») (now «id_next») (now ups) (now lens) (now hashes) (now «name_heads») (now «name_next»)
+        × Addition (now request) (now added) (now additions) k slot × Good dropped ⌝ }
+    ensures { λ r. ⌜ r ≡ goes (placed (plan-fields (lent (now (pool .entry)) (now (base .entry)) (now (request .entry)) (now (added .entry))) (now (slots .entry)) (now (ids .entry)) (now (kids .entry)) n) (dropped-ids dropped) k (name-of (now (request .entry)) (now (added .entry)) slot) (parent-path (now (request .entry)) (now (additions .entry)) k)) ⌝ }
+{
+    let name = name_at(request, added, slot);
+    if has_path(additions, k) {
+        let path = path_at(request, additions, k);
+        let parent = look_name(
+            pool,
+            base,
+            request,
+            added,
+            slots,
+            ids,
+            kids,
+            n,
+            id_heads,
+            id_next,
+            ups,
+            lens,
+            hashes,
+            name_heads,
+            name_next,
+            path,
+        );
+        return place_under(parent, base, pool, n, name, k as u32, dropped);
+    }
+    let taken = look_name(
+        pool,
+        base,
+        request,
+        added,
+        slots,
+        ids,
+        kids,
+        n,
+        id_heads,
+        id_next,
+        ups,
+        lens,
+        hashes,
+        name_heads,
+        name_next,
+        name,
+    );
+    place_at_root(taken, k as u32, dropped)
 }
