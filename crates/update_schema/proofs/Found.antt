@@ -11,11 +11,12 @@ use Rattle.paper.specs.Field.{Field}
 use Rattle.paper.specs.Rows.{Row, look-name}
 use Rattle.paper.specs.Bytes.{turned, rec-at, field-at, ok-bytes}
 use Rattle.paper.specs.Lists.{entry-at, path-of, parent-path}
-use Rattle.paper.specs.Update.{placed}
+use Rattle.paper.specs.Update.{receiver, placed}
 use Rattle.laws.proofs.Words.{turned-below}
 use Rattle.laws.proofs.Fitting.{lowest-none}
 use Rattle.plan.specs.Plan.{Lent, plan-fields}
-use Rattle.parents.specs.Target.{Stands}
+use Rattle.parents.specs.Target.{receiving, receiver-at, Stands}
+use Rattle.parents.proofs.Receiving.{receiver-is}
 use Rattle.parents.proofs.Rows.{found-stands}
 use Rattle.record.specs.declared.FieldId.{FieldId}
 use Rattle.record.specs.declared.Slot.{Slot}
@@ -43,6 +44,14 @@ module _ (l : Lent) (xs is ks : List ℕ) (n : ℕ) (b : Based l xs is ks n) whe
       go : (o : Option Row) → look-name (plan-fields l xs is ks n) x ≡ o → Known o
       go none e = tt
       go (some r) e = field-known r (found-there x r e)
+
+  -- its receiver is the struct that the step from its slot leads to
+  pub row-stands : (x : List ℕ) (r : Row) → look-name (plan-fields l xs is ks n) x ≡ some r → receiver (r .field) (r .inside) (r .field .kind) ≡ receiver-at (l .pool) (l .base) n (receiving (l .base) n (r .slot))
+  unfolding field-at
+  row-stands x r e =
+      let st = found-there x r e in
+      let th = st .there in
+      rw (st .field, st .inside) (receiver-is (l .pool) (l .base) n (r .slot) (record { whole = b .whole; small = b .plan .few; there = th; read = st .read }) (lowest-none (ok-bytes (l .base)) 0 n (b .bytes) (r .slot) (omega arith) (omega arith)))
 
   -- what is found may be read on
   pub found-sited : (x : List ℕ) (f : Found) → f ≡ found-row (look-name (plan-fields l xs is ks n) x) → FoundSited (l .pool) (l .base) n f

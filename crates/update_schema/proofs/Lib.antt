@@ -1,2 +1,4 @@
 pub mod Found
 pub mod Deleting
+pub mod Numbering
+pub mod Placing

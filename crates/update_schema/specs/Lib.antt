@@ -1,2 +1,3 @@
 pub mod Base
 pub mod Deletions
+pub mod Additions

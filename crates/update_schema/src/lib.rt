@@ -1,6 +1,9 @@
 // update_schema.rs: deletions and additions decided one at a time, the rebuilt tree, its tests, and the answer.
 use decide::Dropping;
+use decide::Fresh;
 use decide::Going;
+use decide::assign_fresh_ids;
+use decide::check_added;
 use decide::drop_one;
 use decide::place_at_root;
 use decide::place_under;
@@ -10,9 +13,13 @@ use lists::has_path;
 use lists::path_at;
 use record::Check;
 use record::FieldId;
+use record::Refusal;
+use record::kids_at;
 use record::name_at;
+use tree::Walked;
+use tree::row_end;
 ghost use mathlib.Core.Path.{_≡_};
-ghost use Prim.Native.Nat.{_≤_};
+ghost use Prim.Native.Nat.{_+_, _≤_, _<_};
 ghost use lib.ListN.{length};
 ghost use Rattle.paper.specs.Bytes.{name-of};
 ghost use Rattle.paper.specs.Lists.{id-list, parent-path};
@@ -22,7 +29,22 @@ ghost use Rattle.decide.specs.Entry.{goes};
 ghost use Rattle.plan.specs.Plan.{lent, plan-fields};
 ghost use Rattle.index.specs.Index.{Index};
 ghost use Rattle.update_schema.specs.Base.{Based, Entries, Addition};
+ghost use Rattle.update_schema.specs.Additions.{Column, column-size, numbered, OneSpotted};
 ghost use Rattle.update_schema.specs.Deletions.{Gathered, DropsAll};
+
+// An addition that is accepted: where it goes, the bits of its first id, the last id consumed, and the slot behind its column.
+pub struct Spot {
+    pub under: u64,
+    pub start: u32,
+    pub last: u64,
+    pub next: usize,
+}
+
+// One addition: its spot, or one of the refusals 13 to 18.
+pub enum Spotted {
+    At(Spot),
+    Refused(Refusal),
+}
 
 // The dropped ids as a set.
 fn gather(gone: &[u32; 64], total: usize) -> Dropped
@@ -169,4 +191,93 @@ fn find_place<'a>(
         name,
     );
     place_at_root(taken, k as u32, dropped)
+}
+
+// Where the column at a slot of the additions tree ends.
+fn column_end(added: &[u8], m: usize, slot: usize) -> usize
+    requires { ⌜ Column (now added) m slot ⌝ }
+    ensures { λ r. ⌜ r ≡ slot + column-size (now (added .entry)) m slot ⌝ }
+{
+    let members = kids_at(added, slot);
+    let walked = row_end(added, m, slot + 1, members, 15, 1);
+    let Walked::End(next) = walked else {
+        return slot;
+    };
+    next
+}
+
+// The ids of an addition that has its place: refusal 18.
+fn number(added: &[u8], m: usize, slot: usize, under: u64, place: u32, last: u64) -> Spotted
+    requires { ⌜ Column (now added) m slot × (last < 4294967296) ⌝ }
+    ensures { λ r. ⌜ r ≡ numbered under last place slot (column-size (now (added .entry)) m slot) ⌝ }
+{
+    let next = column_end(added, m, slot);
+    match assign_fresh_ids(last, next - slot, place) {
+        Fresh::Ids(start, end) => Spotted::At(Spot {
+            under,
+            start,
+            last: end,
+            next,
+        }),
+        Fresh::Refused(r) => Spotted::Refused(r),
+    }
+}
+
+// The addition k, whole: refusals 13 and 14, its place, its ids.
+fn place_one<'a>(
+    pool: &'a [u8],
+    base: &[u8],
+    request: &'a [u8],
+    added: &[u8],
+    slots: &[u16; 1024],
+    ids: &[u32; 1024],
+    kids: &[u16; 1024],
+    n: usize,
+    id_heads: &[u16; 1024],
+    id_next: &[u16; 1024],
+    ups: &[u16; 1024],
+    lens: &[u16; 1024],
+    hashes: &[u32; 1024],
+    name_heads: &[u16; 1024],
+    name_next: &[u16; 1024],
+    additions: &[u8],
+    k: usize,
+    m: usize,
+    slot: usize,
+    dropped: Dropped,
+    last: u64,
+) -> Spotted
+    requires { ⌜ Based (lent (now pool) (now base) (now request) (now added)) (now slots) (now ids) (now kids) n
+        × Index (lent (now pool) (now base) (now request) (now added)) (now slots) (now ids) (now kids) n (now «id_heads») (now «id_next») (now ups) (now lens) (now hashes) (now «name_heads») (now «name_next»)
+        × Addition (now request) (now added) (now additions) k slot × Good dropped × Column (now added) m slot × (last < 4294967296) ⌝ }
+    ensures { λ r. ⌜ OneSpotted (plan-fields (lent (now (pool .entry)) (now (base .entry)) (now (request .entry)) (now (added .entry))) (now (slots .entry)) (now (ids .entry)) (now (kids .entry)) n) (dropped-ids dropped) (now (request .entry)) (now (added .entry)) (now (additions .entry)) m last k slot r ⌝ }
+{
+    if let Check::Refused(r) = check_added(added, request, slot, k as u32) {
+        return Spotted::Refused(r);
+    }
+    let going = find_place(
+        pool,
+        base,
+        request,
+        added,
+        slots,
+        ids,
+        kids,
+        n,
+        id_heads,
+        id_next,
+        ups,
+        lens,
+        hashes,
+        name_heads,
+        name_next,
+        additions,
+        k,
+        slot,
+        dropped,
+    );
+    match going {
+        Going::Under(under) => number(added, m, slot, under, k as u32, last),
+        Going::Refused(r) => Spotted::Refused(r),
+    }
 }
