@@ -33,11 +33,11 @@ use Rattle.update_schema.specs.Deletions.{gone-ids, Gathered, DropsAll}
 
 -- ---- chains and answers
 
-bind-is : {A B : Type 0} (x : Answer A) (f : A → Answer B) (a : A) → x ≡ ok a → (x >>= f) ≡ f a
+pub bind-is : {A B : Type 0} (x : Answer A) (f : A → Answer B) (a : A) → x ≡ ok a → (x >>= f) ≡ f a
 unfolding _>>=_
 bind-is x f a e = rw e
 
-bind-not : {A B : Type 0} (x : Answer A) (f : A → Answer B) (n l k : ℕ) → x ≡ refused n l k → (x >>= f) ≡ refused n l k
+pub bind-not : {A B : Type 0} (x : Answer A) (f : A → Answer B) (n l k : ℕ) → x ≡ refused n l k → (x >>= f) ≡ refused n l k
 unfolding _>>=_
 bind-not x f n l k e = rw e
 

@@ -2,3 +2,4 @@ pub mod Found
 pub mod Deleting
 pub mod Numbering
 pub mod Placing
+pub mod Columns

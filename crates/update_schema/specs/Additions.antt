@@ -3,20 +3,23 @@ use Prim.Native.Nat.{ℕ, suc, _+_, _*_, _<_, _≤_}
 use mathlib.Core.Path.{_≡_}
 use mathlib.Core.Bool.{true, cond}
 use mathlib.Core.List.{List}
-use mathlib.Core.Option.{Option}
+use mathlib.Core.Option.{Option, none}
 use lib.Dec.{eqb, ltb}
-use lib.ListN.{length}
-use Rattle.paper.specs.Answer.{Answer, ok, refused, _>>=_, _>>_, among}
+use lib.ListN.{length, getD}
+use Rattle.paper.specs.Answer.{Answer, ok, refused, _>>=_, _>>_, among, lowest}
 use Rattle.paper.specs.Refusals.{dotless, fillable, ids-left}
 use Rattle.paper.specs.Forest.{Forest, size}
 use Rattle.paper.specs.Field.{Field, highest}
-use Rattle.paper.specs.Bytes.{turned, kids-at, field-at}
+use Rattle.paper.specs.Bytes.{turned, kids-at, field-at, in-pool, from}
 use Rattle.paper.specs.Decode.{fields}
 use Rattle.paper.specs.Lists.{parent-path}
-use Rattle.paper.specs.Update.{placed}
+use Rattle.paper.specs.Update.{placed, Placed, placed-all}
 use Rattle.record.specs.Says.{refusal-of}
 use Rattle.tree.specs.Read.{part, reads}
 use Rattle.rebuild.specs.Sources.{parent}
+use Rattle.update_schema.specs.declared.Decided.{Decided}
+use Rattle.update_schema.specs.declared.Decided.the-variants as decided
+use Rattle.update_schema.specs.Base.{Entries}
 use Rattle.update_schema.specs.declared.Spot.{Spot}
 use Rattle.update_schema.specs.declared.Spotted.{Spotted}
 use Rattle.update_schema.specs.declared.Spotted.the-variants as spotted
@@ -61,3 +64,36 @@ SpottedBy (spotted.Refused r) a last slot records = a ≡ refused (r .number) (r
 
 pub record OneSpotted (t : Forest Field) (ds request added additions : List ℕ) (m last k slot : ℕ) (r : Spotted) : Type 0 where
   pub by : SpottedBy r (one-placed t ds last k (parent-path request additions k) (field-at request added slot) (fields request added (part 1 (kids-at added) m 15 (kids-at added slot) (slot + 1) .trees))) last slot (column-size added m slot)
+
+-- ---- all additions
+
+-- The m added records of which so many roots were read, one for each entry.
+pub record Columns (request added additions : List ℕ) (total m : ℕ) : Type 0 where
+  pub entries : Entries request additions total
+  pub whole : m * 24 ≤ length added
+  pub small : m ≤ 1024
+  pub read : reads 1 (kids-at added) m 16 total 0 ≡ true
+  pub named : lowest (in-pool (length request) added) 0 m ≡ none
+
+-- The places in the first array, as the paper has them.
+unfoldable pub parents-in : List ℕ → ℕ → List (Option ℕ)
+parents-in us total = from (λ j. parent (getD us j 0)) 0 total
+
+-- What the paper says of all additions.
+unfoldable pub all-placed : Forest Field → (ds request added additions : List ℕ) (total m last : ℕ) → Answer Placed
+all-placed t ds request added additions total m last = placed-all t ds last 0 (from (parent-path request additions) 0 total) (fields request added (part 1 (kids-at added) m 16 total 0 .trees))
+
+-- The places in the array and the last id consumed are the paper's, and each addition's tree was read.
+pub record Placings (a : Answer Placed) (added : List ℕ) (total m : ℕ) (last : ℕ) (us fs : List ℕ) : Type 0 where
+  pub is : a ≡ ok (record { parents = parents-in us total; last = last })
+  pub most : last < 4294967296
+  pub under : (j : ℕ) → j < total → getD us j 0 ≤ 4294967296
+  pub first : (j : ℕ) → j < total → getD fs j 0 ≤ m
+  pub tree : (j : ℕ) → j < total → reads 1 (kids-at added) m 16 1 (getD fs j 0) ≡ true
+
+abbrev pub PlacesBy : Decided → Answer Placed → (added : List ℕ) (total m : ℕ) (us fs : List ℕ) → Type 0
+PlacesBy (decided.Last e) a added total m us fs = Placings a added total m e us fs
+PlacesBy (decided.Refused r) a added total m us fs = a ≡ refused (r .number) (r .list) (r .place)
+
+pub record PlacesAll (t : Forest Field) (ds request added additions : List ℕ) (total m last : ℕ) (r : Decided) (us fs : List ℕ) : Type 0 where
+  pub by : PlacesBy r (all-placed t ds request added additions total m last) added total m us fs

@@ -29,7 +29,7 @@ ghost use Rattle.decide.specs.Entry.{goes};
 ghost use Rattle.plan.specs.Plan.{lent, plan-fields};
 ghost use Rattle.index.specs.Index.{Index};
 ghost use Rattle.update_schema.specs.Base.{Based, Entries, Addition};
-ghost use Rattle.update_schema.specs.Additions.{Column, column-size, numbered, OneSpotted};
+ghost use Rattle.update_schema.specs.Additions.{Column, column-size, numbered, OneSpotted, Columns, PlacesAll};
 ghost use Rattle.update_schema.specs.Deletions.{Gathered, DropsAll};
 
 // An addition that is accepted: where it goes, the bits of its first id, the last id consumed, and the slot behind its column.
@@ -43,6 +43,12 @@ pub struct Spot {
 // One addition: its spot, or one of the refusals 13 to 18.
 pub enum Spotted {
     At(Spot),
+    Refused(Refusal),
+}
+
+// All additions: the last id consumed, shifted by 2^31, or the first refusal.
+pub enum Decided {
+    Last(u64),
     Refused(Refusal),
 }
 
@@ -280,4 +286,80 @@ fn place_one<'a>(
         Going::Under(under) => number(added, m, slot, under, k as u32, last),
         Going::Refused(r) => Spotted::Refused(r),
     }
+}
+
+// The additions, one at a time: where each goes, its first slot, the bits of its first id.
+fn place_columns<'a>(
+    pool: &'a [u8],
+    base: &[u8],
+    request: &'a [u8],
+    added: &[u8],
+    slots: &[u16; 1024],
+    ids: &[u32; 1024],
+    kids: &[u16; 1024],
+    n: usize,
+    id_heads: &[u16; 1024],
+    id_next: &[u16; 1024],
+    ups: &[u16; 1024],
+    lens: &[u16; 1024],
+    hashes: &[u32; 1024],
+    name_heads: &[u16; 1024],
+    name_next: &[u16; 1024],
+    additions: &[u8],
+    total: usize,
+    m: usize,
+    dropped: Dropped,
+    last: u64,
+    unders: &mut [u64; 64],
+    firsts: &mut [u16; 64],
+    starts: &mut [u32; 64],
+) -> Decided
+    requires { ⌜ Based (lent (now pool) (now base) (now request) (now added)) (now slots) (now ids) (now kids) n
+        × Index (lent (now pool) (now base) (now request) (now added)) (now slots) (now ids) (now kids) n (now «id_heads») (now «id_next») (now ups) (now lens) (now hashes) (now «name_heads») (now «name_next»)
+        × Columns (now request) (now added) (now additions) total m × Good dropped × (last < 4294967296)
+        × (length (now unders) ≡ 64) × (length (now firsts) ≡ 64) × (length (now starts) ≡ 64) ⌝ }
+    ensures { λ r. ⌜ PlacesAll (plan-fields (lent (now (pool .entry)) (now (base .entry)) (now (request .entry)) (now (added .entry))) (now (slots .entry)) (now (ids .entry)) (now (kids .entry)) n) (dropped-ids dropped) (now (request .entry)) (now (added .entry)) (now (additions .entry)) total m last r (now (unders .exit)) (now (firsts .exit)) ⌝ }
+{
+    let mut k = 0;
+    let mut slot = 0;
+    let mut end = last;
+    while k < total {
+        let one = place_one(
+            pool,
+            base,
+            request,
+            added,
+            slots,
+            ids,
+            kids,
+            n,
+            id_heads,
+            id_next,
+            ups,
+            lens,
+            hashes,
+            name_heads,
+            name_next,
+            additions,
+            k,
+            m,
+            slot,
+            dropped,
+            end,
+        );
+        match one {
+            Spotted::At(spot) => {
+                unders[k] = spot.under;
+                firsts[k] = slot as u16;
+                starts[k] = spot.start;
+                slot = spot.next;
+                end = spot.last;
+            }
+            Spotted::Refused(r) => {
+                return Decided::Refused(r);
+            }
+        }
+        k += 1;
+    }
+    Decided::Last(end)
 }
