@@ -9,14 +9,17 @@ use lib.ListN.{length, getD}
 use Rattle.paper.specs.Answer.{Answer, ok, refused, _>>=_, _>>_, among, lowest}
 use Rattle.paper.specs.Refusals.{dotless, fillable, ids-left}
 use Rattle.paper.specs.Forest.{Forest, size}
-use Rattle.paper.specs.Field.{Field, highest}
+use Rattle.paper.specs.Field.{Field, highest, with-id}
 use Rattle.paper.specs.Bytes.{turned, kids-at, field-at, in-pool, from}
 use Rattle.paper.specs.Decode.{fields}
 use Rattle.paper.specs.Lists.{parent-path}
 use Rattle.paper.specs.Update.{placed, Placed, placed-all}
 use Rattle.record.specs.Says.{refusal-of}
 use Rattle.tree.specs.Read.{part, reads}
-use Rattle.rebuild.specs.Sources.{parent}
+use Rattle.paper.specs.Rebuild.{arrivals}
+use Rattle.laws.proofs.Natural.{mapped-all}
+use Rattle.plan.specs.Plan.{lent, planned-field}
+use Rattle.rebuild.specs.Sources.{parent, additions}
 use Rattle.update_schema.specs.declared.Decided.{Decided}
 use Rattle.update_schema.specs.declared.Decided.the-variants as decided
 use Rattle.update_schema.specs.Base.{Entries}
@@ -83,17 +86,18 @@ parents-in us total = from (λ j. parent (getD us j 0)) 0 total
 unfoldable pub all-placed : Forest Field → (ds request added additions : List ℕ) (total m last : ℕ) → Answer Placed
 all-placed t ds request added additions total m last = placed-all t ds last 0 (from (parent-path request additions) 0 total) (fields request added (part 1 (kids-at added) m 16 total 0 .trees))
 
--- The places in the array and the last id consumed are the paper's, and each addition's tree was read.
-pub record Placings (a : Answer Placed) (added : List ℕ) (total m : ℕ) (last : ℕ) (us fs : List ℕ) : Type 0 where
+-- The places in the array and the last id consumed are the paper's, each addition's tree was read, and the three arrays are the paper's arrivals.
+pub record Placings (a : Answer Placed) (request added : List ℕ) (total m given last : ℕ) (us fs st : List ℕ) : Type 0 where
   pub is : a ≡ ok (record { parents = parents-in us total; last = last })
   pub most : last < 4294967296
   pub under : (j : ℕ) → j < total → getD us j 0 ≤ 4294967296
   pub first : (j : ℕ) → j < total → getD fs j 0 ≤ m
   pub tree : (j : ℕ) → j < total → reads 1 (kids-at added) m 16 1 (getD fs j 0) ≡ true
+  pub arrive : (pool base : List ℕ) → mapped-all (planned-field (lent pool base request added)) (additions added m us fs st total) ≡ arrivals with-id given (parents-in us total) (fields request added (part 1 (kids-at added) m 16 total 0 .trees))
 
-abbrev pub PlacesBy : Decided → Answer Placed → (added : List ℕ) (total m : ℕ) (us fs : List ℕ) → Type 0
-PlacesBy (decided.Last e) a added total m us fs = Placings a added total m e us fs
-PlacesBy (decided.Refused r) a added total m us fs = a ≡ refused (r .number) (r .list) (r .place)
+abbrev pub PlacesBy : Decided → Answer Placed → (request added : List ℕ) (total m given : ℕ) (us fs st : List ℕ) → Type 0
+PlacesBy (decided.Last e) a request added total m given us fs st = Placings a request added total m given e us fs st
+PlacesBy (decided.Refused r) a request added total m given us fs st = a ≡ refused (r .number) (r .list) (r .place)
 
-pub record PlacesAll (t : Forest Field) (ds request added additions : List ℕ) (total m last : ℕ) (r : Decided) (us fs : List ℕ) : Type 0 where
-  pub by : PlacesBy r (all-placed t ds request added additions total m last) added total m us fs
+pub record PlacesAll (t : Forest Field) (ds request added additions : List ℕ) (total m last : ℕ) (r : Decided) (us fs st : List ℕ) : Type 0 where
+  pub by : PlacesBy r (all-placed t ds request added additions total m last) request added total m last us fs st

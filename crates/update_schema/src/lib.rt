@@ -318,7 +318,7 @@ fn place_columns<'a>(
         × Index (lent (now pool) (now base) (now request) (now added)) (now slots) (now ids) (now kids) n (now «id_heads») (now «id_next») (now ups) (now lens) (now hashes) (now «name_heads») (now «name_next»)
         × Columns (now request) (now added) (now additions) total m × Good dropped × (last < 4294967296)
         × (length (now unders) ≡ 64) × (length (now firsts) ≡ 64) × (length (now starts) ≡ 64) ⌝ }
-    ensures { λ r. ⌜ PlacesAll (plan-fields (lent (now (pool .entry)) (now (base .entry)) (now (request .entry)) (now (added .entry))) (now (slots .entry)) (now (ids .entry)) (now (kids .entry)) n) (dropped-ids dropped) (now (request .entry)) (now (added .entry)) (now (additions .entry)) total m last r (now (unders .exit)) (now (firsts .exit)) ⌝ }
+    ensures { λ r. ⌜ PlacesAll (plan-fields (lent (now (pool .entry)) (now (base .entry)) (now (request .entry)) (now (added .entry))) (now (slots .entry)) (now (ids .entry)) (now (kids .entry)) n) (dropped-ids dropped) (now (request .entry)) (now (added .entry)) (now (additions .entry)) total m last r (now (unders .exit)) (now (firsts .exit)) (now (starts .exit)) ⌝ }
 {
     let mut k = 0;
     let mut slot = 0;

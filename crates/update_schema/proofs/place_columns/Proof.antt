@@ -33,7 +33,7 @@ place-columns-spec =
     (λ c. let e = c .before .before .before .before .before .before .before .before .before .before .before .pre .2 .entries in let r = c .before .before .before .before .before .loop .inv in omega (arith, e .few, c .before .before .before .before .loop-test .taken, r .us-room, r .fs-room, r .st-room))  -- mul-starts
     (λ c. let e = c .before .before .before .before .before .before .before .before .before .before .before .pre .2 .entries in let r = c .before .before .before .before .before .loop .inv in omega (arith, e .few, c .before .before .before .before .loop-test .taken, r .us-room, r .fs-room, r .st-room))  -- element-write-starts
     (λ c. search needs)  -- enum-known-one-2
-    (λ c. place-stops _ _ _ _ _ _ _ _ _ _ _ _ _ _ (c .before .before .before .before .before .loop .inv) (c .before .before .before .before .loop-test .taken) _ _ _ _ (c .before .before .before .place-one .ensures) (c .before .one2 .given .1))  -- returns
+    (λ c. place-stops _ _ _ _ _ _ _ _ _ _ _ _ _ _ (c .before .before .before .before .before .loop .inv) (c .before .before .before .before .loop-test .taken) _ _ _ _ _ (c .before .before .before .place-one .ensures) (c .before .one2 .given .1))  -- returns
     (λ c. let e = c .before .before .before .before .before .before .before .before .before .before .before .pre .2 .entries in let r = c .before .before .before .before .before .loop .inv in omega (arith, e .few, c .before .before .before .before .loop-test .taken, r .us-room, r .fs-room, r .st-room))  -- add-k
     (λ c. omega (arith, c .before .before .before .before .loop-test .taken))  -- loop-less
     (λ c. place-goes _ _ _ _ _ _ _ _ _ _ _ _ _ _ (c .before .before .before .before .before .loop .inv) (c .before .before .before .before .loop-test .taken) _ _ (c .before .before .before .before .before .before .before .before .before .before .before .pre .2) (c .before .before .before .place-one .ensures) (c .before .one .given .1))  -- loop-again
