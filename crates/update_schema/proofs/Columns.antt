@@ -88,10 +88,10 @@ arrivals-none end a = refl
 
 -- ---- one addition of the paper
 
-abbrev joined : Option ℕ → Placed → Placed
+abbrev pub joined : Option ℕ → Placed → Placed
 joined q r = record { parents = q ∷ r .parents; last = r .last }
 
-placed-step : (t : Forest Field) (ds : List ℕ) (last k : ℕ) (p : Option (List ℕ)) (ps : List (Option (List ℕ))) (f : Field) (m n : Forest Field)
+pub placed-step : (t : Forest Field) (ds : List ℕ) (last k : ℕ) (p : Option (List ℕ)) (ps : List (Option (List ℕ))) (f : Field) (m n : Forest Field)
     → placed-all t ds last k (p ∷ ps) (node f m n) ≡ (one-placed t ds last k p f m >>= λ q. placed-all t ds (suc (last + size m)) (suc k) ps n >>= λ r. ok (joined q r))
 unfolding placed-all one-placed _>>=_
 placed-step t ds last k p ps f m n = go (fault-if 13 3 k (among 46 (f .name))) (fault-if 14 3 k (eqb (f .flags) 1)) (placed t ds k (f .name) p) (fault-if 18 3 k (ltb highest (suc (last + size m))))

@@ -3,3 +3,4 @@ pub mod Deleting
 pub mod Numbering
 pub mod Placing
 pub mod Columns
+pub mod Changing

@@ -30,6 +30,7 @@ ghost use Rattle.plan.specs.Plan.{lent, plan-fields};
 ghost use Rattle.index.specs.Index.{Index};
 ghost use Rattle.update_schema.specs.Base.{Based, Entries, Addition};
 ghost use Rattle.update_schema.specs.Additions.{Column, column-size, numbered, OneSpotted, Columns, PlacesAll};
+ghost use Rattle.update_schema.specs.Changes.{Decides};
 ghost use Rattle.update_schema.specs.Deletions.{Gathered, DropsAll};
 
 // An addition that is accepted: where it goes, the bits of its first id, the last id consumed, and the slot behind its column.
@@ -362,4 +363,92 @@ fn place_columns<'a>(
         k += 1;
     }
     Decided::Last(end)
+}
+
+// Deletions one at a time, then additions one at a time: refusals 11 to 18, or all that the rebuild needs.
+fn decide_changes<'a>(
+    pool: &'a [u8],
+    base: &[u8],
+    request: &'a [u8],
+    added: &[u8],
+    slots: &[u16; 1024],
+    ids: &[u32; 1024],
+    kids: &[u16; 1024],
+    n: usize,
+    id_heads: &[u16; 1024],
+    id_next: &[u16; 1024],
+    ups: &[u16; 1024],
+    lens: &[u16; 1024],
+    hashes: &[u32; 1024],
+    name_heads: &[u16; 1024],
+    name_next: &[u16; 1024],
+    identifiers: &[u8],
+    deletions: &[u8],
+    deleted: usize,
+    gone: &mut [u32; 64],
+    additions: &[u8],
+    total: usize,
+    m: usize,
+    last: u64,
+    unders: &mut [u64; 64],
+    firsts: &mut [u16; 64],
+    starts: &mut [u32; 64],
+) -> Decided
+    requires { ⌜ Based (lent (now pool) (now base) (now request) (now added)) (now slots) (now ids) (now kids) n
+        × Index (lent (now pool) (now base) (now request) (now added)) (now slots) (now ids) (now kids) n (now «id_heads») (now «id_next») (now ups) (now lens) (now hashes) (now «name_heads») (now «name_next»)
+        × (length (now identifiers) ≤ 256) × Entries (now request) (now deletions) deleted × (length (now gone) ≡ 64)
+        × Columns (now request) (now added) (now additions) total m × (last < 4294967296)
+        × (length (now unders) ≡ 64) × (length (now firsts) ≡ 64) × (length (now starts) ≡ 64) ⌝ }
+    ensures { λ r. ⌜ Decides (plan-fields (lent (now (pool .entry)) (now (base .entry)) (now (request .entry)) (now (added .entry))) (now (slots .entry)) (now (ids .entry)) (now (kids .entry)) n) (id-list (now (identifiers .entry))) (now (request .entry)) (now (deletions .entry)) deleted (now (added .entry)) (now (additions .entry)) total m last r (now (gone .exit)) (now (unders .exit)) (now (firsts .exit)) (now (starts .exit)) ⌝ }
+{
+    let check = drop_columns(
+        pool,
+        base,
+        request,
+        added,
+        slots,
+        ids,
+        kids,
+        n,
+        id_heads,
+        id_next,
+        ups,
+        lens,
+        hashes,
+        name_heads,
+        name_next,
+        identifiers,
+        deletions,
+        deleted,
+        gone,
+    );
+    if let Check::Refused(r) = check {
+        return Decided::Refused(r);
+    }
+    let dropped = gather(gone, deleted);
+    place_columns(
+        pool,
+        base,
+        request,
+        added,
+        slots,
+        ids,
+        kids,
+        n,
+        id_heads,
+        id_next,
+        ups,
+        lens,
+        hashes,
+        name_heads,
+        name_next,
+        additions,
+        total,
+        m,
+        dropped,
+        last,
+        unders,
+        firsts,
+        starts,
+    )
 }
