@@ -12,5 +12,6 @@ pub mod Fitting
 pub mod Whole
 pub mod Octets
 pub mod Natural
+pub mod Pointwise
 pub mod Same
 pub mod Finding

@@ -1,0 +1,3 @@
+pub mod Deleting
+pub mod Placing
+pub mod Leading

@@ -1,0 +1,20 @@
+-- Of open siblings the dropped go.
+use mathlib.Core.Path.{_∙_, ap}
+use Rattle.dropped.specs.Set.{dropped-ids}
+use Rattle.paper.specs.Answer.{among}
+use Rattle.paper.specs.Bytes.{turned}
+use Rattle.rebuild.proofs.Rebuilding.{gone-asked}
+use borrow.Author.Needs.{needs}
+use Rattle.rebuild.proofs.goes.Statement.{statement}
+use Rattle.rebuild.proofs.goes.Tie as tie
+
+pub goes-spec : {M : Type 1} → statement M
+goes-spec =
+    tie.close
+    (tie.spec
+    (λ c. search needs)  -- mul-le32
+    (λ c κs. search needs)  -- le32-requires
+    (λ c κs. search needs)  -- contains-requires
+    (λ c. search (gone-asked, needs))  -- returns
+    (λ c. search needs)  -- returns-2
+    )

@@ -1,0 +1,194 @@
+-- Deletions one at a time: what is left of them, behind the ids that stand in the array, is the whole.
+use Prim.Native.Nat.{ℕ, zero, suc, _+_, _-_, _*_, _<_, _≤_}
+use mathlib.Core.Path.{_≡_, refl, sym, ap, ap₂, _∙_}
+use mathlib.Core.Bool.{Bool, true, false, _||_, or-assoc, or-comm, or-false}
+use mathlib.Core.List.{List, [], _∷_, _++_, append-nil, append-assoc}
+use mathlib.Core.Option.{Option, none, some}
+use native.Mathlib.Omega.{arith}
+use native.Mathlib.Numerals.{add-one}
+use lib.Dec.{eqb}
+use lib.ListN.{length, getD, set, length-set}
+use lib.Seq.{getD-set-same, getD-set-other}
+use Rattle.paper.specs.Answer.{Answer, ok, refused, _>>=_, among, fault-if, demand}
+use Rattle.paper.specs.Forest.{Forest}
+use Rattle.paper.specs.Field.{Field}
+use Rattle.paper.specs.Rows.{Row, look-name}
+use Rattle.paper.specs.Bytes.{turned, from}
+use Rattle.paper.specs.Lists.{path-of}
+use Rattle.paper.specs.Update.{deleted}
+use Rattle.laws.proofs.Words.{turned-twice}
+use Rattle.laws.proofs.Runs.{from-step, from-done, from-all, from-append}
+use Rattle.record.specs.declared.FieldId.{FieldId}
+use Rattle.record.specs.declared.Refusal.{Refusal}
+use Rattle.record.specs.declared.Found.{Found}
+use Rattle.record.specs.declared.Check.{Check}
+use Rattle.record.specs.declared.Check.the-variants as check
+use Rattle.record.specs.Says.{found-row, refusal-of}
+use Rattle.dropped.specs.declared.Dropped.{Dropped}
+use Rattle.dropped.specs.Set.{elems, dropped-ids, Good, Inserted}
+use Rattle.decide.specs.declared.Dropping.{Dropping}
+use Rattle.decide.specs.declared.Dropping.the-variants as dropping
+use Rattle.decide.specs.Entry.{Known, dropped-id, drops, Deleted}
+use Rattle.update_schema.specs.Deletions.{gone-ids, Gathered, DropsAll}
+
+-- ---- chains and answers
+
+pub bind-is : {A B : Type 0} (x : Answer A) (f : A → Answer B) (a : A) → x ≡ ok a → (x >>= f) ≡ f a
+unfolding _>>=_
+bind-is x f a e = rw e
+
+pub bind-not : {A B : Type 0} (x : Answer A) (f : A → Answer B) (n l k : ℕ) → x ≡ refused n l k → (x >>= f) ≡ refused n l k
+unfolding _>>=_
+bind-not x f n l k e = rw e
+
+of-refused : (x : Answer ℕ) (f : Refusal) → dropping.Refused f ≡ drops x → x ≡ refused (f .number) (f .list) (f .place)
+unfolding drops
+of-refused (ok i) f e = cc
+of-refused (refused n l p) f e = let z : f ≡ refusal-of n l p = cc in rw z
+
+gone-refused : (x : FieldId) (n l p : ℕ) → dropping.Gone x ≡ drops (refused n l p) → ⊥
+unfolding drops
+gone-refused x n l p e = let y : _≡_ {A = ℕ} 0 1 = cc in omega arith
+
+gone-id : (x : FieldId) (i : ℕ) → dropping.Gone x ≡ drops (ok i) → x .0 ≡ turned i
+unfolding drops
+gone-id x i e = let z : x ≡ record { 0 = turned i } = cc in rw z
+
+-- ---- the array
+
+from-same : (f g : ℕ → ℕ) (k m : ℕ) → ((j : ℕ) → j < k + m → f j ≡ g j) → from f k m ≡ from g k m
+unfolding from
+from-same f g k zero h = refl
+from-same f g k (suc m) h = rw (h k (omega arith), from-same f g (suc k) m (λ j l. h j (omega arith)))
+
+gone-more : (gone : List ℕ) (k v : ℕ) → k < length gone → gone-ids (set gone k v) (k + 1) ≡ gone-ids gone k ++ (turned v ∷ [])
+unfolding gone-ids from
+gone-more gone k v l =
+    from-append (λ j. turned (getD (set gone k v) j 0)) 0 k 1
+    ∙ ap₂ (λ (a b : List ℕ). a ++ b)
+    (from-same (λ j. turned (getD (set gone k v) j 0)) (λ j. turned (getD gone j 0)) 0 k (λ j h. ap turned (getD-set-other gone k j v 0 (λ e. omega arith))))
+    (let z : 0 + k ≡ k = omega arith in rw z (ap (λ (y : ℕ). turned y ∷ []) (getD-set-same gone k v 0 l)))
+
+-- ---- the set
+
+among-append : (x : ℕ) (s t : List ℕ) → among x (s ++ t) ≡ (among x s || among x t)
+among-append x [] t = refl
+among-append x (y ∷ s) t = ap (λ (b : Bool). eqb x y || b) (among-append x s t) ∙ sym (or-assoc (eqb x y) (among x s) (among x t))
+
+pub record Gathering (gone : List ℕ) (total i : ℕ) (s : Dropped) : Type 0 where
+  pub within : i ≤ total
+  pub good : Good s
+  pub few : s .n ≤ i
+  pub holds : (x : ℕ) → among x (dropped-ids s) ≡ among x (gone-ids gone i)
+
+pub gather-starts : (gone : List ℕ) (total : ℕ) (s : Dropped) → (s .n ≡ 0) × Good s → Gathering gone total 0 s
+unfolding gone-ids from dropped-ids
+gather-starts gone total s h = record { within = omega arith; good = h .1; few = omega (arith, h .0); holds = λ x. rw (h .0) }
+
+gone-next : (gone : List ℕ) (i : ℕ) → gone-ids gone (i + 1) ≡ gone-ids gone i ++ (turned (getD gone i 0) ∷ [])
+unfolding gone-ids from
+gone-next gone i = let z : 0 + i ≡ i = omega arith in rw z at (from-append (λ j. turned (getD gone j 0)) 0 i 1)
+
+module _ (gone : List ℕ) (total i : ℕ) (s : Dropped) (H : Gathering gone total i s) where
+  pub gather-room : i < total → total ≤ 64 → Good s × (s .n < 64)
+  gather-room l m = let f = H .few in (H .good, omega arith)
+
+  pub gather-goes : (s′ : Dropped) → i < total → Inserted (getD gone i 0) s s′ → Gathering gone total (i + 1) s′
+  gather-goes s′ l h =
+      record {
+        within = omega arith;
+        good = h .good;
+        few = omega (arith, h .few, H .few);
+        holds = λ x. h .holds x ∙ ap (λ (b : Bool). eqb x (turned (getD gone i 0)) || b) (H .holds x) ∙ or-comm (eqb x (turned (getD gone i 0))) (among x (gone-ids gone i))
+            ∙ ap (λ (b : Bool). among x (gone-ids gone i) || b) (sym (or-false (eqb x (turned (getD gone i 0))))) ∙ sym (ap (λ (z : List ℕ). among x z) (gone-next gone i) ∙ among-append x (gone-ids gone i) (turned (getD gone i 0) ∷ []));
+      }
+
+  pub gather-ends : total ≤ i → Gathered gone total s
+  gather-ends l = let w = H .within in let e : i ≡ total = omega arith in record { good = H .good; holds = rw e at (H .holds) }
+
+pub ruleset gathering = (gather-starts, gather-room, gather-goes, gather-ends)
+
+-- ---- one deletion of the paper
+
+deleted-step : (t : Forest Field) (ids : List ℕ) (k : ℕ) (p : List ℕ) (ps : List (List ℕ)) → deleted t ids k (p ∷ ps) ≡ (dropped-id (look-name t p) ids k >>= λ i. deleted t ids (suc k) ps >>= λ ds. ok (i ∷ ds))
+unfolding deleted dropped-id _>>=_
+deleted-step t ids k p ps = go (look-name t p)
+  where
+    tested : (b : Bool) (i : ℕ) (d : Answer (List ℕ)) → (fault-if 12 2 k b >>= λ _. d >>= λ ds. ok (i ∷ ds)) ≡ ((fault-if 12 2 k b >>= λ _. ok i) >>= λ j. d >>= λ ds. ok (j ∷ ds))
+    tested true i d = refl
+    tested false i d = refl
+
+    go : (o : Option Row) → (demand 11 2 k o >>= λ r. fault-if 12 2 k (among (r .field .id) ids) >>= λ _. deleted t ids (suc k) ps >>= λ ds. ok (r .field .id ∷ ds))
+        ≡ ((demand 11 2 k o >>= λ r. fault-if 12 2 k (among (r .field .id) ids) >>= λ _. ok (r .field .id)) >>= λ i. deleted t ids (suc k) ps >>= λ ds. ok (i ∷ ds))
+    go none = refl
+    go (some r) = tested (among (r .field .id) ids) (r .field .id) (deleted t ids (suc k) ps)
+
+-- what the answer of one deletion says of the paper's
+one-refused : (o : Option Row) (ids : List ℕ) (k : ℕ) (f : Refusal) → dropping.Refused f ≡ drops (dropped-id o ids k) → dropped-id o ids k ≡ refused (f .number) (f .list) (f .place)
+one-refused o ids k f e = go (dropped-id o ids k) e
+  where
+    go : (x : Answer ℕ) → dropping.Refused f ≡ drops x → x ≡ refused (f .number) (f .list) (f .place)
+    go x q = of-refused x f q
+
+one-gone : (P : Type 0) (o : Option Row) (ids : List ℕ) (k : ℕ) (x : FieldId) → Known o → dropping.Gone x ≡ drops (dropped-id o ids k) → ((i : ℕ) → dropped-id o ids k ≡ ok i → turned (x .0) ≡ i → P) → P
+unfolding dropped-id _>>=_ Known
+one-gone P none ids k x h e f = absurd (gone-refused x _ _ _ e)
+one-gone P (some r) ids k x h e f = go (among (r .field .id) ids) refl e f
+  where
+    go : (b : Bool) → among (r .field .id) ids ≡ b → dropping.Gone x ≡ drops (fault-if 12 2 k b >>= λ _. ok (r .field .id)) → ((i : ℕ) → (fault-if 12 2 k b >>= λ _. ok (r .field .id)) ≡ ok i → turned (x .0) ≡ i → P) → P
+    go true q a g = absurd (gone-refused x _ _ _ a)
+    go false q a g = g (r .field .id) refl (ap turned (gone-id x (r .field .id) a) ∙ turned-twice (r .field .id) h)
+
+-- ---- the loop
+
+abbrev rest : (t : Forest Field) (ids request deletions : List ℕ) (total k : ℕ) → Answer (List ℕ)
+rest t ids request deletions total k = deleted t ids k (from (path-of request deletions) k (total - k))
+
+pub record Deleting (t : Forest Field) (ids request deletions : List ℕ) (total k : ℕ) (gone : List ℕ) : Type 0 where
+  pub within : k ≤ total
+  pub room : length gone ≡ 64
+  pub goes : (ds : List ℕ) → rest t ids request deletions total k ≡ ok ds → deleted t ids 0 (from (path-of request deletions) 0 total) ≡ ok (gone-ids gone k ++ ds)
+  pub stops : (n l p : ℕ) → rest t ids request deletions total k ≡ refused n l p → deleted t ids 0 (from (path-of request deletions) 0 total) ≡ refused n l p
+
+pub delete-starts : (t : Forest Field) (ids request deletions : List ℕ) (total : ℕ) (gone : List ℕ) → length gone ≡ 64 → Deleting t ids request deletions total 0 gone
+unfolding gone-ids from
+delete-starts t ids request deletions total gone l =
+    let e = from-all (path-of request deletions) total in
+    record { within = omega arith; room = l; goes = λ ds h. sym (ap (λ (z : List (List ℕ)). deleted t ids 0 z) e) ∙ h; stops = λ n l p h. sym (ap (λ (z : List (List ℕ)). deleted t ids 0 z) e) ∙ h }
+
+none-left : (t : Forest Field) (ids : List ℕ) (k : ℕ) → deleted t ids k [] ≡ ok []
+unfolding deleted
+none-left t ids k = refl
+
+module _ (t : Forest Field) (ids request deletions : List ℕ) (total k : ℕ) (gone : List ℕ) (H : Deleting t ids request deletions total k gone) where
+  pub delete-ends : total ≤ k → DropsAll t ids request deletions total check.Fine gone
+  delete-ends l =
+      let w = H .within in
+      let e : k ≡ total = omega arith in
+      let z = H .goes [] (ap (λ (y : List (List ℕ)). deleted t ids k y) (from-done (path-of request deletions) k total l) ∙ none-left t ids k) in
+      record { by = z ∙ rw (append-nil (gone-ids gone k), e) }
+
+  module _ (l : k < total) (f : Found) (r : Dropping) (p : List ℕ) (ep : p ≡ path-of request deletions k) (h : Known (look-name t p)) (ef : f ≡ found-row (look-name t p)) (d : Deleted f ids k r) where
+    here : rest t ids request deletions total k ≡ (dropped-id (look-name t p) ids k >>= λ i. rest t ids request deletions total (k + 1) >>= λ ds. ok (i ∷ ds))
+    here = ap (λ (y : List (List ℕ)). deleted t ids k y) (from-step (path-of request deletions) k total l) ∙ rw (← ep, add-one k) (deleted-step t ids k p (from (path-of request deletions) (suc k) (total - suc k)))
+
+    pub delete-stops : (x : Refusal) (new : List ℕ) → r ≡ dropping.Refused x → DropsAll t ids request deletions total (check.Refused x) new
+    delete-stops x new q =
+        let e = one-refused (look-name t p) ids k x (sym q ∙ d .says (look-name t p) h ef) in
+        record { by = H .stops (x .number) (x .list) (x .place) (here ∙ bind-not (dropped-id (look-name t p) ids k) _ (x .number) (x .list) (x .place) e) }
+
+    pub delete-goes : (x : FieldId) → r ≡ dropping.Gone x → total ≤ 64 → Deleting t ids request deletions total (k + 1) (set gone k (x .0))
+    delete-goes x q m =
+        one-gone _ (look-name t p) ids k x h (sym q ∙ d .says (look-name t p) h ef) λ i ei ex.
+        let w = H .room in
+        let step : (u : Answer (List ℕ)) → rest t ids request deletions total (k + 1) ≡ u → rest t ids request deletions total k ≡ (u >>= λ ds. ok (i ∷ ds))
+        = λ u e. here ∙ bind-is (dropped-id (look-name t p) ids k) _ i ei ∙ ap (λ (z : Answer (List ℕ)). z >>= λ ds. ok (i ∷ ds)) e in
+        record {
+          within = omega arith;
+          room = length-set gone k (x .0) ∙ w;
+          goes = λ ds e. H .goes (i ∷ ds) (step (ok ds) e ∙ bind-is (ok ds) _ ds refl) ∙ ap ok (joined i ds ex (omega arith));
+          stops = λ n j s e. H .stops n j s (step (refused n j s) e ∙ bind-not (refused n j s) _ n j s refl);
+        }
+      where
+        joined : (i : ℕ) (ds : List ℕ) → turned (x .0) ≡ i → k < length gone → gone-ids gone k ++ (i ∷ ds) ≡ gone-ids (set gone k (x .0)) (k + 1) ++ ds
+        joined i ds e b = sym (ap (λ (z : List ℕ). z ++ ds) (gone-more gone k (x .0) b) ∙ append-assoc (gone-ids gone k) (turned (x .0) ∷ []) ds ∙ rw e)

@@ -1,0 +1,6 @@
+pub mod Found
+pub mod Deleting
+pub mod Numbering
+pub mod Placing
+pub mod Columns
+pub mod Changing

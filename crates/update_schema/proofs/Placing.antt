@@ -1,0 +1,139 @@
+-- One addition: its own rules, its place, its ids, in the paper's order.
+use Prim.Native.Nat.{ℕ, suc, _+_, _-_, _*_, _<_, _≤_}
+use mathlib.Core.Path.{_≡_, refl, sym, ap, _∙_}
+use mathlib.Core.Bool.{Bool, true, false, not, _&&_, cond}
+use mathlib.Core.List.{List}
+use mathlib.Core.Option.{Option, none, some}
+use native.Mathlib.Omega.{arith}
+use lib.Dec.{eqb, ltb}
+use lib.ListN.{length}
+use borrow.Author.Tests.{lt-ltb, le-ltb, ltb-true, ltb-false}
+use Rattle.paper.specs.Answer.{Answer, ok, refused, _>>=_, among, fault-if, demand}
+use Rattle.paper.specs.Forest.{Forest, size}
+use Rattle.paper.specs.Field.{Field, highest}
+use Rattle.paper.specs.Rows.{Row, look-name}
+use Rattle.paper.specs.Bytes.{turned, rec-at, kind-at, kids-at, field-at, name-of, ok-bytes}
+use Rattle.paper.specs.Decode.{fields}
+use Rattle.paper.specs.Lists.{parent-path}
+use Rattle.paper.specs.Update.{Receiver, receiver, root-taken, member-taken, placed}
+use Rattle.laws.proofs.Words.{turned-twice, turned-below}
+use Rattle.laws.proofs.Fitting.{size-mapped}
+use Rattle.tree.specs.Read.{part}
+use Rattle.record.specs.declared.Refusal.{Refusal}
+use Rattle.record.specs.declared.Check.{Check}
+use Rattle.record.specs.declared.Check.the-variants as check
+use Rattle.record.specs.Says.{refusal-of, checked}
+use Rattle.plan.specs.Plan.{Lent, plan-fields}
+use Rattle.rebuild.specs.Sources.{parent}
+use Rattle.parents.specs.Target.{receiving, receiver-at, members-at}
+use Rattle.parents.proofs.Receiving.{receiver-is}
+use Rattle.decide.specs.declared.Going.{Going}
+use Rattle.decide.specs.declared.Going.the-variants as going
+use Rattle.decide.specs.Entry.{unbarred, goes}
+use Rattle.update_schema.specs.declared.Spot.{Spot}
+use Rattle.update_schema.specs.declared.Spotted.{Spotted}
+use Rattle.update_schema.specs.declared.Spotted.the-variants as spotted
+use Rattle.update_schema.specs.Base.{Based}
+use Rattle.update_schema.specs.Additions.{column-size, numbered, one-placed, Settled, OneSpotted}
+use Rattle.update_schema.proofs.Found.{found-there, row-stands}
+
+-- ---- the id of a place has 32 bits
+
+unfoldable Small : Answer (Option ℕ) → Type 0
+Small (ok none) = Unit {0}
+Small (ok (some i)) = i < 4294967296
+Small (refused n l p) = Unit {0}
+
+under-is : (a : Answer (Option ℕ)) (u : ℕ) → Small a → going.Under u ≡ goes a → (a ≡ ok (parent u)) × (u ≤ 4294967296)
+unfolding Small goes parent
+under-is (ok none) u h e = let z : u ≡ 0 = cc in rw z (refl, omega arith)
+under-is (ok (some i)) u h e = let z : u ≡ suc (turned i) = cc in let y = turned-below i in rw (z, turned-twice i h) (refl, omega arith)
+under-is (refused n l p) u h e = let y : _≡_ {A = ℕ} 0 1 = cc in absurd (omega arith)
+
+under-not : (a : Answer (Option ℕ)) (f : Refusal) → going.Refused f ≡ goes a → a ≡ refused (f .number) (f .list) (f .place)
+unfolding goes
+under-not (ok none) f e = cc
+under-not (ok (some i)) f e = cc
+under-not (refused n l p) f e = let z : f ≡ refusal-of n l p = cc in rw z
+
+module _ (l : Lent) (xs is ks : List ℕ) (n : ℕ) (b : Based l xs is ks n) (ds : List ℕ) (k : ℕ) (x : List ℕ) where
+  small-place : (p : Option (List ℕ)) → Small (placed (plan-fields l xs is ks n) ds k x p)
+  unfolding placed _>>=_ Small
+  small-place none = go (root-taken (look-name (plan-fields l xs is ks n) x) ds)
+    where
+      go : (c : Bool) → Small (fault-if 17 3 k c >>= λ _. ok none)
+      go true = tt
+      go false = tt
+  small-place (some p) = go (look-name (plan-fields l xs is ks n) p) refl
+    where
+      joined : (c : Bool) (i : ℕ) → i < 4294967296 → Small (fault-if 17 3 k c >>= λ _. ok (some i))
+      joined true i h = tt
+      joined false i h = h
+
+      met : (o : Option ℕ) (r : Row) → receiver (r .field) (r .inside) (r .field .kind) ≡ receiver-at (l .pool) (l .base) n o
+          → Small (demand 16 3 k (receiver (r .field) (r .inside) (r .field .kind)) >>= λ s. fault-if 17 3 k (not (among (s .id) ds) && member-taken (s .members) x ds) >>= λ _. ok (some (s .id)))
+      met none r e = rw e tt
+      met (some j) r e = rw e (joined (not (among (turned (rec-at (l .base) j .id)) ds) && member-taken (members-at (l .pool) (l .base) n j) x ds) (turned (rec-at (l .base) j .id)) (turned-below (rec-at (l .base) j .id)))
+
+      go : (o : Option Row) → look-name (plan-fields l xs is ks n) p ≡ o
+          → Small (demand 15 3 k o >>= λ r. demand 16 3 k (receiver (r .field) (r .inside) (r .field .kind)) >>= λ s. fault-if 17 3 k (not (among (s .id) ds) && member-taken (s .members) x ds) >>= λ _. ok (some (s .id)))
+      go none e = tt
+      go (some r) e = met (receiving (l .base) n (r .slot)) r (row-stands l xs is ks n b p r e)
+
+-- ---- the steps
+
+check-refused : (a : Answer (Unit {0})) (w : Check) (f : Refusal) → w ≡ checked a → w ≡ check.Refused f → a ≡ refused (f .number) (f .list) (f .place)
+unfolding checked
+check-refused (ok t) w f e q = cc
+check-refused (refused n l p) w f e q = let z : f ≡ refusal-of n l p = cc in rw z
+
+check-fine : (a : Answer (Unit {0})) (w : Check) → w ≡ checked a → w ≡ check.Fine → a ≡ ok tt
+unfolding checked
+check-fine (ok tt) w e q = refl
+check-fine (refused n l p) w e q = cc
+
+-- the paper's step, by 13 and 14 together
+one-first : (t : Forest Field) (ds request added : List ℕ) (last k slot : ℕ) (p : Option (List ℕ)) (m : Forest Field) → one-placed t ds last k p (field-at request added slot) m
+    ≡ (unbarred request added slot k >>= λ _. placed t ds k (name-of request added slot) p >>= λ q. fault-if 18 3 k (ltb highest (suc (last + size m))) >>= λ _. ok q)
+unfolding one-placed unbarred field-at _>>=_
+one-first t ds request added last k slot p m = go (fault-if 13 3 k (among 46 (name-of request added slot)))
+  where
+    go : (x : Answer (Unit {0})) → (x >>= λ _. fault-if 14 3 k (eqb (rec-at added slot .flags) 1) >>= λ _. placed t ds k (name-of request added slot) p >>= λ q. fault-if 18 3 k (ltb highest (suc (last + size m))) >>= λ _. ok q)
+        ≡ ((x >>= λ _. fault-if 14 3 k (eqb (rec-at added slot .flags) 1)) >>= λ _. placed t ds k (name-of request added slot) p >>= λ q. fault-if 18 3 k (ltb highest (suc (last + size m))) >>= λ _. ok q)
+    go (ok tt) = refl
+    go (refused i j s) = refl
+
+module _ (l : Lent) (xs is ks : List ℕ) (n : ℕ) (b : Based l xs is ks n) (ds additions : List ℕ) (m last k slot : ℕ) (w : Check) (ew : w ≡ checked (unbarred (l .request) (l .added) slot k)) where
+  abbrev inner : Forest Field
+  inner = fields (l .request) (l .added) (part 1 (kids-at (l .added)) m 15 (kids-at (l .added) slot) (slot + 1) .trees)
+
+  pub spot-barred : (f : Refusal) → w ≡ check.Refused f → OneSpotted (plan-fields l xs is ks n) ds (l .request) (l .added) additions m last k slot (spotted.Refused f)
+  unfolding _>>=_
+  spot-barred f q = record { by = one-first (plan-fields l xs is ks n) ds (l .request) (l .added) last k slot (parent-path (l .request) additions k) inner ∙ rw (check-refused (unbarred (l .request) (l .added) slot k) w f ew q) }
+
+  module _ (ef : w ≡ check.Fine) (g : Going) (eg : g ≡ goes (placed (plan-fields l xs is ks n) ds k (name-of (l .request) (l .added) slot) (parent-path (l .request) additions k))) where
+    pub spot-nowhere : (f : Refusal) → g ≡ going.Refused f → OneSpotted (plan-fields l xs is ks n) ds (l .request) (l .added) additions m last k slot (spotted.Refused f)
+    unfolding _>>=_
+    spot-nowhere f q =
+        record {
+          by = one-first (plan-fields l xs is ks n) ds (l .request) (l .added) last k slot (parent-path (l .request) additions k) inner
+              ∙ rw (check-fine (unbarred (l .request) (l .added) slot k) w ew ef, under-not (placed (plan-fields l xs is ks n) ds k (name-of (l .request) (l .added) slot) (parent-path (l .request) additions k)) f (sym q ∙ eg));
+        }
+
+    module _ (u : ℕ) (q : g ≡ going.Under u) where
+      where-to : (placed (plan-fields l xs is ks n) ds k (name-of (l .request) (l .added) slot) (parent-path (l .request) additions k) ≡ ok (parent u)) × (u ≤ 4294967296)
+      where-to = under-is _ u (small-place l xs is ks n b ds k (name-of (l .request) (l .added) slot) (parent-path (l .request) additions k)) (sym q ∙ eg)
+
+      size-is : suc (last + size inner) ≡ last + column-size (l .added) m slot
+      unfolding column-size fields
+      size-is = let e = size-mapped (field-at (l .request) (l .added)) (part 1 (kids-at (l .added)) m 15 (kids-at (l .added) slot) (slot + 1) .trees) in omega arith
+
+      pub spot-goes : (r : Spotted) → r ≡ numbered u last k slot (column-size (l .added) m slot) → OneSpotted (plan-fields l xs is ks n) ds (l .request) (l .added) additions m last k slot r
+      unfolding numbered _>>=_
+      spot-goes r er = rw er (go (ltb highest (last + column-size (l .added) m slot)) refl (one-first (plan-fields l xs is ks n) ds (l .request) (l .added) last k slot (parent-path (l .request) additions k) inner ∙ rw (check-fine (unbarred (l .request) (l .added) slot k) w ew ef, where-to .0, size-is)))
+        where
+          go : (c : Bool) → ltb highest (last + column-size (l .added) m slot) ≡ c
+              → one-placed (plan-fields l xs is ks n) ds last k (parent-path (l .request) additions k) (field-at (l .request) (l .added) slot) inner ≡ (fault-if 18 3 k c >>= λ _. ok (parent u))
+              → OneSpotted (plan-fields l xs is ks n) ds (l .request) (l .added) additions m last k slot (cond c (spotted.Refused (refusal-of 18 3 k)) (spotted.At (record { under = u; start = turned (suc last); last = last + column-size (l .added) m slot; next = slot + column-size (l .added) m slot })))
+          go true ec e = record { by = e }
+          go false ec e = record { by = record { goes = e; under = where-to .1; start = refl; end = refl; most = let z = ltb-false highest (last + column-size (l .added) m slot) ec in omega arith; next = refl } }

@@ -1,0 +1,23 @@
+-- With a path the parent is looked up, without one the name.
+use Rattle.update_schema.proofs.Found.{found-sited, goes-under, goes-root}
+use native.Mathlib.Omega.{arith}
+use borrow.Author.Needs.{needs}
+use Rattle.update_schema.proofs.find_place.Statement.{statement}
+use Rattle.update_schema.proofs.find_place.Tie as tie
+
+pub find-place-spec : {M : Type 1} → statement M
+find-place-spec =
+    tie.close
+    (tie.spec
+    (λ c κs. search needs)  -- name-at-requires
+    (λ c κs. search needs)  -- has-path-requires
+    (λ c κs. search needs)  -- path-at-requires
+    (λ c κs. search needs)  -- look-name-requires
+    (λ c. search needs)  -- cast-place-under
+    (λ c κs. (found-sited _ _ _ _ _ (c .before .before .before .before .before .before .before .before .before .before .pre .0) _ _ (c .look-name .ensures), c .before .before .before .before .before .before .before .before .before .before .pre .3))  -- place-under-requires
+    (λ c. goes-under _ _ _ _ _ (c .before .before .before .before .before .before .before .before .before .before .before .pre .0) _ _ _ _ (c .before .before .before .before .before .name-at .ensures .0) _ _ _ (c .before .before .before .before .has-path .ensures) _ _ _ (c .before .before .before .if1 .taken) (c .before .before .path-at .ensures .0) (c .before .look-name .ensures) (c .place-under .ensures))  -- returns
+    (λ c κs. search needs)  -- look-name-requires-2
+    (λ c. search needs)  -- cast-place-at-root
+    (λ c κs. search needs)  -- place-at-root-requires
+    (λ c. goes-root _ _ _ _ _ (c .before .before .before .before .before .before .before .before .before .before .pre .0) _ _ _ _ (c .before .before .before .before .name-at .ensures .0) _ _ _ (c .before .before .before .has-path .ensures) _ _ (c .before .before .if1 .left) (c .before .look-name2 .ensures) (c .place-at-root .ensures))  -- returns-2
+    )

@@ -1,0 +1,30 @@
+-- After each turn the set holds one id more of the array.
+use Prim.Native.Nat.{_-_}
+use Rattle.update_schema.proofs.Deleting.{Gathering, gathering}
+use native.Mathlib.Omega.{arith}
+use borrow.Author.Needs.{needs}
+use Rattle.update_schema.proofs.gather.Statement.{statement}
+use Rattle.update_schema.proofs.gather.Tie as tie
+
+abbrev Inv-loop : tie.InvT-loop
+Inv-loop gone total i₀ dropped₀ i dropped = Gathering gone total i dropped
+
+abbrev μ-loop : tie.MeasureT-loop
+μ-loop gone total i₀ dropped₀ i dropped = total - i
+
+pub gather-spec : {M : Type 1} → statement M
+gather-spec =
+    tie.close
+    (tie.spec
+    Inv-loop
+    μ-loop
+    (λ c κs. search (gathering, needs))  -- empty-requires
+    (λ c. search (gathering, needs))  -- loop-holds
+    (λ c. search (gathering, needs))  -- mul-id
+    (λ c. search (gathering, needs))  -- element-copy-out-id
+    (λ c κs. search (gathering, needs))  -- insert-requires
+    (λ c. search (gathering, needs))  -- add-i
+    (λ c. search (gathering, needs))  -- loop-less
+    (λ c. search (gathering, needs))  -- loop-again
+    (λ c. search (gathering, needs))  -- returns
+    )

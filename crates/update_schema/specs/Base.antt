@@ -1,0 +1,37 @@
+-- What was tested before anything is decided: the base as a plan of itself, and a list of entries.
+use Prim.Native.Nat.{ℕ, _+_, _*_, _<_, _≤_}
+use mathlib.Core.Path.{_≡_}
+use mathlib.Core.List.{List}
+use mathlib.Core.Bool.{true}
+use mathlib.Core.Option.{none}
+use lib.ListN.{length}
+use Rattle.paper.specs.Answer.{ok, lowest}
+use Rattle.paper.specs.Bytes.{kids-at, ok-bytes, in-pool}
+use Rattle.paper.specs.Decode.{fields}
+use Rattle.paper.specs.Layout.{Part, roots}
+use Rattle.paper.specs.Lists.{path-in}
+use Rattle.plan.specs.Plan.{Lent, plan-fields, Plan}
+
+-- The n records of the base, with their trees, are the plan.
+pub record Based (l : Lent) (xs is ks : List ℕ) (n : ℕ) : Type 0 where
+  pub plan : Plan l xs is ks n
+  pub trees : Part
+  pub read : roots 0 (kids-at (l .base)) n n 0 ≡ ok trees
+  pub tree : plan-fields l xs is ks n ≡ fields (l .pool) (l .base) (trees .trees)
+  pub whole : n * 24 ≤ length (l .base)
+  pub bytes : lowest (ok-bytes (l .base)) 0 n ≡ none
+  pub named : lowest (in-pool (length (l .pool)) (l .base)) 0 n ≡ none
+
+-- So many entries, whose paths are in the request pool.
+pub record Entries (request entries : List ℕ) (total : ℕ) : Type 0 where
+  pub whole : total * 8 ≤ length entries
+  pub few : total ≤ 64
+  pub pathed : lowest (path-in (length request) entries) 0 total ≡ none
+
+-- The addition k, with its path in the request pool, and its column at a slot of the additions tree.
+pub record Addition (request added additions : List ℕ) (k slot : ℕ) : Type 0 where
+  pub few : k < 64
+  pub entry : k * 8 + 8 ≤ length additions
+  pub pathed : path-in (length request) additions k ≡ true
+  pub column : slot * 24 + 24 ≤ length added
+  pub named : in-pool (length request) added slot ≡ true

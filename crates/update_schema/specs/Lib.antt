@@ -1,0 +1,4 @@
+pub mod Base
+pub mod Deletions
+pub mod Additions
+pub mod Changes
