@@ -150,6 +150,9 @@ module _ (s p i : List ℕ) (lr ln li : ℕ) where
         next-room = ek;
       }
 
+  pub entered-few : (c : ℕ) → Entered s p i c lr ln li → slots s ≤ 4294967295
+  entered-few c h = let a = sized-slots s p (ids-sized 64 s p i (passed c h .limits)) .0 in omega arith
+
   -- ---- the entry after 6
 
   module _ (start : ℕ) where
@@ -226,7 +229,8 @@ module _ (s p i : List ℕ) (lr ln li : ℕ) where
                       few = few;
                       chained = b .chained d;
                       known = tree-of _ λ t e _. fine-checked _ (sound 0 t (id-list i)) r (b .answer t e) d λ f. unbind _ _ f λ _ e₁ a₁. unbind _ _ a₁ λ _ e₂ a₂. rw (← (b .order t e)) (fault-ok 9 5 (place-of (λ j. not (among j (ids t))) 0 (id-list i)) a₂);
-                      room = omega arith };
+                      room = omega arith;
+                    };
                     order = b .order;
                   }
 
@@ -235,10 +239,10 @@ module _ (s p i : List ℕ) (lr ln li : ℕ) where
               all-numbered x out′ text′ numbers′ v =
                   let few = sized-slots s p base-limits .0 in
                   let same : renumber-entry s p i start lr ln li ≡ numbering s p i first
-                           = tree-of _ λ t e q. fine-checked _ (sound 0 t (id-list i)) r (b .answer t e) d λ f.
-                             let z = tree-size t e in
-                             let w : ltb highest (turned start + size t) ≡ false = le-ltb highest (turned start + size t) (omega arith) in
-                             q ∙ rw (f, w, e, ef) in
+                  = tree-of _ λ t e q. fine-checked _ (sound 0 t (id-list i)) r (b .answer t e) d λ f.
+                  let z = tree-size t e in
+                  let w : ltb highest (turned start + size t) ≡ false = le-ltb highest (turned start + size t) (omega arith) in
+                  q ∙ rw (f, w, e, ef) in
                   answers (numbering s p i first) x out′ text′ numbers′ same (v .answer) (v .records) (v .names) (v .identifiers)
 
 pub ruleset entering = (stop-1, stop-2, go-on, tree-asks, go-6, stop-6)
@@ -265,7 +269,7 @@ module _ (s p i : List ℕ) (c first : ℕ) (xs is ks heads next out text number
     new-order = sym (ap ids (w .tree)) ∙ ap ids (plan-is (lent p s p s) xs new ks (slots s) (w .plan)) ∙ ids-in-order (lent p s p s) xs new ks (slots s) (w .plan)
 
     new-size : slots s ≡ size (new-tree s p c first)
-    new-size = sym (fields-size (lent p s p s) xs new ks (slots s) (w .plan .shaped)) ∙ ap size (w .tree)
+    new-size = sym (fields-size ks (slots s) (w .plan .shaped) (lent p s p s) xs new) ∙ ap size (w .tree)
 
     numbering-is : numbering s p i first ≡ ok (record { tree = new-tree s p c first; identifiers = map (renamed (ids-in is (slots s)) (ids-in new (slots s))) (id-list i); last = 0 })
     unfolding numbering _>>=_

@@ -27,7 +27,12 @@ fn enter(
 ) -> Shaped
     ensures { λ r. ⌜ r ≡ decoded (entered (now (records .entry)) (now (pool .entry)) (now (identifiers .entry)) «room_records» «room_names» «room_identifiers») ⌝ }
 {
-    if !room_with_identifiers(room_records, room_names, identifiers.len(), room_identifiers) {
+    if !room_with_identifiers(
+        room_records,
+        room_names,
+        identifiers.len(),
+        room_identifiers,
+    ) {
         return Shaped::Refused(Refusal {
             number: 1, // refusal 1
             list: 0,

@@ -1,3 +1,4 @@
+-- The plan has the base's shape and the new ids, and its fields are the paper's numbering. Assumes nothing.
 use Rattle.renumbered.proofs.Renumbering.{renumbering}
 use borrow.Author.Needs.{needs}
 use Rattle.renumbered.proofs.write_renumbered.Statement.{statement}
