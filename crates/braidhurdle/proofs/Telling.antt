@@ -12,8 +12,9 @@ use Rattle.paper.specs.Rows.{Row, look-name, look-id, look-parent}
 use Rattle.paper.specs.Bytes.{turned, slots}
 use Rattle.paper.specs.Decode.{decode}
 use Rattle.paper.specs.Limits.{sized}
-use Rattle.paper.specs.Entries.{read, find-name, find-id, find-parent}
-use Rattle.paper.specs.Outcome.{found}
+use lib.ListN.{length}
+use Rattle.paper.specs.Entries.{Result, read, find-name, find-id, find-parent, prune-entry, renumber-entry}
+use Rattle.paper.specs.Outcome.{found, changed}
 use Rattle.laws.proofs.Basics.{unbind, ok-is, refused≢ok}
 use Rattle.laws.proofs.Fitting.{sized-slots}
 use Rattle.laws.proofs.Whole.{decode-size}
@@ -24,9 +25,15 @@ use Rattle.record.specs.declared.Found.{Found}
 use Rattle.record.specs.declared.Found.the-variants as finds
 use Rattle.record.specs.declared.Sought.{Sought}
 use Rattle.record.specs.declared.Sought.the-variants as seeks
-use Rattle.record.specs.Says.{found-row, looked}
+use Rattle.record.specs.declared.Sizes.{Sizes}
+use Rattle.record.specs.declared.Changed.{Changed}
+use Rattle.record.specs.declared.Changed.the-variants as changing
+use Rattle.record.specs.Says.{found-row, looked, changes}
+use Rattle.prune.specs.Pruning.{Prunes}
+use Rattle.renumber.specs.Renumbering.{Renumbers}
+use Rattle.braidhurdle.specs.declared.ChangedNumbers.{ChangedNumbers}
 use Rattle.braidhurdle.specs.declared.FoundNumbers.{FoundNumbers}
-use Rattle.braidhurdle.specs.Numbers.{found-in, found-numbers, sought-numbers}
+use Rattle.braidhurdle.specs.Numbers.{found-in, found-numbers, sought-numbers, changed-in, changed-numbers, Left, LeftThree}
 use Rattle.braidhurdle.proofs.Slots.{name-within, id-within, parent-within}
 
 passed : (b : Bool) {u : Unit {0}} → fault-if 2 0 0 (not b) ≡ ok u → b ≡ true
@@ -86,4 +93,29 @@ lay-refused w x e = rw e
 pub lay-looked : (w : Sought) (f : Found) (r : FoundNumbers) → w ≡ seeks.Looked f → r ≡ found-numbers f → r ≡ sought-numbers w
 lay-looked w f r e h = rw e h
 
-pub ruleset telling = (tells-name, tells-id, tells-parent, lay-at, lay-nothing, lay-refused, lay-looked)
+-- ---- update, pruning, renumbering
+
+pub lay-done : (c : Changed) (s : Sizes) → c ≡ changing.Done s → record { refusal = 0; list = 0; place = 0; records = s .records; names = s .names; «last_id» = s .«last_id» } ≡ changed-numbers c
+lay-done c s e = rw e
+
+pub lay-turned-down : (c : Changed) (x : Refusal) → c ≡ changing.Refused x → record { refusal = x .number; list = x .list; place = x .place; records = 0; names = 0; «last_id» = 0 } ≡ changed-numbers c
+lay-turned-down c x e = rw e
+
+changed-told : (a : Answer Result) → changed-numbers (changes a) ≡ changed-in (changed a)
+unfolding changes changed
+changed-told (ok r) = refl
+changed-told (refused n l p) = refl
+
+pub tells-changed : (a : Answer Result) (c : Changed) (r : ChangedNumbers) → c ≡ changes a → r ≡ changed-numbers c → r ≡ changed-in (changed a)
+tells-changed a c r e h = h ∙ ap changed-numbers e ∙ changed-told a
+
+pub prune-left : (s p sel : List ℕ) (full : Bool) (out text : List ℕ) (c : Changed) (r : ChangedNumbers) (out′ text′ : List ℕ) → Prunes s p sel full out text c out′ text′ → r ≡ changed-numbers c
+    → Left (prune-entry s p sel full (length out) (length text)) r out text out′ text′
+prune-left s p sel full out text c r out′ text′ h e = record { answer = tells-changed (prune-entry s p sel full (length out) (length text)) c r (h .answer) e; records = h .records; names = h .names }
+
+pub renumber-left : (s p i : List ℕ) (start : ℕ) (out text is : List ℕ) (c : Changed) (r : ChangedNumbers) (out′ text′ is′ : List ℕ) → Renumbers s p i start out text is c out′ text′ is′ → r ≡ changed-numbers c
+    → LeftThree (renumber-entry s p i start (length out) (length text) (length is)) r out text is out′ text′ is′
+renumber-left s p i start out text is c r out′ text′ is′ h e =
+    record { left = record { answer = tells-changed (renumber-entry s p i start (length out) (length text) (length is)) c r (h .answer) e; records = h .records; names = h .names }; identifiers = h .identifiers }
+
+pub ruleset telling = (tells-name, tells-id, tells-parent, lay-at, lay-nothing, lay-refused, lay-looked, lay-done, lay-turned-down, prune-left, renumber-left)

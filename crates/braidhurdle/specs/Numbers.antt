@@ -1,13 +1,21 @@
 -- The six numbers of an answer, as the C structs hold them.
 use Prim.Native.Nat.{ℕ, _%_}
+use mathlib.Core.Path.{_≡_}
+use mathlib.Core.Bool.{Bool, not}
+use mathlib.Core.List.{List}
+use lib.Dec.{eqb}
+use Rattle.paper.specs.Answer.{Answer}
+use Rattle.paper.specs.Entries.{Result}
+use Rattle.paper.specs.Outcome.{changed, out-records, out-names, out-identifiers, leaves}
 use Rattle.paper.specs.Outcome as outcome
-use Rattle.record.specs.declared.Changed as record-changed
+use Rattle.record.specs.declared.Changed.{Changed}
 use Rattle.record.specs.declared.Changed.the-variants as changes
 use Rattle.record.specs.declared.Found.{Found}
 use Rattle.record.specs.declared.Found.the-variants as finds
 use Rattle.record.specs.declared.Sought.{Sought}
 use Rattle.record.specs.declared.Sought.the-variants as seeks
 use Rattle.braidhurdle.specs.declared.FoundNumbers.{FoundNumbers}
+use Rattle.braidhurdle.specs.declared.ChangedNumbers.{ChangedNumbers}
 
 -- What the paper says of a look-up's numbers, in the struct.
 abbrev pub found-in : outcome.Found → FoundNumbers
@@ -21,3 +29,26 @@ found-numbers finds.Nothing = record { refusal = 0; list = 0; place = 0; found =
 abbrev pub sought-numbers : Sought → FoundNumbers
 sought-numbers (seeks.Looked f) = found-numbers f
 sought-numbers (seeks.Refused r) = record { refusal = r .number; list = r .list; place = r .place; found = 0; id = 0; slot = 0 }
+
+-- The same for update, pruning and renumbering.
+abbrev pub changed-in : outcome.Changed → ChangedNumbers
+changed-in c = record { refusal = c .refusal; list = c .list; place = c .place; records = c .records; names = c .names; «last_id» = c .last-id }
+
+abbrev pub changed-numbers : Changed → ChangedNumbers
+changed-numbers (changes.Done s) = record { refusal = 0; list = 0; place = 0; records = s .records; names = s .names; «last_id» = s .«last_id» }
+changed-numbers (changes.Refused r) = record { refusal = r .number; list = r .list; place = r .place; records = 0; names = 0; «last_id» = 0 }
+
+-- A number that is not 0 asks for full mode.
+abbrev pub full-mode : ℕ → Bool
+full-mode full = not (eqb full 0)
+
+-- What a call leaves where the paper answers a: its numbers, and the bytes of both buffers.
+pub record Left (a : Answer Result) (r : ChangedNumbers) (out text out′ text′ : List ℕ) : Type 0 where
+  pub answer : r ≡ changed-in (changed a)
+  pub records : out′ ≡ leaves out-records a out
+  pub names : text′ ≡ leaves out-names a text
+
+-- And of the buffer of identifiers.
+pub record LeftThree (a : Answer Result) (r : ChangedNumbers) (out text is out′ text′ is′ : List ℕ) : Type 0 where
+  pub left : Left a r out text out′ text′
+  pub identifiers : is′ ≡ leaves out-identifiers a is

@@ -2,13 +2,28 @@
 use index::find_id;
 use index::find_name;
 use index::find_parent;
+use prune::prune;
+use record::Changed;
 use record::FieldId;
 use record::Found;
 use record::Sought;
+use renumber::renumber;
 ghost use mathlib.Core.Path.{_≡_};
-ghost use Rattle.paper.specs.Entries.{find-name, find-id, find-parent};
+ghost use lib.ListN.{length};
+ghost use Rattle.paper.specs.Entries.{find-name, find-id, find-parent, prune-entry, renumber-entry};
 ghost use Rattle.paper.specs.Outcome.{found};
-ghost use Rattle.braidhurdle.specs.Numbers.{found-in, found-numbers, sought-numbers};
+ghost use Rattle.braidhurdle.specs.Numbers.{found-in, found-numbers, sought-numbers, changed-numbers, full-mode, Left, LeftThree};
+
+// The answer of update, pruning and renumbering. On a refusal the last three are 0.
+#[repr(C)]
+pub struct ChangedNumbers {
+    pub refusal: u32,
+    pub list: u32,
+    pub place: u32,
+    pub records: u32,
+    pub names: u32,
+    pub last_id: u32,
+}
 
 // The answer of a look-up. On a refusal, and where nothing is found, id and slot are 0.
 #[repr(C)]
@@ -19,6 +34,29 @@ pub struct FoundNumbers {
     pub found: u32,
     pub id: u32,
     pub slot: u32,
+}
+
+fn lay_changed(changed: Changed) -> ChangedNumbers
+    ensures { λ r. ⌜ r ≡ changed-numbers changed ⌝ }
+{
+    match changed {
+        Changed::Done(sizes) => ChangedNumbers {
+            refusal: 0,
+            list: 0,
+            place: 0,
+            records: sizes.records,
+            names: sizes.names,
+            last_id: sizes.last_id,
+        },
+        Changed::Refused(refusal) => ChangedNumbers {
+            refusal: refusal.number,
+            list: refusal.list,
+            place: refusal.place,
+            records: 0,
+            names: 0,
+            last_id: 0,
+        },
+    }
 }
 
 fn lay_found(found: Found) -> FoundNumbers
@@ -58,6 +96,47 @@ fn lay_sought(sought: Sought) -> FoundNumbers
             slot: 0,
         },
     }
+}
+
+// Keeps the selected columns; not 0 for full mode.
+#[no_mangle]
+pub extern "C" fn braidhurdle_prune(
+    records: &[u8],
+    pool: &[u8],
+    selected: &[u8],
+    full: u32,
+    out_records: &mut [u8],
+    out_names: &mut [u8],
+) -> ChangedNumbers
+    ensures { λ r. ⌜ Left (prune-entry (now (records .entry)) (now (pool .entry)) (now (selected .entry)) (full-mode full) (length (now («out_records» .entry))) (length (now («out_names» .entry)))) r (now («out_records» .entry)) (now («out_names» .entry)) (now («out_records» .exit)) (now («out_names» .exit)) ⌝ }
+{
+    let changed = prune(records, pool, selected, full != 0, out_records, out_names);
+    lay_changed(changed)
+}
+
+// Numbers every column anew from `start` on; identifiers are mapped in the order given.
+#[no_mangle]
+pub extern "C" fn braidhurdle_renumber(
+    records: &[u8],
+    pool: &[u8],
+    identifiers: &[u8],
+    start: u32,
+    out_records: &mut [u8],
+    out_names: &mut [u8],
+    out_identifiers: &mut [u8],
+) -> ChangedNumbers
+    ensures { λ r. ⌜ LeftThree (renumber-entry (now (records .entry)) (now (pool .entry)) (now (identifiers .entry)) start (length (now («out_records» .entry))) (length (now («out_names» .entry))) (length (now («out_identifiers» .entry)))) r (now («out_records» .entry)) (now («out_names» .entry)) (now («out_identifiers» .entry)) (now («out_records» .exit)) (now («out_names» .exit)) (now («out_identifiers» .exit)) ⌝ }
+{
+    let changed = renumber(
+        records,
+        pool,
+        identifiers,
+        start,
+        out_records,
+        out_names,
+        out_identifiers,
+    );
+    lay_changed(changed)
 }
 
 // The column of a full name, or else of a short name.
