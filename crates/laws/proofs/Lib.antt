@@ -12,3 +12,4 @@ pub mod Fitting
 pub mod Whole
 pub mod Octets
 pub mod Natural
+pub mod Same

@@ -1,5 +1,5 @@
 -- What the limits give to those who read on: how long each list can be.
-use mathlib.Core.Path.{_≡_, sym, _∙_}
+use mathlib.Core.Path.{_≡_, refl, sym, _∙_}
 use mathlib.Core.List.{List}
 use mathlib.Core.Bool.{Bool, true, false, not, _&&_}
 use Prim.Native.Nat.{ℕ, _*_, _/_, _%_, _≤_}
@@ -22,32 +22,54 @@ pub pool-most : (s p : List ℕ) → sized s p ≡ true → length p ≤ 32768
 unfolding sized pool-sized
 pool-most s p e = leb-true (length p) 32768 (both (tree-sized s) _ e .1)
 
-module _ (most : ℕ) (s p i : List ℕ) (e : sized-ids most s p i ≡ true) where
-  pub ids-tree : sized s p ≡ true
+-- where `sized_identifiers` or `sized_selected` said yes: `search ids-within`
+module _ (most : ℕ) (s p i : List ℕ) (t : Bool) (e : t ≡ sized-ids most s p i) (f : not t ≡ false) where
+  parts : (sized s p ≡ true) × (whole 4 most i ≡ true)
   unfolding sized-ids
-  ids-tree = both (sized s p) (whole 4 most i) e .0
+  parts = both (sized s p) (whole 4 most i) (sym e ∙ not-false t f)
+
+  pub ids-tree : length s ≤ 24576
+  ids-tree = tree-most s p (parts .0)
 
   pub ids-most : length i ≤ 4 * most
-  unfolding sized-ids
-  ids-most = whole-most 4 most i (both (sized s p) (whole 4 most i) e .1)
+  ids-most = whole-most 4 most i (parts .1)
 
-module _ (s p i d a b r : List ℕ) (e : sized-update s p i d a b r ≡ true) where
-  after-ids : ((whole 8 64 d && whole 8 64 a) && sized b r) ≡ true
-  unfolding sized-update
-  after-ids = both (sized-ids 64 s p i) _ e .1
+  pub ids-sized : sized s p ≡ true
+  ids-sized = parts .0
 
-  pub update-ids : sized-ids 64 s p i ≡ true
+pub ruleset ids-within = (ids-tree, ids-most, ids-sized)
+
+-- where `sized_update` said yes: `search update-within`
+module _ (s p i d a b r : List ℕ) (t : Bool) (e : t ≡ sized-update s p i d a b r) (f : not t ≡ false) where
+  halves : (sized-ids 64 s p i ≡ true) × (((whole 8 64 d && whole 8 64 a) && sized b r) ≡ true)
   unfolding sized-update
-  update-ids = both (sized-ids 64 s p i) _ e .0
+  halves = both (sized-ids 64 s p i) ((whole 8 64 d && whole 8 64 a) && sized b r) (sym e ∙ not-false t f)
+
+  lists : (whole 8 64 d ≡ true) × (whole 8 64 a ≡ true)
+  lists = both (whole 8 64 d) (whole 8 64 a) (both (whole 8 64 d && whole 8 64 a) (sized b r) (halves .1) .0)
+
+  pub update-sized : sized s p ≡ true
+  update-sized = ids-sized 64 s p i true (sym (halves .0)) refl
+
+  pub added-sized : sized b r ≡ true
+  added-sized = both (whole 8 64 d && whole 8 64 a) (sized b r) (halves .1) .1
+
+  pub base-most : length s ≤ 24576
+  base-most = tree-most s p update-sized
+
+  pub added-most : length b ≤ 24576
+  added-most = tree-most b r added-sized
+
+  pub identifiers-most : length i ≤ 256
+  identifiers-most = ids-most 64 s p i true (sym (halves .0)) refl
 
   pub deletions-most : length d ≤ 512
-  deletions-most = whole-most 8 64 d (both (whole 8 64 d) (whole 8 64 a) (both (whole 8 64 d && whole 8 64 a) (sized b r) after-ids .0) .0)
+  deletions-most = whole-most 8 64 d (lists .0)
 
   pub additions-most : length a ≤ 512
-  additions-most = whole-most 8 64 a (both (whole 8 64 d) (whole 8 64 a) (both (whole 8 64 d && whole 8 64 a) (sized b r) after-ids .0) .1)
+  additions-most = whole-most 8 64 a (lists .1)
 
-  pub update-added : sized b r ≡ true
-  update-added = both (whole 8 64 d && whole 8 64 a) (sized b r) after-ids .1
+pub ruleset update-within = (update-sized, added-sized, base-most, added-most, identifiers-most, deletions-most, additions-most)
 
 -- a tree: a whole number of records first, then its name sum. `search sizing`
 module _ (s : List ℕ) (b : Bool) (e : b ≡ whole 24 1024 s) where

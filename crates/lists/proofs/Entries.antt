@@ -28,7 +28,7 @@ module _ (list : ℕ) (rule : List ℕ → ℕ → Bool) (s pool : List ℕ) whe
     unfolding entries-ok
     rule-goes b d eb = eb ∙ tested-fault 4 list (lowest (path-in (length pool) s) 0 (entries s)) ∙ sym (ap checked (chain-goes 3 list (lowest (rule s) 0 (entries s)) a _ ea d))
 
-  -- what an accepted list tells of each entry
+  -- what an accepted list tells of each entry: `search accepted`
   module _ (a : Check) (ea : a ≡ checked (entries-ok list rule s pool)) (d : a ≡ Fine) (k : ℕ) (l : k < entries s) where
     pub entry-fine : rule s k ≡ true
     unfolding entries-ok
@@ -39,6 +39,8 @@ module _ (list : ℕ) (rule : List ℕ → ℕ → Bool) (s pool : List ℕ) whe
     path-fine = unbind _ _ (checked-ok _ a ea d) λ u _ e. lowest-none (path-in (length pool) s) 0 (entries s) (fault-ok 4 list _ e) k (omega arith) (omega arith)
 
 pub ruleset listing = (rule-stops, rule-goes)
+
+pub ruleset accepted = (entry-fine, path-fine)
 
 -- ---- a path is a part of the request pool
 

@@ -14,7 +14,7 @@ ghost use Rattle.paper.specs.Encode.{kind-byte, row24};
 ghost use Rattle.plan.specs.Plan.{lent, source-field, plan-fields, Sits, Plan};
 ghost use Rattle.plan.specs.Sources.{source-kind, source-len, row-of, source-row, In, Inside, Summed, Taken, Written};
 
-// The base as a plan of itself.
+// The base as a plan of itself: each place holds its own slot, id and count; the arrays' rest stays.
 pub fn take_base(
     base: &[u8],
     n: usize,
@@ -90,6 +90,7 @@ pub fn names_fit(base: &[u8], added: &[u8], slots: &[u16; 1024], m: usize) -> bo
     sum <= 32768
 }
 
+// The byte that stands for a kind.
 fn kind_byte(k: Kind) -> u8
     ensures { λ r. ⌜ r ≡ kind-byte k ⌝ }
 {
@@ -203,7 +204,7 @@ fn put_record(
     put_bytes(out, i * 24, &row);
 }
 
-// The one writer: a plan's records, and their names packed from offset 0. Answers how many name bytes there are.
+// The one writer: a plan's records, and their names packed from offset 0; bytes beyond stay. Answers how many name bytes there are.
 pub fn write_plan<'a>(
     pool: &'a [u8],
     base: &[u8],

@@ -72,8 +72,8 @@ module _ (li : ℕ) (kids : ℕ → ℕ) (n : ℕ) where
     pub left-stops : (t : Refusal) → w ≡ walked.Refused t → shaped.Refused t ≡ W
     left-stops t d = sym (h .same ∙ rw (roots-in li kids n (h .turns) k l (h .enough), ← em) (sym (rooted-stops (row li kids n 15 m (k + 1)) (λ i. roots li kids n (h .turns - 1) i) i k t w ew d)))
 
-    pub left-less : (j : ℕ) → w ≡ walked.End j → n - j < n - k
-    left-less j d = let r = end-room li kids n 15 m (k + 1) j w ew d in omega arith
+  pub left-less : (lv k m : ℕ) (w : Walked) → k < n → w ≡ ended (row li kids n lv m (k + 1)) → (j : ℕ) → w ≡ walked.End j → n - j < n - k
+  left-less lv k m w l ew j d = let r = end-room li kids n lv m (k + 1) j w ew d in omega arith
 
   pub left-ends : (W : Shaped) (i k : ℕ) → Left li kids n W i k → n ≤ k → shaped.Roots i ≡ W
   unfolding siblings rooted

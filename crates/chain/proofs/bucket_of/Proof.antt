@@ -1,0 +1,13 @@
+use Rattle.chain.proofs.IdLaws.{ids}
+use native.Mathlib.Omega.{arith}
+use borrow.Author.Needs.{needs}
+use Rattle.chain.proofs.bucket_of.Statement.{statement}
+use Rattle.chain.proofs.bucket_of.Tie as tie
+use Rattle.chain.proofs.bucket_of.Reads as reads
+use Rattle.chain.proofs.bucket_of.Lts as lts
+
+pub bucket-of-spec : {M : Type 1} → statement M
+bucket-of-spec = tie.close (tie.spec
+    (λ c. search (ids, needs))  -- mul-result
+    (λ c. search (ids, needs))  -- returns
+    )

@@ -1,0 +1,14 @@
+use Rattle.chain.proofs.IdLaws.{ids}
+use native.Mathlib.Omega.{arith}
+use borrow.Author.Needs.{needs}
+use Rattle.chain.proofs.is_new.Statement.{statement}
+use Rattle.chain.proofs.is_new.Tie as tie
+use Rattle.chain.proofs.is_new.Reads as reads
+use Rattle.chain.proofs.is_new.Lts as lts
+use Rattle.chain.proofs.find_id.Reads as find-id-reads
+
+pub is-new-spec : {M : Type 1} → statement M
+is-new-spec = tie.close (tie.spec
+    (λ c κs. search (ids, needs))  -- find-id-requires
+    (λ c. search (ids, needs))  -- returns
+    )

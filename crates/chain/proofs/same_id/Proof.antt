@@ -1,0 +1,12 @@
+use Rattle.chain.proofs.IdLaws.{ids}
+use native.Mathlib.Omega.{arith}
+use borrow.Author.Needs.{needs}
+use Rattle.chain.proofs.same_id.Statement.{statement}
+use Rattle.chain.proofs.same_id.Tie as tie
+use Rattle.chain.proofs.same_id.Reads as reads
+use Rattle.chain.proofs.same_id.Lts as lts
+
+pub same-id-spec : {M : Type 1} → statement M
+same-id-spec = tie.close (tie.spec
+    (λ c. search (ids, needs))  -- returns
+    )

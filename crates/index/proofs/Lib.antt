@@ -1,0 +1,4 @@
+pub mod Rows
+pub mod Looking
+pub mod Sounding
+pub mod Opening

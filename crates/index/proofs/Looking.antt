@@ -1,0 +1,249 @@
+-- A chain finds the lowest slot that has the id or the full name, and the rows' slots are in that order: so the look-ups of the code are
+-- the paper's.
+use mathlib.Core.Path.{_≡_, refl, sym, ap, subst, _∙_}
+use mathlib.Core.Bool.{Bool, true, false, not, cond}
+use mathlib.Core.List.{List, [], _∷_}
+use mathlib.Core.Option.{Option, none, some}
+use Prim.Native.Nat.{ℕ, zero, suc, _+_, _-_, _<_, _≤_}
+use native.Mathlib.Nat.{zero-add}
+use native.Mathlib.Numerals.{add-one, sub-one}
+use native.Mathlib.Omega.{arith}
+use borrow.Author.Tests.{eqb-true, eq-eqb, ne-eqb, not-true, not-false}
+use lib.Dec.{eqb}
+use mir.Syntax.{w64}
+use mir.Val.{Fits}
+use lib.ListN.{length, getD}
+use Rattle.paper.specs.declared.Kind.{Kind}
+use Rattle.paper.specs.declared.Role.the-variants.{Member}
+use Rattle.paper.specs.Answer.{find, or-else, place-of, same, among}
+use Rattle.paper.specs.Bytes.{turned, from}
+use Rattle.paper.specs.Forest.{Forest, size, mapped}
+use Rattle.paper.specs.Field.{Field}
+use Rattle.paper.specs.Rows.{Row, top, rows, entered, look-id, look-name, look-parent, look-some, parent-of}
+use Rattle.paper.specs.Sound.{names, ids}
+use Rattle.record.specs.declared.Found.{Found}
+use Rattle.record.specs.declared.Found.the-variants.{At, Nothing}
+use Rattle.record.specs.Says.{found-row}
+use Rattle.laws.proofs.Words.{turned-twice}
+use Rattle.plan.specs.Plan.{Lent, kids-in, planned-field, plan-fields, Plan}
+use Rattle.chain.specs.Chain.{pick, lowest-below}
+use Rattle.chain.specs.Ids.{id-in, is-id}
+use Rattle.chain.proofs.Chains.{below-zero, below-suc, eqb-cases}
+use Rattle.chain.proofs.Repeats.{slot-at, found-below}
+use Rattle.names.specs.Walk.{walk, trees-of}
+use Rattle.names.specs.Full.{fulls, ups, full-at}
+use Rattle.names.specs.Told.{name-in, kind-in, is-full, Spelt}
+use Rattle.names.proofs.Walks.{Numbered, all-there, all-numbered}
+use Rattle.names.proofs.Telling.{fulls-are}
+use Rattle.lookup.specs.declared.Sighting.{Sighting}
+use Rattle.lookup.specs.declared.Sighting.the-variants as sighted
+use Rattle.lookup.specs.Seek.{left-at, seek-in, seen, outcome, sighting}
+use Rattle.lookup.proofs.Fitting.{left-in}
+use Rattle.lookup.proofs.Seeking.{past-is, found-is}
+use Rattle.lookup.proofs.Entered as short
+use Rattle.lookup.proofs.Entered.{short-rel, dotless, found-in}
+use Rattle.index.specs.Index.{Raised, Falling, Index, at-slot, found-slot, short-slot, ById, ByParent}
+use Rattle.index.proofs.Rows.{field-of, field-id, field-name, field-kind, plan-is, ids-are, names-are, Rel, none-found, found-at, parent-at, id-rel, full-rel}
+
+-- ---- places
+
+below-most : (p : ℕ → Bool) (b best k : ℕ) → best ≤ b → k ≤ b → lowest-below p best k ≤ b
+below-most p b best zero l q = rw (below-zero p best) l
+below-most p b best (suc k) l q = rw (below-suc p best k) (below-most p b (pick (p k) (suc k) best) k (go (p k)) (omega arith))
+  where
+    go : (t : Bool) → pick t (suc k) best ≤ b
+    go true = q
+    go false = l
+
+pub place-within : (p : ℕ → Bool) (at m : ℕ) → at ≡ lowest-below p 0 m → at ≤ m
+place-within p at m e = rw e (below-most p m 0 m (omega arith) (omega arith))
+
+pub up-small : (us : List ℕ) (m at u : ℕ) → Falling m us → at ≤ m → m ≤ 1024 → (at ≡ 0 → ⊥) → u ≡ getD us (at - 1) 0 → (u ≡ 0 → ⊥) → u - 1 < 1024
+up-small us m at u f q w h e z = let y = f .falls (at - 1) (omega arith) in omega arith
+
+seen-is : (k : ℕ) → seen k ≡ slot-at k
+unfolding seen
+seen-is zero = refl
+seen-is (suc k) = refl
+
+-- The place of a slot of an array of ids, as an answer.
+module _ (is : List ℕ) (at : ℕ) where
+  pub nothing-at : at ≡ 0 → Nothing ≡ found-slot is (seen at)
+  unfolding found-slot seen
+  nothing-at e = rw e
+
+  pub slot-found : (r : Found) → (at ≡ 0 → ⊥) → r ≡ at-slot (turned (getD is (at - 1) 0)) (at - 1) → r ≡ found-slot is (seen at)
+  unfolding found-slot seen
+  slot-found r h e = go at h e
+    where
+      go : (k : ℕ) → (k ≡ 0 → ⊥) → r ≡ at-slot (turned (getD is (k - 1) 0)) (k - 1) → r ≡ found-slot is (seen k)
+      go zero h e = absurd (h refl)
+      go (suc k) h e = rw (sub-one (suc k)) at e
+
+pub at-is : (id slot : ℕ) → id < 4294967296 → At (record { 0 = id }) (record { 0 = slot }) ≡ at-slot (turned id) slot
+at-is id slot l = rw (turned-twice id l)
+
+pub ruleset placing = (nothing-at, slot-found, at-is)
+
+-- ---- the rows of a plan
+
+place-ext : {A : Type 0} (t u : A → Bool) (k : ℕ) (xs : List A) → ((a : A) → t a ≡ u a) → place-of t k xs ≡ place-of u k xs
+place-ext t u k [] h = refl
+place-ext t u k (x ∷ xs) h = rw (h x, place-ext t u (suc k) xs h)
+
+eqb-sym : (a b : ℕ) → eqb a b ≡ eqb b a
+eqb-sym a b = go (eqb b a) refl
+  where
+    go : (t : Bool) → eqb b a ≡ t → eqb a b ≡ eqb b a
+    go true e = eq-eqb a b (sym (eqb-true b a e)) ∙ sym e
+    go false e = ne-eqb a b (λ z. let q : _≡_ {A = Bool} true false = sym (eq-eqb b a (sym z)) ∙ e in let w : _≡_ {A = ℕ} 0 1 = cc in omega arith) ∙ sym e
+
+module _ (l : Lent) (xs is ks : List ℕ) (m : ℕ) (p : Plan l xs is ks m) where
+  abbrev fld : ℕ → Field
+  fld k = field-of l xs is k
+
+  abbrev places : Forest ℕ
+  places = trees-of (kids-in ks) m
+
+  pub ids-in-order : ids (mapped (field-of l xs is) (trees-of (kids-in ks) m)) ≡ from (id-in is) 0 m
+  ids-in-order = ids-are fld (id-in is) places 0 (field-id l xs is) (all-numbered (kids-in ks) m) ∙ ap (from (id-in is) 0) (all-there (kids-in ks) m)
+
+  pub names-in-order : names [] (mapped (field-of l xs is) (trees-of (kids-in ks) m)) ≡ fulls (name-in l xs) [] (trees-of (kids-in ks) m)
+  names-in-order = names-are fld (name-in l xs) places [] (field-name l xs is)
+
+  rel-slot : {us : List ℕ} {O : Option Row} {o : Option ℕ} → Rel fld 0 us O o → found-row O ≡ found-slot is o
+  unfolding found-row found-slot
+  rel-slot none-found = refl
+  rel-slot (found-at {i = i} j e f g h) = rw (f, g, field-id l xs is i)
+
+  -- ---- by id
+
+  module _ (i at : ℕ) (e : at ≡ lowest-below (is-id is i) 0 m) where
+    id-found : Rel fld 0 (ups 0 places) (look-id (plan-fields l xs is ks m) i) (slot-at at)
+    unfolding look-id
+    id-found =
+        let q : place-of (λ a. eqb a i) 0 (ids (mapped fld places)) ≡ slot-at at =
+        ap (place-of (λ a. eqb a i) 0) ids-in-order ∙ place-ext (λ a. eqb a i) (eqb i) 0 (from (id-in is) 0 m) (λ a. eqb-sym a i) ∙ sym (found-below (eqb i) (id-in is) m) ∙ ap slot-at (sym e) in
+        rw (plan-is l xs is ks m p, ← q) (id-rel fld places (all-numbered (kids-in ks) m) (λ a. eqb a i))
+
+    pub by-id : found-row (look-id (plan-fields l xs is ks m) i) ≡ found-slot is (seen at)
+    by-id = rel-slot id-found ∙ ap (found-slot is) (sym (seen-is at))
+
+    -- ---- by parent
+
+    module _ (us : List ℕ) (rs : Raised ks m us) where
+      pub no-id : at ≡ 0 → Nothing ≡ found-row (look-parent (plan-fields l xs is ks m) i)
+      unfolding look-parent found-row
+      no-id z = go (look-id (plan-fields l xs is ks m) i) (subst (λ w. Rel fld 0 (ups 0 places) (look-id (plan-fields l xs is ks m) i) (slot-at w)) z id-found)
+        where
+          go : (O : Option Row) → Rel fld 0 (ups 0 places) O none → Nothing ≡ found-row (look-some (plan-fields l xs is ks m) (parent-of O))
+          go none none-found = refl
+
+      parent-is : (k : ℕ) → at ≡ suc k → k < m → parent-of (look-id (plan-fields l xs is ks m) i) ≡ parent-at fld (getD us k 0)
+      parent-is k z q = go (look-id (plan-fields l xs is ks m) i) (slot-at at) id-found (ap slot-at z)
+        where
+          go : (O : Option Row) (o : Option ℕ) → Rel fld 0 (ups 0 places) O o → o ≡ some k → parent-of O ≡ parent-at fld (getD us k 0)
+          go none none none-found w = absurd (let y : _≡_ {A = ℕ} 0 1 = cc in omega arith)
+          go (some r) (some i) (found-at j e f g h) w =
+              let y : j ≡ k = let x : i ≡ k = cc in omega arith in
+              h ∙ rw (y, rs .above k q)
+
+      module _ (u : ℕ) (h : at ≡ 0 → ⊥) (q : at ≤ m) (eu : u ≡ getD us (at - 1) 0) where
+        parent-at-place : parent-of (look-id (plan-fields l xs is ks m) i) ≡ parent-at fld u
+        parent-at-place = let z : at ≡ suc (at - 1) = omega arith in parent-is (at - 1) z (omega arith) ∙ ap (parent-at fld) (sym eu)
+
+        pub no-parent : u ≡ 0 → Nothing ≡ found-row (look-parent (plan-fields l xs is ks m) i)
+        unfolding look-parent found-row
+        no-parent z = rw (parent-at-place, z)
+
+        pub the-parent : (r : Found) → (u ≡ 0 → ⊥) → r ≡ found-row (look-id (plan-fields l xs is ks m) (turned (getD is (u - 1) 0))) → r ≡ found-row (look-parent (plan-fields l xs is ks m) i)
+        unfolding look-parent
+        the-parent r z e =
+            let y : u ≡ suc (u - 1) = omega arith in
+            e ∙ sym (ap (λ (o : Option ℕ). found-row (look-some (plan-fields l xs is ks m) o)) (parent-at-place ∙ ap (parent-at fld) y ∙ ap some (field-id l xs is (u - 1))))
+
+  -- ---- by name
+
+  module _ (us : List ℕ) (rs : Raised ks m us) (x : List ℕ) where
+    abbrev full-row : Option Row
+    full-row = find (λ r. same (r .full) x) (rows top (plan-fields l xs is ks m))
+
+    abbrev short-row : Option Row
+    short-row = find (λ r. same (r .short) x) (entered [] top (plan-fields l xs is ks m))
+
+    full-found : (at : ℕ) → at ≡ lowest-below (is-full l xs us x) 0 m → Rel fld 0 (ups 0 places) full-row (slot-at at)
+    full-found at e =
+        let q : place-of (λ y. same y x) 0 (names [] (mapped fld places)) ≡ slot-at at =
+        ap (place-of (λ y. same y x) 0) (names-in-order ∙ sym (fulls-are (name-in l xs) (kids-in ks) m us (rs .above))) ∙ sym (found-below (λ y. same y x) (full-at (name-in l xs) us) m) ∙ ap slot-at (sym e) in
+        rw (plan-is l xs is ks m p, ← q) (full-rel fld places (all-numbered (kids-in ks) m) (λ y. same y x))
+
+    rel-first : {vs : List ℕ} {O : Option Row} (k : ℕ) (O′ : Option Row) → Rel fld 0 vs O (some k) → found-row (or-else O O′) ≡ found-slot is (some k)
+    unfolding found-row found-slot
+    rel-first k O′ (found-at j e f g h) = rw (f, g, field-id l xs is k)
+
+    rel-none : {vs : List ℕ} {O : Option Row} → Rel fld 0 vs O none → O ≡ none
+    rel-none none-found = refl
+
+    parts : _≡_ {A = (ℕ → List ℕ) × (ℕ → Kind)} (λ k. fld k .name, λ k. fld k .kind) (name-in l xs, kind-in l xs)
+    unfolding name-in kind-in planned-field
+    parts = refl
+
+    short-found : short.Rel fld short-row (short-slot l xs ks m x)
+    short-found =
+        rw (plan-is l xs is ks m p)
+        (subst (λ (s : (ℕ → List ℕ) × (ℕ → Kind)). short.Rel fld (find (λ r. same (r .short) x) (entered [] top (mapped fld places))) (seek-in (s .0) (s .1) Member (some x) none places)) parts
+        (short-rel fld x places top [] none (all-numbered (kids-in ks) m) short.none-found))
+
+    module _ (at : ℕ) (e : at ≡ lowest-below (is-full l xs us x) 0 m) where
+      pub by-full : (r : Found) → 0 < at → r ≡ found-slot is (seen at) → r ≡ found-row (look-name (plan-fields l xs is ks m) x)
+      unfolding look-name
+      by-full r h er =
+          let z : at ≡ suc (at - 1) = omega arith in
+          er ∙ ap (found-slot is) (seen-is at ∙ ap slot-at z) ∙ sym (rel-first (at - 1) short-row (subst (λ w. Rel fld 0 (ups 0 places) full-row (slot-at w)) z (full-found at e)))
+
+      no-full : at ≤ 0 → full-row ≡ none
+      no-full h = let z : at ≡ 0 = omega arith in rel-none (subst (λ w. Rel fld 0 (ups 0 places) full-row (slot-at w)) z (full-found at e))
+
+      pub by-short : (r : Found) → at ≤ 0 → r ≡ found-slot is (short-slot l xs ks m x) → r ≡ found-row (look-name (plan-fields l xs is ks m) x)
+      unfolding look-name found-row found-slot
+      by-short r h er = er ∙ rw (no-full h) (sym (go short-row (short-slot l xs ks m x) short-found))
+        where
+          go : (O : Option Row) (o : Option ℕ) → short.Rel fld O o → found-row O ≡ found-slot is o
+          go none none short.none-found = refl
+          go (some r) (some k) (short.found-at f g) = rw (f, g, field-id l xs is k)
+
+      pub by-root : at ≤ 0 → (b : Bool) → b ≡ among 46 x → not b ≡ true → Nothing ≡ found-row (look-name (plan-fields l xs is ks m) x)
+      unfolding found-slot
+      by-root h b eb t =
+          let none-full : find (λ r. same (r .full) x) (rows top (mapped fld places)) ≡ none = rw (plan-is l xs is ks m p) at (no-full h) in
+          by-short Nothing h (ap (found-slot is) (sym (subst (λ (s : (ℕ → List ℕ) × (ℕ → Kind)). seek-in (s .0) (s .1) Member (some x) none places ≡ none) parts (dotless fld x places top (sym eb ∙ not-true b t) refl none-full))))
+
+-- ---- the walk for a short name
+
+module _ (l : Lent) (xs : List ℕ) (kids : ℕ → ℕ) (m : ℕ) (x : List ℕ) (w : Sighting) (ew : w ≡ sighting (name-in l xs) (kind-in l xs) Member (left-at x 0) (seen 0) (walk kids m 16 m 0)) where
+  abbrev short-in : Option ℕ
+  short-in = seek-in (name-in l xs) (kind-in l xs) Member (some x) none (trees-of kids m)
+
+  walked : w ≡ outcome (short-in) (walk kids m 16 m 0 .next)
+  unfolding sighting seen
+  walked = rw (left-in x 0 (omega arith)) at ew
+
+  pub short-none : (is : List ℕ) (j : ℕ) → w ≡ sighted.Past j → Nothing ≡ found-slot is (short-in)
+  unfolding found-slot
+  short-none is j e = rw (past-is (short-in) _ j (sym e ∙ walked) .0)
+
+  module _ (k : ℕ) (e : w ≡ sighted.Found k) where
+    pub short-some : (is : List ℕ) (r : Found) → r ≡ found-slot is (seen (k + 1)) → r ≡ found-slot is (short-in)
+    unfolding seen
+    short-some is r h = h ∙ ap (found-slot is) (ap seen (add-one k) ∙ sym (found-is (short-in) _ k (sym e ∙ walked)))
+
+    short-room : k < m
+    short-room =
+        found-in (name-in l xs) (kind-in l xs) m k (trees-of kids m) 0 Member (some x) none (all-numbered kids m) (omega (arith, all-there kids m))
+        (λ q. absurd (let z : _≡_ {A = ℕ} 0 1 = cc in omega arith)) (found-is (short-in) _ k (sym e ∙ walked))
+
+    pub short-place : m ≤ 1024 → k + 1 ≤ 1024
+    short-place h = let z = short-room in omega arith
+
+    pub short-fits : m ≤ 1024 → Fits w64 (k + 1)
+    short-fits h = let z = short-room in record { fits = omega arith }

@@ -1,0 +1,23 @@
+use Rattle.index.proofs.Looking.{short-none, short-some, short-place, short-fits}
+use native.Mathlib.Omega.{arith}
+use borrow.Author.Needs.{needs}
+use Rattle.index.proofs.look_short.Statement.{statement}
+use Rattle.index.proofs.look_short.Tie as tie
+use Rattle.index.proofs.look_short.Reads as reads
+use Rattle.index.proofs.look_short.Lts as lts
+use Rattle.index.proofs.found_place.Reads as found-place-reads
+use Rattle.lookup.proofs.seek.Reads as seek-reads
+
+pub look-short-spec : {M : Type 1} → statement M
+look-short-spec =
+    tie.close
+    (tie.spec
+    (λ c. omega (arith, (c .before .before .before .before .before .pre) .few))  -- cast-seek
+    (λ c κs. (omega arith, c .before .before .before .before .before .pre))  -- seek-requires
+    (λ c. search needs)  -- enum-known-short
+    (λ c. search needs)  -- enum-told
+    (λ c. short-none _ _ _ _ _ _ (c .before .before .seek .ensures) _ _ (c .enum-told .given .1))  -- returns
+    (λ c. short-fits _ _ _ _ _ _ (c .before .before .before .seek .ensures) _ (c .before .short .given .1) (c .before .before .before .before .before .before .before .before .before .pre .few))  -- add-found-place
+    (λ c κs. short-place _ _ _ _ _ _ (c .before .before .before .seek .ensures) _ (c .before .short .given .1) (c .before .before .before .before .before .before .before .before .before .pre .few))  -- found-place-requires
+    (λ c. short-some _ _ _ _ _ _ (c .before .before .before .before .seek .ensures) _ (c .before .before .short .given .1) _ _ (c .found-place .ensures))  -- returns-2
+    )

@@ -1,0 +1,5 @@
+pub mod Fitting
+pub mod Nexts
+pub mod Seeking
+pub mod Entered
+pub mod Dotted

@@ -1,0 +1,17 @@
+use Rattle.lookup.proofs.Fitting.{small}
+use native.Mathlib.Omega.{arith}
+use borrow.Author.Needs.{needs}
+use Rattle.lookup.proofs.deeper.Statement.{statement}
+use Rattle.lookup.proofs.deeper.Tie as tie
+use Rattle.lookup.proofs.deeper.Reads as reads
+use Rattle.lookup.proofs.deeper.Lts as lts
+
+pub deeper-spec : {M : Type 1} → statement M
+deeper-spec = tie.close (tie.spec
+    (λ c. search (small, needs))  -- returns
+    (λ c. search (small, needs))  -- add-result
+    (λ c. search (small, needs))  -- add-result-2
+    (λ c. search (small, needs))  -- returns-2
+    (λ c. search (small, needs))  -- add-result-3
+    (λ c. search (small, needs))  -- returns-3
+    )

@@ -1,0 +1,14 @@
+use Rattle.lookup.proofs.Fitting.{small}
+use native.Mathlib.Omega.{arith}
+use borrow.Author.Needs.{needs}
+use Rattle.lookup.proofs.ended.Statement.{statement}
+use Rattle.lookup.proofs.ended.Tie as tie
+use Rattle.lookup.proofs.ended.Reads as reads
+use Rattle.lookup.proofs.ended.Lts as lts
+
+pub ended-spec : {M : Type 1} → statement M
+ended-spec = tie.close (tie.spec
+    (λ c. search (small, needs))  -- returns
+    (λ c. search (small, needs))  -- sub-t4
+    (λ c. search (small, needs))  -- returns-2
+    )

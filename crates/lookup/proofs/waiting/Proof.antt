@@ -1,0 +1,15 @@
+use Rattle.lookup.proofs.Fitting.{small}
+use native.Mathlib.Omega.{arith}
+use borrow.Author.Needs.{needs}
+use Rattle.lookup.proofs.waiting.Statement.{statement}
+use Rattle.lookup.proofs.waiting.Tie as tie
+use Rattle.lookup.proofs.waiting.Reads as reads
+use Rattle.lookup.proofs.waiting.Lts as lts
+use Rattle.lookup.proofs.either.Reads as either-reads
+
+pub waiting-spec : {M : Type 1} → statement M
+waiting-spec = tie.close (tie.spec
+    (λ c κs. search (small, needs))  -- either-requires
+    (λ c. search (small, needs))  -- returns
+    (λ c. search (small, needs))  -- returns-2
+    )

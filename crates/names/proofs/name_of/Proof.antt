@@ -1,0 +1,16 @@
+use Rattle.names.proofs.Naming.{sourced}
+use native.Mathlib.Omega.{arith}
+use borrow.Author.Needs.{needs}
+use Rattle.names.proofs.name_of.Statement.{statement}
+use Rattle.names.proofs.name_of.Tie as tie
+use Rattle.names.proofs.name_of.Reads as reads
+use Rattle.names.proofs.name_of.Lts as lts
+use Rattle.plan.proofs.planned_name.Reads as planned-name-reads
+
+pub name-of-spec : {M : Type 1} → statement M
+name-of-spec = tie.close (tie.spec
+    (λ c. search (sourced, needs))  -- mul-planned-name
+    (λ c. search (sourced, needs))  -- element-copy-out-planned-name
+    (λ c κs. search (sourced, needs))  -- planned-name-requires
+    (λ c. search (sourced, needs))  -- returns
+    )

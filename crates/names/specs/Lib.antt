@@ -1,0 +1,4 @@
+pub mod Walk
+pub mod Hash
+pub mod Full
+pub mod Told
