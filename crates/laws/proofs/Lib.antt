@@ -13,3 +13,4 @@ pub mod Whole
 pub mod Octets
 pub mod Natural
 pub mod Same
+pub mod Finding

@@ -1,0 +1,4 @@
+pub mod Directing
+pub mod Copying
+pub mod Planning
+pub mod Projecting
