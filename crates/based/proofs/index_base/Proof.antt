@@ -1,3 +1,4 @@
+-- The base is a plan of itself, so the index answers for the tree. Assumes nothing.
 use Prim.Native.Nat.{ℕ}
 use borrow.Author.Needs.{needs}
 use lib.ListN.{length-replicate}

@@ -1,3 +1,4 @@
+-- The sum modulo 2^32 is the definition of `turned`. Assumes nothing.
 use borrow.Author.Needs.{needs}
 use Rattle.paper.specs.Bytes.{turned}
 use Rattle.id_reassigner.proofs.turn.Statement.{statement}

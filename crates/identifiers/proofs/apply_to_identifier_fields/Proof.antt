@@ -1,3 +1,4 @@
+-- The four bytes of each new id go behind those of the earlier ones. Assumes nothing.
 use native.Mathlib.Omega.{arith}
 use mathlib.Core.Path.{refl}
 use Prim.Native.Nat.{_-_, _≤_}

@@ -1,3 +1,4 @@
+-- What is kept is laid one record behind the other; a measure of five to a level falls. Assumes nothing.
 use mathlib.Core.Path.{refl}
 use native.Mathlib.Omega.{arith}
 use borrow.Author.Needs.{needs}

@@ -1,3 +1,4 @@
+-- The first walk decides 20, the second what is written. Assumes nothing.
 use native.Mathlib.Omega.{arith}
 use Rattle.pruned.proofs.Writing.{writing}
 use borrow.Author.Needs.{needs}
