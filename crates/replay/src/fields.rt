@@ -138,6 +138,14 @@ pub fn number(text: &[u8]) -> Parsed {
     Parsed::Number(sum as u32)
 }
 
+// The size of a buffer that a field asks for; where it spells none, one that no buffer has.
+pub fn size(text: &[u8]) -> usize {
+    match number(text) {
+        Parsed::Number(n) => n as usize,
+        Parsed::Malformed => usize::MAX,
+    }
+}
+
 // What a hex digit stands for; 0 for any other byte.
 fn nibble(b: u8) -> u8
     ensures { λ r. ⌜ r < 16 ⌝ }

@@ -1,8 +1,11 @@
 // Replays recorded.txt over the library: each line is a case, its inputs and the answer that was recorded. Every call is made anew, and
-// its whole answer compared. The inputs are lent as `&`, so no call can change them, and no test of them is needed.
+// every byte of its answer compared. The inputs are lent as `&`, so no call can change them, and no test of them is needed.
 mod answers;
 mod fields;
 mod look_ups;
+mod outputs;
+mod pruning;
+mod renumbering;
 mod tally;
 
 use fields::field;
@@ -31,23 +34,40 @@ struct Turn {
 fn main() {
     let mut text = [0u8; 131072];
     let mut inputs = [0u8; 65536];
+    let mut records = [0u8; 32768];
+    let mut names = [0u8; 49152];
+    let mut identifiers = [0u8; 1024];
     let fd = os::open_read(b"recorded.txt");
     if fd < 0 {
         os::fail(b"recorded.txt");
         return;
     }
-    let tally = replay_file(fd, &mut text, &mut inputs);
+    let tally = replay_file(
+        fd,
+        &mut text,
+        &mut inputs,
+        &mut records,
+        &mut names,
+        &mut identifiers,
+    );
     libc::close(fd);
     tally.report();
 }
 
 // Replays a file. A proved loop has to end, and nothing says that a file does, so the turns are counted down from a number that no run uses up.
-fn replay_file(fd: i32, text: &mut [u8], inputs: &mut [u8]) -> Tally {
+fn replay_file(
+    fd: i32,
+    text: &mut [u8],
+    inputs: &mut [u8],
+    records: &mut [u8],
+    names: &mut [u8],
+    identifiers: &mut [u8],
+) -> Tally {
     let mut tally = Tally::none();
     let mut held = 0;
     let mut turns = u64::MAX;
     while 0 < turns {
-        let turn = replay_turn(fd, text, held, tally, inputs);
+        let turn = replay_turn(fd, text, held, tally, inputs, records, names, identifiers);
         held = turn.held;
         tally = turn.tally;
         if turn.is_last {
@@ -59,12 +79,21 @@ fn replay_file(fd: i32, text: &mut [u8], inputs: &mut [u8]) -> Tally {
 }
 
 // Reads on and replays the lines that are whole. What is left of a line is held at the start of the buffer; where no line was whole the turn is the last.
-fn replay_turn(fd: i32, text: &mut [u8], held: usize, before: Tally, inputs: &mut [u8]) -> Turn
+fn replay_turn(
+    fd: i32,
+    text: &mut [u8],
+    held: usize,
+    before: Tally,
+    inputs: &mut [u8],
+    records: &mut [u8],
+    names: &mut [u8],
+    identifiers: &mut [u8],
+) -> Turn
     requires { ⌜ held ≤ length (now text) ⌝ }
     ensures { λ r. ⌜ r .held ≤ length (now (text .exit)) ⌝ }
 {
     let end = read_on(fd, text, held);
-    let done = replay_lines(text, end, before, inputs);
+    let done = replay_lines(text, end, before, inputs, records, names, identifiers);
     let at = done.at;
     let tally = done.tally;
     move_down(text, at, end);
@@ -104,7 +133,15 @@ fn move_down(text: &mut [u8], from: usize, end: usize)
 }
 
 // Replays the whole lines of a text that ends at `end`; answers where the rest begins.
-fn replay_lines(text: &[u8], end: usize, before: Tally, inputs: &mut [u8]) -> Replayed
+fn replay_lines(
+    text: &[u8],
+    end: usize,
+    before: Tally,
+    inputs: &mut [u8],
+    records: &mut [u8],
+    names: &mut [u8],
+    identifiers: &mut [u8],
+) -> Replayed
     requires { ⌜ end ≤ length (now text) ⌝ }
     ensures { λ r. ⌜ r .at ≤ end ⌝ }
 {
@@ -116,16 +153,27 @@ fn replay_lines(text: &[u8], end: usize, before: Tally, inputs: &mut [u8]) -> Re
             return Replayed { at, tally };
         }
         let line = part(text, at, feed);
-        tally = replay_line(line, tally, inputs);
+        tally = replay_line(line, tally, inputs, records, names, identifiers);
         at = feed + 1;
     }
 }
 
 // Replays a line.
-fn replay_line(text: &[u8], before: Tally, inputs: &mut [u8]) -> Tally {
+fn replay_line(
+    text: &[u8],
+    before: Tally,
+    inputs: &mut [u8],
+    records: &mut [u8],
+    names: &mut [u8],
+    identifiers: &mut [u8],
+) -> Tally {
     let line = line_of(text, field(text, 0));
     let tally = before.begun(line);
     match line {
+        Line::Prune => tally.judged(pruning::replay(text, inputs, records, names)),
+        Line::Renumber => {
+            tally.judged(renumbering::replay(text, inputs, records, names, identifiers))
+        }
         Line::Name => tally.judged(look_ups::replay_name(text, inputs)),
         Line::Id => tally.judged(look_ups::replay_id(text, inputs)),
         Line::Parent => tally.judged(look_ups::replay_parent(text, inputs)),

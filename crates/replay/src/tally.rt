@@ -4,6 +4,8 @@ use record::equal;
 
 // What a line is: a case of an operation, or one that is passed over.
 pub enum Line {
+    Prune,
+    Renumber,
     Name,
     Id,
     Parent,
@@ -21,6 +23,8 @@ pub enum Verdict {
 // The lines so far, the cases of each operation, and how many agree and differ.
 pub struct Tally {
     pub lines: u64,
+    pub prune: u64,
+    pub renumber: u64,
     pub name: u64,
     pub id: u64,
     pub parent: u64,
@@ -55,29 +59,21 @@ fn tell_count(word: &[u8], n: u64) {
     io::write_all(STDOUT_FILENO, b"\n");
 }
 
-// Whether a line is passed over: a comment, or a case of an operation that is not replayed here.
-fn is_passed(text: &[u8], word: &[u8]) -> bool {
+// What a line is, by its first field. A comment has # first; the lines of `update` and `list` are passed over like comments.
+pub fn line_of(text: &[u8], word: &[u8]) -> Line {
     if 0 < text.len() {
         if text[0] == b'#' {
-            return true;
+            return Line::Passed;
         }
     }
     if equal(word, b"update") {
-        return true;
+        return Line::Passed;
     }
     if equal(word, b"prune") {
-        return true;
+        return Line::Prune;
     }
     if equal(word, b"renumber") {
-        return true;
-    }
-    equal(word, b"list")
-}
-
-// What a line is, by its first field.
-pub fn line_of(text: &[u8], word: &[u8]) -> Line {
-    if is_passed(text, word) {
-        return Line::Passed;
+        return Line::Renumber;
     }
     if equal(word, b"name") {
         return Line::Name;
@@ -88,6 +84,9 @@ pub fn line_of(text: &[u8], word: &[u8]) -> Line {
     if equal(word, b"parent") {
         return Line::Parent;
     }
+    if equal(word, b"list") {
+        return Line::Passed;
+    }
     Line::Unknown
 }
 
@@ -96,6 +95,8 @@ impl Tally {
     pub fn none() -> Self {
         Tally {
             lines: 0,
+            prune: 0,
+            renumber: 0,
             name: 0,
             id: 0,
             parent: 0,
@@ -108,6 +109,12 @@ impl Tally {
     pub fn begun(mut self, line: Line) -> Self {
         self.lines = more(self.lines);
         match line {
+            Line::Prune => {
+                self.prune = more(self.prune);
+            }
+            Line::Renumber => {
+                self.renumber = more(self.renumber);
+            }
             Line::Name => {
                 self.name = more(self.name);
             }
@@ -143,6 +150,8 @@ impl Tally {
 
     // Writes the counts.
     pub fn report(self) {
+        tell_count(b"prune ", self.prune);
+        tell_count(b"renumber ", self.renumber);
         tell_count(b"name ", self.name);
         tell_count(b"id ", self.id);
         tell_count(b"parent ", self.parent);

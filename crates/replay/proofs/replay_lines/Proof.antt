@@ -7,10 +7,10 @@ use Rattle.replay.proofs.replay_lines.Statement.{statement}
 use Rattle.replay.proofs.replay_lines.Tie as tie
 
 abbrev Inv-loop : tie.InvT-loop
-Inv-loop text end inputs₀ at₀ tally₀ inputs at tally = (at ≤ end) × (end ≤ length text) × (length inputs ≡ length inputs₀)
+Inv-loop text end inputs₀ records₀ names₀ identifiers₀ at₀ tally₀ inputs records names identifiers at tally = (at ≤ end) × (end ≤ length text) × (length inputs ≡ length inputs₀) × (length records ≡ length records₀) × (length names ≡ length names₀) × (length identifiers ≡ length identifiers₀)
 
 abbrev μ-loop : tie.MeasureT-loop
-μ-loop text end inputs₀ at₀ tally₀ inputs at tally = length text - at
+μ-loop text end inputs₀ records₀ names₀ identifiers₀ at₀ tally₀ inputs records names identifiers at tally = length text - at
 
 pub replay-lines-spec : {M : Type 1} → statement M
 replay-lines-spec =
@@ -21,6 +21,9 @@ replay-lines-spec =
     (λ c. search needs)  -- loop-holds
     (λ c κs. search needs)  -- place-of-requires
     (λ c. search needs)  -- same-length
+    (λ c. search needs)  -- same-length-2
+    (λ c. search needs)  -- same-length-3
+    (λ c. search needs)  -- same-length-4
     (λ c. search needs)  -- returns
     (λ c κs. search needs)  -- part-requires
     (λ c κs. search needs)  -- replay-line-requires
