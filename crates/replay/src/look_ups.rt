@@ -1,0 +1,58 @@
+// Replays the look-ups: name, id and parent.
+use crate::answers::is_sought;
+use crate::fields::Parsed;
+use crate::fields::answer;
+use crate::fields::decode;
+use crate::fields::decode_base;
+use crate::fields::field;
+use crate::fields::number;
+use crate::fields::part;
+use crate::fields::readable;
+use crate::tally::Verdict;
+use crate::tally::verdict_on;
+use index::find_id;
+use index::find_name;
+use index::find_parent;
+use record::FieldId;
+
+// name JUDGE RECORDS POOL NAME = answer
+pub fn replay_name(line: &[u8], inputs: &mut [u8]) -> Verdict {
+    if !readable(line, b"wwbbb=") {
+        return Verdict::Unreadable;
+    }
+    let base = decode_base(line, inputs);
+    let sought = find_name(
+        part(inputs, 0, base.records),
+        part(inputs, base.records, base.pool),
+        part(inputs, base.pool, base.third),
+    );
+    verdict_on(is_sought(answer(line), sought))
+}
+
+// id JUDGE RECORDS POOL ID = answer
+pub fn replay_id(line: &[u8], inputs: &mut [u8]) -> Verdict {
+    if !readable(line, b"wwbbw=") {
+        return Verdict::Unreadable;
+    }
+    let Parsed::Number(id) = number(field(line, 4)) else {
+        return Verdict::Unreadable;
+    };
+    let a = decode(field(line, 2), inputs, 0);
+    let b = decode(field(line, 3), inputs, a);
+    let sought = find_id(part(inputs, 0, a), part(inputs, a, b), FieldId(id));
+    verdict_on(is_sought(answer(line), sought))
+}
+
+// parent JUDGE RECORDS POOL ID = answer
+pub fn replay_parent(line: &[u8], inputs: &mut [u8]) -> Verdict {
+    if !readable(line, b"wwbbw=") {
+        return Verdict::Unreadable;
+    }
+    let Parsed::Number(id) = number(field(line, 4)) else {
+        return Verdict::Unreadable;
+    };
+    let a = decode(field(line, 2), inputs, 0);
+    let b = decode(field(line, 3), inputs, a);
+    let sought = find_parent(part(inputs, 0, a), part(inputs, a, b), FieldId(id));
+    verdict_on(is_sought(answer(line), sought))
+}
