@@ -54,7 +54,7 @@ pub enum Decided {
 }
 
 // The dropped ids as a set.
-fn gather(gone: &[u32; 64], total: usize) -> Dropped
+pub fn gather(gone: &[u32; 64], total: usize) -> Dropped
     requires { ⌜ total ≤ 64 ⌝ }
     ensures { λ r. ⌜ Gathered (now (gone .entry)) total r ⌝ }
 {
@@ -366,7 +366,7 @@ fn place_columns<'a>(
 }
 
 // Deletions one at a time, then additions one at a time: refusals 11 to 18, or all that the rebuild needs.
-fn decide_changes<'a>(
+pub fn decide_changes<'a>(
     pool: &'a [u8],
     base: &[u8],
     request: &'a [u8],

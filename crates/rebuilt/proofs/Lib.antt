@@ -1,0 +1,2 @@
+pub mod Sounding
+pub mod Carrying
