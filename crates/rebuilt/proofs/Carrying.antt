@@ -1,15 +1,15 @@
 -- The rebuilt tree is a plan where it fits: its sources are slots of the two trees that were read. Where it does not fit it passes a limit.
 use mathlib.Core.Path.{_≡_, refl, sym, ap, _∙_}
-use mathlib.Core.Bool.{Bool, true, false, not, _&&_, cond, true≢false}
-use mathlib.Core.List.{List, [], _∷_}
+use mathlib.Core.Bool.{Bool, true, false, not, _&&_}
+use mathlib.Core.List.{List}
 use mathlib.Core.Option.{none}
-use Prim.Native.Nat.{ℕ, zero, suc, _+_, _*_, _/_, _≤_, _<_}
+use Prim.Native.Nat.{ℕ, zero, suc, _+_, _≤_, _<_}
 use native.Mathlib.Nat.{zero-add}
 use native.Mathlib.Omega.{arith}
 use borrow.Author.Tests.{not-true, not-false, le-leb}
 use lib.Dec.{leb}
 use lib.ListN.{length, getD}
-use Rattle.paper.specs.Answer.{Answer, ok, refused, _>>=_}
+use Rattle.paper.specs.Answer.{ok, _>>=_}
 use Rattle.paper.specs.Forest.{Forest, empty, node, size, siblings, levels, mapped}
 use Rattle.paper.specs.Field.{Field}
 use Rattle.paper.specs.Bytes.{kids-at, slots, from}
@@ -25,13 +25,12 @@ use Rattle.laws.proofs.Basics.{unbind, ok-is}
 use Rattle.laws.proofs.Fitting.{sized-slots}
 use Rattle.laws.proofs.Preorder.{size-mapped, siblings-mapped, levels-mapped}
 use Rattle.laws.proofs.Pointwise.{Each, each-more, each-mapped, each-slot, All, each-rebuilt}
-use Rattle.laws.proofs.RoundTrip.{both}
 use Rattle.laws.proofs.Taken as taken
-use Rattle.tree.specs.Read.{part, reads, got}
+use Rattle.tree.specs.Read.{part, got}
 use Rattle.tree.specs.Says.{rooted}
 use Rattle.tree.specs.declared.Shaped.the-variants.{Roots}
 use Rattle.tree.proofs.Steps.{was-read}
-use Rattle.plan.specs.Plan.{Lent, lent, Source, planned-field, plan-fields, Sits, Plan, Laid}
+use Rattle.plan.specs.Plan.{Lent, lent, Source, planned-field, plan-fields, Sits, Plan}
 use Rattle.plan.specs.Draft.{Draft, Drawn}
 use Rattle.plan.specs.Sources.{Inside, Summed}
 use Rattle.plan.proofs.Laying.{laid-fields, laid-draft}
@@ -43,7 +42,7 @@ use Rattle.rebuild.specs.declared.Place.{Place}
 use Rattle.rebuild.specs.declared.Step.{Step}
 use Rattle.rebuild.specs.declared.Step.the-variants.{Went, Full}
 use Rattle.rebuild.specs.Sources.{base-source, added-source, source-id, source-kind, added-tree, addition-at, additions, rebuilt-row, rebuilt-base}
-use Rattle.rebuild.specs.Planned.{Based, Resolved, fits, verdict, Rebuilds}
+use Rattle.rebuild.specs.Planned.{Based, fits, verdict, Rebuilds}
 use Rattle.rebuild.proofs.Whole.{of-fits}
 use Rattle.rebuilt.specs.Ending.{sounded, limited-sounded, Answers, Rebuildable, rebuilt-tree}
 use Rattle.rebuilt.proofs.Sounding.{refuses}

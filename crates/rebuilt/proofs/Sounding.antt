@@ -1,20 +1,16 @@
 -- The index answers 7 to 9 of the planned tree, and the writer leaves its bytes.
-use mathlib.Core.Path.{_≡_, refl, sym, ap, _∙_}
-use mathlib.Core.List.{List, []}
-use Prim.Native.Nat.{ℕ, _≤_, _<_}
+use mathlib.Core.Path.{_≡_}
+use mathlib.Core.List.{List}
+use Prim.Native.Nat.{ℕ, _<_}
 use native.Mathlib.Omega.{arith}
-use lib.ListN.{length}
 use Rattle.paper.specs.Answer.{Answer, ok, refused, _>>=_}
-use Rattle.paper.specs.Forest.{size}
 use Rattle.paper.specs.Sound.{sound}
 use Rattle.paper.specs.Lists.{id-list}
-use Rattle.paper.specs.Encode.{pool-bytes}
 use Rattle.paper.specs.Entries.{Result}
 use Rattle.paper.specs.Outcome.{leaves}
 use Rattle.record.specs.declared.Refusal.{Refusal}
 use Rattle.record.specs.declared.Check.{Check}
 use Rattle.record.specs.declared.Check.the-variants as check
-use Rattle.record.specs.declared.Changed.{Changed}
 use Rattle.record.specs.declared.Changed.the-variants as changed
 use Rattle.record.specs.Says.{refusal-of, checked, changes}
 use Rattle.record.proofs.Testing.{checked-ok}

@@ -9,7 +9,6 @@ use record::Changed;
 use record::Check;
 use record::Refusal;
 use record::Sizes;
-ghost use mathlib.Core.Path.{_≡_};
 ghost use Prim.Native.Nat.{_≤_};
 ghost use lib.ListN.{length};
 ghost use Rattle.paper.specs.Lists.{id-list};

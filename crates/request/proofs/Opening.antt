@@ -54,7 +54,7 @@ unfolding checked
 check-fine (ok tt) w e q = refl
 check-fine (refused n l p) w e q = cc
 
-open-refused : (x : Answer Trees) (w : Opened) (f : Refusal) → w ≡ opened x → w ≡ it.Refused f → x ≡ refused (f .number) (f .list) (f .place)
+pub open-refused : (x : Answer Trees) (w : Opened) (f : Refusal) → w ≡ opened x → w ≡ it.Refused f → x ≡ refused (f .number) (f .list) (f .place)
 unfolding opened
 open-refused (ok t) w f e q = cc
 open-refused (refused n l p) w f e q = let z : f ≡ refusal-of n l p = cc in rw z

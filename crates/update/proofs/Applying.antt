@@ -1,9 +1,9 @@
 -- The entry is 1 to 6, the paper's plan, and its rebuild: each step's answer is the paper's.
 use mathlib.Core.Path.{_≡_, refl, sym, ap, _∙_}
-use mathlib.Core.Bool.{Bool, true, false, not}
+use mathlib.Core.Bool.{Bool, true, false}
 use mathlib.Core.List.{List, []}
 use mathlib.Core.Option.{none}
-use Prim.Native.Nat.{ℕ, _+_, _*_, _/_, _%_, _≤_, _<_}
+use Prim.Native.Nat.{ℕ, _+_, _%_, _≤_, _<_}
 use native.Mathlib.Omega.{arith}
 use borrow.Author.Tests.{not-false, leb-true}
 use lib.Dec.{leb}
@@ -17,20 +17,17 @@ use Rattle.paper.specs.Decode.{decode}
 use Rattle.paper.specs.Lists.{ok-deletion, ok-addition, entries, entries-ok, id-list}
 use Rattle.paper.specs.Limits.{room, sized-update}
 use Rattle.paper.specs.Sound.{sound, within}
-use Rattle.paper.specs.Update.{Schema, Plan, planned}
+use Rattle.paper.specs.Update.{Schema, planned}
 use Rattle.paper.specs.Rebuild.{arrivals, rebuilt, carried-out, update}
 use Rattle.paper.specs.Entries.{Result, update-entry}
 use Rattle.record.specs.declared.Refusal.{Refusal}
 use Rattle.record.specs.declared.Changed.{Changed}
 use Rattle.record.specs.declared.Changed.the-variants as changed
-use Rattle.record.specs.Says.{refusal-of}
 use Rattle.laws.proofs.Basics.{unbind, refused≢ok}
 use Rattle.laws.proofs.Fitting.{sized-slots}
-use Rattle.laws.proofs.Natural.{mapped-all}
 use Rattle.laws.proofs.RoundTrip.{both}
-use Rattle.laws.proofs.Words.{turned-below}
 use Rattle.limits.proofs.Within.{update-sized, identifiers-most, deletions-most}
-use Rattle.plan.specs.Plan.{Lent, lent, planned-field}
+use Rattle.plan.specs.Plan.{lent}
 use Rattle.dropped.specs.declared.Dropped.{Dropped}
 use Rattle.dropped.specs.Set.{dropped-ids}
 use Rattle.rebuild.specs.Sources.{additions}
@@ -38,6 +35,7 @@ use Rattle.rebuild.proofs.Paper.{rebuilt-fields}
 use Rattle.request.specs.declared.Opened.{Opened}
 use Rattle.request.specs.declared.Opened.the-variants as it
 use Rattle.request.specs.Opened.{Trees, both-trees, readable, opening, opened}
+use Rattle.request.proofs.Opening.{open-refused}
 use Rattle.rebuilt.specs.Ending.{sounded, limited-sounded, Answers, Rebuildable, rebuilt-tree}
 use Rattle.rebuilt.proofs.Sounding.{refuses}
 use Rattle.update_schema.specs.declared.Decided.{Decided}
@@ -45,7 +43,7 @@ use Rattle.update_schema.specs.declared.Decided.the-variants as decided
 use Rattle.update_schema.specs.Deletions.{gone-ids, Gathered}
 use Rattle.update_schema.specs.Additions.{parents-in}
 use Rattle.update.specs.Updating.{schema-of, request-of, Opens, Decidable, Settled, Settles}
-use Rattle.update.proofs.Settling.{Decoded, decode-parts, Contents, contents}
+use Rattle.update.proofs.Settling.{decode-parts, Contents, contents}
 
 pub shift-is : (x : ℕ) → ((x + 2147483648) % 4294967296 ≡ turned x) × ((x + 2147483648) % 4294967296 < 4294967296)
 unfolding turned
@@ -64,11 +62,6 @@ open-ok : (P : Type 0) (x : Answer Trees) (c k : ℕ) → it.Roots c k ≡ opene
 unfolding opened
 open-ok P (ok v) c k e f = f (v .base) (v .added) refl (let z : c ≡ siblings (v .base) = cc in z) (let z : k ≡ siblings (v .added) = cc in z)
 open-ok P (refused n l q) c k e f = let z : _≡_ {A = ℕ} 0 1 = cc in absurd (omega arith)
-
-open-refused : (x : Answer Trees) (w : Opened) (f : Refusal) → w ≡ opened x → w ≡ it.Refused f → x ≡ refused (f .number) (f .list) (f .place)
-unfolding opened
-open-refused (ok t) w f e q = cc
-open-refused (refused n l p) w f e q = let z : f ≡ refusal-of n l p = cc in rw z
 
 -- An end behind two tests is the end of their chain.
 end-joined : {A B : Type 0} (x y : Answer (Unit {0})) (u : A) (f : A → Answer B) → ((x >>= λ _. y >>= λ _. ok u) >>= f) ≡ (x >>= λ _. y >>= λ _. f u)

@@ -1,15 +1,14 @@
 -- What was read is what the decisions ask, and they are the paper's `planned` behind the base's 7 to 9 and 10.
-use mathlib.Core.Path.{_≡_, refl, sym, ap, subst, _∙_}
-use mathlib.Core.Bool.{Bool, true, false, not}
+use mathlib.Core.Path.{_≡_, refl, sym, ap, _∙_}
+use mathlib.Core.Bool.{Bool, true, false}
 use mathlib.Core.List.{List}
 use mathlib.Core.Option.{none}
-use Prim.Native.Nat.{ℕ, _+_, _*_, _/_, _≤_, _<_}
+use Prim.Native.Nat.{ℕ, _*_, _≤_, _<_}
 use native.Mathlib.Omega.{arith}
 use borrow.Author.Tests.{eq-eqb, ne-eqb}
 use lib.Dec.{eqb}
 use lib.ListN.{length}
 use Rattle.paper.specs.Answer.{Answer, ok, refused, _>>=_, lowest}
-use Rattle.paper.specs.Refusals.{matched}
 use Rattle.paper.specs.Forest.{Forest, siblings}
 use Rattle.paper.specs.Field.{Field}
 use Rattle.paper.specs.Bytes.{kids-at, ok-bytes, in-pool, slots, from}
@@ -17,7 +16,7 @@ use Rattle.paper.specs.Layout.{Part, roots}
 use Rattle.paper.specs.Decode.{fields, decode}
 use Rattle.paper.specs.Lists.{ok-deletion, ok-addition, path-in, entries, entries-ok, path-of, parent-path, deletion-paths, addition-paths, id-list}
 use Rattle.paper.specs.Sound.{sound}
-use Rattle.paper.specs.Update.{Plan, deleted, Placed, placed-all, planned}
+use Rattle.paper.specs.Update.{Plan, deleted, Placed, planned}
 use Rattle.record.specs.declared.Refusal.{Refusal}
 use Rattle.record.specs.declared.Check.{Check}
 use Rattle.record.specs.declared.Check.the-variants as check
@@ -37,14 +36,13 @@ use Rattle.plan.specs.Sources.{Taken}
 use Rattle.plan.proofs.Taking as taking
 use Rattle.plan.proofs.Taking.{base-plan}
 use Rattle.index.specs.Index.{Indexing, Index}
-use Rattle.rebuild.specs.Planned.{Resolved}
 use Rattle.request.specs.Opened.{Trees, both-trees, readable}
 use Rattle.rebuilt.proofs.Sounding.{check-refused}
 use Rattle.update_schema.specs.declared.Decided.{Decided}
 use Rattle.update_schema.specs.declared.Decided.the-variants as decided
 use Rattle.update_schema.specs.Base.{Based, Entries}
 use Rattle.update_schema.specs.Deletions.{gone-ids}
-use Rattle.update_schema.specs.Additions.{Columns, parents-in, all-placed, Placings, PlacesBy}
+use Rattle.update_schema.specs.Additions.{Columns, parents-in, all-placed, Placings}
 use Rattle.update_schema.specs.Changes.{changes, Decides}
 use Rattle.update.specs.Updating.{schema-of, request-of, Decidable, Settled, Settles}
 

@@ -18,6 +18,21 @@ ghost use Rattle.paper.specs.Entries.{update-entry};
 ghost use Rattle.rebuilt.specs.Ending.{Answers};
 ghost use Rattle.update.specs.Updating.{Opens, Decidable, Settles};
 
+// The last id plus 2^31, from its bits.
+fn turn(last_id: u32) -> u64
+    ensures { λ r. ⌜ (r ≡ turned «last_id») × (r < 4294967296) ⌝ }
+{
+    (last_id as u64 + 2147483648) % 4294967296
+}
+
+// The bits of the last id, from it plus 2^31.
+fn turn_back(last: u64) -> u32
+    requires { ⌜ last < 4294967296 ⌝ }
+    ensures { λ r. ⌜ r ≡ turned last ⌝ }
+{
+    ((last + 2147483648) % 4294967296) as u32
+}
+
 // Decides all changes of a request that passed 2 to 6: refusals 7 to 9 of the base, 10, then 11 to 18, or what the rebuild needs. `last` is the last id plus 2^31.
 fn settle_changes<'a>(
     records: &[u8],
@@ -169,21 +184,6 @@ fn apply_changes<'a>(
         }
         Decided::Refused(r) => Changed::Refused(r),
     }
-}
-
-// The last id plus 2^31, from its bits.
-fn turn(last_id: u32) -> u64
-    ensures { λ r. ⌜ (r ≡ turned «last_id») × (r < 4294967296) ⌝ }
-{
-    (last_id as u64 + 2147483648) % 4294967296
-}
-
-// The bits of the last id, from it plus 2^31.
-fn turn_back(last: u64) -> u32
-    requires { ⌜ last < 4294967296 ⌝ }
-    ensures { λ r. ⌜ r ≡ turned last ⌝ }
-{
-    ((last + 2147483648) % 4294967296) as u32
 }
 
 // Updates a schema: drops columns, adds columns, rebuilds it. On a refusal no byte changes.
