@@ -30,6 +30,7 @@ use Rattle.record.specs.declared.Changed.{Changed}
 use Rattle.record.specs.declared.Changed.the-variants as changing
 use Rattle.record.specs.Says.{found-row, looked, changes}
 use Rattle.prune.specs.Pruning.{Prunes}
+use Rattle.rebuilt.specs.Ending.{Answers}
 use Rattle.renumber.specs.Renumbering.{Renumbers}
 use Rattle.braidhurdle.specs.declared.ChangedNumbers.{ChangedNumbers}
 use Rattle.braidhurdle.specs.declared.FoundNumbers.{FoundNumbers}
@@ -118,4 +119,7 @@ pub renumber-left : (s p i : List ℕ) (start : ℕ) (out text is : List ℕ) (c
 renumber-left s p i start out text is c r out′ text′ is′ h e =
     record { left = record { answer = tells-changed (renumber-entry s p i start (length out) (length text) (length is)) c r (h .answer) e; records = h .records; names = h .names }; identifiers = h .identifiers }
 
-pub ruleset telling = (tells-name, tells-id, tells-parent, lay-at, lay-nothing, lay-refused, lay-looked, lay-done, lay-turned-down, prune-left, renumber-left)
+pub update-left : (a : Answer Result) (out text : List ℕ) (c : Changed) (r : ChangedNumbers) (out′ text′ : List ℕ) → Answers a out text c out′ text′ → r ≡ changed-numbers c → Left a r out text out′ text′
+update-left a out text c r out′ text′ h e = record { answer = tells-changed a c r (h .answer) e; records = h .records; names = h .names }
+
+pub ruleset telling = (tells-name, tells-id, tells-parent, lay-at, lay-nothing, lay-refused, lay-looked, lay-done, lay-turned-down, prune-left, renumber-left, update-left)

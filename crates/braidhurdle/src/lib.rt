@@ -8,9 +8,10 @@ use record::FieldId;
 use record::Found;
 use record::Sought;
 use renumber::renumber;
+use update::update;
 ghost use mathlib.Core.Path.{_≡_};
 ghost use lib.ListN.{length};
-ghost use Rattle.paper.specs.Entries.{find-name, find-id, find-parent, prune-entry, renumber-entry};
+ghost use Rattle.paper.specs.Entries.{find-name, find-id, find-parent, prune-entry, renumber-entry, update-entry};
 ghost use Rattle.paper.specs.Outcome.{found};
 ghost use Rattle.braidhurdle.specs.Numbers.{found-in, found-numbers, sought-numbers, changed-numbers, full-mode, Left, LeftThree};
 
@@ -96,6 +97,37 @@ fn lay_sought(sought: Sought) -> FoundNumbers
             slot: 0,
         },
     }
+}
+
+// Drops and adds columns; ids are handed out from `last_id` + 1.
+#[no_mangle]
+pub extern "C" fn braidhurdle_update<'a>(
+    records: &[u8],
+    pool: &'a [u8],
+    identifiers: &[u8],
+    last_id: u32,
+    deletions: &[u8],
+    additions: &[u8],
+    added_records: &[u8],
+    request_pool: &'a [u8],
+    out_records: &mut [u8],
+    out_names: &mut [u8],
+) -> ChangedNumbers
+    ensures { λ r. ⌜ Left (update-entry (now (records .entry)) (now (pool .entry)) (now (identifiers .entry)) «last_id» (now (deletions .entry)) (now (additions .entry)) (now («added_records» .entry)) (now («request_pool» .entry)) (length (now («out_records» .entry))) (length (now («out_names» .entry)))) r (now («out_records» .entry)) (now («out_names» .entry)) (now («out_records» .exit)) (now («out_names» .exit)) ⌝ }
+{
+    let changed = update(
+        records,
+        pool,
+        identifiers,
+        last_id,
+        deletions,
+        additions,
+        added_records,
+        request_pool,
+        out_records,
+        out_names,
+    );
+    lay_changed(changed)
 }
 
 // Keeps the selected columns; not 0 for full mode.
