@@ -7,6 +7,7 @@ mod outputs;
 mod pruning;
 mod renumbering;
 mod tally;
+mod updating;
 
 use fields::field;
 use fields::part;
@@ -170,6 +171,7 @@ fn replay_line(
     let line = line_of(text, field(text, 0));
     let tally = before.begun(line);
     match line {
+        Line::Update => tally.judged(updating::replay(text, inputs, records, names)),
         Line::Prune => tally.judged(pruning::replay(text, inputs, records, names)),
         Line::Renumber => {
             tally.judged(renumbering::replay(text, inputs, records, names, identifiers))

@@ -4,6 +4,7 @@ use record::equal;
 
 // What a line is: a case of an operation, or one that is passed over.
 pub enum Line {
+    Update,
     Prune,
     Renumber,
     Name,
@@ -23,6 +24,7 @@ pub enum Verdict {
 // The lines so far, the cases of each operation, and how many agree and differ.
 pub struct Tally {
     pub lines: u64,
+    pub update: u64,
     pub prune: u64,
     pub renumber: u64,
     pub name: u64,
@@ -59,7 +61,7 @@ fn tell_count(word: &[u8], n: u64) {
     io::write_all(STDOUT_FILENO, b"\n");
 }
 
-// What a line is, by its first field. A comment has # first; the lines of `update` and `list` are passed over like comments.
+// What a line is, by its first field. A comment has # first; the lines of `list` are passed over like comments.
 pub fn line_of(text: &[u8], word: &[u8]) -> Line {
     if 0 < text.len() {
         if text[0] == b'#' {
@@ -67,7 +69,7 @@ pub fn line_of(text: &[u8], word: &[u8]) -> Line {
         }
     }
     if equal(word, b"update") {
-        return Line::Passed;
+        return Line::Update;
     }
     if equal(word, b"prune") {
         return Line::Prune;
@@ -95,6 +97,7 @@ impl Tally {
     pub fn none() -> Self {
         Tally {
             lines: 0,
+            update: 0,
             prune: 0,
             renumber: 0,
             name: 0,
@@ -109,6 +112,9 @@ impl Tally {
     pub fn begun(mut self, line: Line) -> Self {
         self.lines = more(self.lines);
         match line {
+            Line::Update => {
+                self.update = more(self.update);
+            }
             Line::Prune => {
                 self.prune = more(self.prune);
             }
@@ -150,6 +156,7 @@ impl Tally {
 
     // Writes the counts.
     pub fn report(self) {
+        tell_count(b"update ", self.update);
         tell_count(b"prune ", self.prune);
         tell_count(b"renumber ", self.renumber);
         tell_count(b"name ", self.name);

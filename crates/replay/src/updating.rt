@@ -1,0 +1,138 @@
+// Replays updates.
+use crate::answers::ends;
+use crate::answers::is_number;
+use crate::fields::Base;
+use crate::fields::Parsed;
+use crate::fields::answer;
+use crate::fields::decode;
+use crate::fields::decode_base;
+use crate::fields::field;
+use crate::fields::number;
+use crate::fields::part;
+use crate::fields::readable;
+use crate::fields::size;
+use crate::outputs::fill;
+use crate::outputs::is_changed;
+use crate::tally::Verdict;
+use crate::tally::verdict_on;
+use record::Changed;
+use update_schema::update;
+ghost use Prim.Native.Nat.{_≤_};
+ghost use lib.ListN.{length};
+
+// update JUDGE RECORDS POOL IDENTIFIERS LAST_ID DELETIONS ADDITIONS ADDED_RECORDS REQUEST_POOL OUT_RECORDS OUT_NAMES = answer
+pub fn replay(line: &[u8], inputs: &mut [u8], records: &mut [u8], names: &mut [u8]) -> Verdict {
+    if !readable(line, b"wwbbbwbbbbww=") {
+        return Verdict::Unreadable;
+    }
+    let Parsed::Number(last_id) = number(field(line, 5)) else {
+        return Verdict::Unreadable;
+    };
+    let r = size(field(line, 10));
+    let n = size(field(line, 11));
+    if records.len() < r {
+        return Verdict::Unreadable;
+    }
+    if names.len() < n {
+        return Verdict::Unreadable;
+    }
+    verdict_on(agrees(line, inputs, last_id, &mut records[..r], &mut names[..n]))
+}
+
+// Whether an update gives the recorded answer, with output buffers of the recorded sizes.
+fn agrees(
+    line: &[u8],
+    inputs: &mut [u8],
+    last_id: u32,
+    records: &mut [u8],
+    names: &mut [u8],
+) -> bool {
+    agrees_over(165, line, inputs, last_id, records, names)
+        & agrees_over(90, line, inputs, last_id, records, names)
+}
+
+// The same, with output buffers that hold the pattern.
+fn agrees_over(
+    pattern: u8,
+    line: &[u8],
+    inputs: &mut [u8],
+    last_id: u32,
+    records: &mut [u8],
+    names: &mut [u8],
+) -> bool {
+    fill(records, pattern);
+    fill(names, pattern);
+    let changed = changed_by(line, inputs, last_id, records, names);
+    is_changed(answer(line), changed, records, names, pattern) & is_consumed(answer(line), changed)
+}
+
+// Where the inputs of the request end in the buffer.
+struct Request {
+    deletions: usize,
+    additions: usize,
+    added: usize,
+    pool: usize,
+}
+
+// Puts the inputs of the request into the buffer from `from` on, one after the other.
+fn decode_request(line: &[u8], buffer: &mut [u8], from: usize) -> Request
+    requires { ⌜ from ≤ length (now buffer) ⌝ }
+    ensures { λ r. ⌜ (from ≤ r .deletions) × (r .deletions ≤ r .additions) × (r .additions ≤ r .added) × (r .added ≤ r .pool) × (r .pool ≤ length (now (buffer .exit))) ⌝ }
+{
+    let deletions = decode(field(line, 6), buffer, from);
+    let additions = decode(field(line, 7), buffer, deletions);
+    let added = decode(field(line, 8), buffer, additions);
+    let pool = decode(field(line, 9), buffer, added);
+    Request {
+        deletions,
+        additions,
+        added,
+        pool,
+    }
+}
+
+// What the update of a line answers.
+fn changed_by(
+    line: &[u8],
+    inputs: &mut [u8],
+    last_id: u32,
+    records: &mut [u8],
+    names: &mut [u8],
+) -> Changed {
+    let base = decode_base(line, inputs);
+    let request = decode_request(line, inputs, base.third);
+    call(inputs, base, request, last_id, records, names)
+}
+
+// The call, on the parts of the buffer that hold its inputs.
+fn call(
+    inputs: &[u8],
+    base: Base,
+    request: Request,
+    last_id: u32,
+    records: &mut [u8],
+    names: &mut [u8],
+) -> Changed
+    requires { ⌜ (base .records ≤ base .pool) × (base .pool ≤ base .third) × (base .third ≤ request .deletions) × (request .deletions ≤ request .additions) × (request .additions ≤ request .added) × (request .added ≤ request .pool) × (request .pool ≤ length (now inputs)) ⌝ }
+{
+    update(
+        part(inputs, 0, base.records),
+        part(inputs, base.records, base.pool),
+        part(inputs, base.pool, base.third),
+        last_id,
+        part(inputs, base.third, request.deletions),
+        part(inputs, request.deletions, request.additions),
+        part(inputs, request.additions, request.added),
+        part(inputs, request.added, request.pool),
+        records,
+        names,
+    )
+}
+
+// Whether the last id consumed is the recorded one.
+fn is_consumed(answer: &[u8], changed: Changed) -> bool {
+    match changed {
+        Changed::Done(sizes) => is_number(field(answer, 3), sizes.last_id) & ends(answer, 4),
+        Changed::Refused(_) => true,
+    }
+}
