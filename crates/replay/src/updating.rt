@@ -16,7 +16,7 @@ use crate::outputs::is_changed;
 use crate::tally::Verdict;
 use crate::tally::verdict_on;
 use record::Changed;
-use update_schema::update;
+use update::update;
 ghost use Prim.Native.Nat.{_≤_};
 ghost use lib.ListN.{length};
 
