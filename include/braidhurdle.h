@@ -8,8 +8,8 @@
  * check first: any bytes at all get an answer. Each list is a pointer and a length in BYTES. A list of length 0 may have any
  * pointer that is not null and is aligned for bytes (in C, the address of anything); with length 0 nothing behind it is read.
  *
- * Buffers must not overlap. An output buffer that overlaps another buffer of the same call is not promised anything: the
- * bytes of both are then unknown, but nothing outside the lent buffers is touched.
+ * Buffers must not overlap. Of a call whose buffers overlap nothing at all is promised: the proofs speak of buffers that do
+ * not, and the compiler relies on it.
  *
  * A tree is a list of 24-byte records in preorder, and a pool of names (document 01, 'Tree records'). Little-endian:
  *   0-3 id, signed            9  kind: 0 primitive, 1 struct, 2 list, 3 map     12-13 direct children
