@@ -1,0 +1,93 @@
+//! A tree read for people, column by column.
+
+use crate::layout::{DEFAULT, Kind, MOST_LEVELS, RECORD_BYTES, REQUIRED, Record};
+use crate::{FieldId, Refusal, Slot, Tree, TreeRef};
+
+/// A column as it stands in a tree.
+#[derive(Clone, Copy, Debug, PartialEq, Eq, Hash)]
+pub struct Column<'a> {
+    /// Its place in the list.
+    pub slot: Slot,
+    /// 1 for a root, and at most 16.
+    pub level: usize,
+    /// The column above it; none for a root.
+    pub parent: Option<(FieldId, Slot)>,
+    /// Its id.
+    pub id: FieldId,
+    /// Its own name, the very part of the pool that holds it.
+    pub name: &'a [u8],
+    /// What it is.
+    pub kind: Kind,
+    /// Must it have a value?
+    pub required: bool,
+    /// Has it an initial default?
+    pub default: bool,
+    /// The type code of a primitive; 0 for the others.
+    pub type_code: u32,
+    /// The number by which the host keeps doc and defaults.
+    pub attribute: u32,
+    /// How many columns stand directly below it.
+    pub children: usize,
+}
+
+/// The columns of an accepted tree, in slot order.
+#[derive(Clone, Debug)]
+pub struct Columns<'a> {
+    tree: TreeRef<'a>,
+    next: usize,
+    /// The columns above the next one, with the children that they still wait for.
+    above: [(FieldId, Slot, u16); MOST_LEVELS],
+    level: usize,
+}
+
+impl Tree {
+    /// The columns in slot order, or why the tree is refused.
+    pub fn columns(&self) -> Result<Columns<'_>, Refusal> {
+        self.lent().columns()
+    }
+}
+
+impl<'a> TreeRef<'a> {
+    /// The columns in slot order, or why the tree is refused.
+    pub fn columns(self) -> Result<Columns<'a>, Refusal> {
+        self.check()?;
+        let above = [(FieldId(0), Slot(0), 0); MOST_LEVELS];
+        Ok(Columns { tree: self, next: 0, above, level: 0 })
+    }
+}
+
+impl<'a> Iterator for Columns<'a> {
+    type Item = Column<'a>;
+
+    /// Ends at the first record that an accepted tree can't have, so never early.
+    fn next(&mut self) -> Option<Column<'a>> {
+        let bytes = self.tree.records.get(self.next * RECORD_BYTES..)?.first_chunk()?;
+        let record = Record::read(bytes);
+        let start = record.offset as usize;
+        let name = self.tree.pool.get(start..start.checked_add(record.length.into())?)?;
+        while self.level > 0 && self.above[self.level - 1].2 == 0 {
+            self.level -= 1;
+        }
+        let parent = self.above[..self.level].last_mut().map(|(id, slot, left)| {
+            *left -= 1;
+            (*id, *slot)
+        });
+        let slot = Slot(self.next as u32);
+        *self.above.get_mut(self.level)? = (record.id, slot, record.children);
+        self.level += 1;
+        self.next += 1;
+        Some(Column {
+            slot,
+            level: self.level,
+            parent,
+            id: record.id,
+            name,
+            kind: Kind::from_number(record.kind)?,
+            required: record.flags & REQUIRED != 0,
+            default: record.flags & DEFAULT != 0,
+            type_code: record.type_code,
+            attribute: record.attribute,
+            children: record.children.into(),
+        })
+    }
+}
