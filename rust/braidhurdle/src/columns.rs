@@ -63,8 +63,7 @@ impl<'a> Iterator for Columns<'a> {
     fn next(&mut self) -> Option<Column<'a>> {
         let bytes = self.tree.records.get(self.next * RECORD_BYTES..)?.first_chunk()?;
         let record = Record::read(bytes);
-        let start = record.offset as usize;
-        let name = self.tree.pool.get(start..start.checked_add(record.length.into())?)?;
+        let name = record.name(self.tree.pool)?;
         while self.level > 0 && self.above[self.level - 1].2 == 0 {
             self.level -= 1;
         }

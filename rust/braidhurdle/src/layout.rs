@@ -64,16 +64,24 @@ impl fmt::Display for Kind {
     }
 }
 
-/// A record's fields, as its 24 bytes have them.
+/// A record's fields, as its 24 bytes have them, whatever they hold.
 #[derive(Clone, Copy, Debug, PartialEq, Eq)]
-pub(crate) struct Record {
+pub struct Record {
+    /// Bytes 0-3.
     pub id: FieldId,
+    /// Bytes 4-7: where its name stands in the pool.
     pub offset: u32,
+    /// Byte 8: the name's length.
     pub length: u8,
+    /// Byte 9: [`Kind::from_number`] tells which.
     pub kind: u8,
+    /// Byte 10: bit 0 required, bit 1 has an initial default.
     pub flags: u8,
+    /// Bytes 12-13: how many columns stand directly below it.
     pub children: u16,
+    /// Bytes 16-19.
     pub type_code: u32,
+    /// Bytes 20-23.
     pub attribute: u32,
 }
 
@@ -84,7 +92,7 @@ pub(crate) const DEFAULT: u8 = 2;
 
 impl Record {
     /// The record of 24 bytes; the bytes that must be 0 are not looked at.
-    pub(crate) fn read(b: &[u8; RECORD_BYTES]) -> Record {
+    pub fn read(b: &[u8; RECORD_BYTES]) -> Record {
         let word = |at: usize| u32::from_le_bytes([b[at], b[at + 1], b[at + 2], b[at + 3]]);
         Record {
             id: FieldId(word(0) as i32),
@@ -96,6 +104,12 @@ impl Record {
             type_code: word(16),
             attribute: word(20),
         }
+    }
+
+    /// The part of a pool that holds its name; none where that lies outside.
+    pub fn name(self, pool: &[u8]) -> Option<&[u8]> {
+        let start = usize::try_from(self.offset).ok()?;
+        pool.get(start..start.checked_add(self.length.into())?)
     }
 
     /// The record's 24 bytes.
