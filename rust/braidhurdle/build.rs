@@ -33,30 +33,37 @@ fn folder() -> Result<PathBuf, String> {
     let checkout = PathBuf::from(env::var_os("CARGO_MANIFEST_DIR").expect("cargo sets it"));
     let checkout = checkout.join("../..");
     let folder = checkout.join("target/staticlib");
-    if !folder.join(ARCHIVE).exists() {
-        made(&checkout)?;
+    let maker = checkout.join("tools/archive");
+    println!("cargo::rerun-if-changed={}", maker.display());
+    let changed = |file: &Path| fs::metadata(file).and_then(|data| data.modified()).ok();
+    let archive = changed(&folder.join(ARCHIVE));
+    // one that is older than its maker may return a struct in another way
+    if archive.is_none() || (archive < changed(&maker) && toolchain()) {
+        made(&maker)?;
     }
     Ok(folder)
 }
 
-/// Proves the port and writes its archive, where the toolchain is there. From nothing this takes
-/// minutes.
-fn made(checkout: &Path) -> Result<(), String> {
-    let missing = format!(
-        "there is no target/staticlib/{ARCHIVE}: make it by `tools/archive`, which needs the Rattle \
-         toolchain, or let {VARIABLE} name a folder that holds one"
-    );
+fn toolchain() -> bool {
     let path = env::var_os("PATH").unwrap_or_default();
-    if !env::split_paths(&path).any(|folder| folder.join("rt").is_file()) {
-        return Err(missing);
+    env::split_paths(&path).any(|folder| folder.join("rt").is_file())
+}
+
+/// Proves the port and writes its archive. From nothing this takes minutes.
+fn made(maker: &Path) -> Result<(), String> {
+    if !toolchain() {
+        return Err(format!(
+            "there is no target/staticlib/{ARCHIVE}: make it by `tools/archive`, which needs the \
+             Rattle toolchain, or let {VARIABLE} name a folder that holds one"
+        ));
     }
-    match Command::new(checkout.join("tools/archive")).arg("braidhurdle").output() {
+    match Command::new(maker).arg("braidhurdle").output() {
         Ok(output) if output.status.success() => Ok(()),
         Ok(output) => {
             let said = String::from_utf8_lossy(&output.stderr);
-            Err(format!("`tools/archive` failed: {}", said.lines().last().unwrap_or("no word")))
+            Err(format!("tools/archive failed: {}", said.lines().last().unwrap_or("no word")))
         }
-        Err(why) => Err(format!("{missing} ({why})")),
+        Err(why) => Err(format!("tools/archive can't be run: {why}")),
     }
 }
 
