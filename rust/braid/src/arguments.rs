@@ -231,7 +231,13 @@ fn make() -> Command {
         .arg(path("PICTURE", "The picture's file, or - for standard input"))
         .args(out_arguments())
         .after_help(
-            "Blank lines and lines that begin with # are skipped.\n\n\
+            "A picture has a line for each column, two spaces deeper for each level:\n\n  \
+             1 visits: list\n    \
+             2 element: struct\n      \
+             3 day: primitive 4 required\n\n\
+             The kind is primitive with its type code, struct, list or map; then stand what is set\n\
+             of required, default and attribute N. Blank lines and lines that begin with # are\n\
+             skipped. docs/FORMAT.md has the rest, names in quotes among it.\n\n\
              Example:\n  braid make examples/T.picture --out T\n  \
              braid list T | sed 's/cost/price/' | braid make - --out U",
         )
@@ -289,7 +295,7 @@ fn some_ids(arg: Arg) -> Arg {
 fn name_and_code(given: OsString) -> Result<(Vec<u8>, u32), &'static str> {
     let given = given.into_encoded_bytes();
     let colon = given.iter().rposition(|byte| *byte == b':').ok_or("no colon before a code")?;
-    let code = str::from_utf8(&given[colon + 1..]).ok().and_then(|code| code.parse().ok());
+    let code = std::str::from_utf8(&given[colon + 1..]).ok().and_then(|code| code.parse().ok());
     let code = code.ok_or("no code, a number below 2^32, behind the colon")?;
     Ok((given[..colon].to_vec(), code))
 }

@@ -38,13 +38,14 @@ pub fn read(stem: &Path, most: [usize; 2]) -> Result<Pair, Fault> {
 ///
 /// Each is first written whole beside its place. An old pair is moved aside, names first, and
 /// the new one put in place, records first. So at no moment do an old and a new file stand
-/// together as a pair, and after a failure the old pair stands again.
+/// together as a pair; after a failure the old pair stands again.
 pub fn write(stem: &Path, pair: &Pair, force: bool) -> Result<(), Fault> {
     let places = ENDINGS.map(|ending| Place::new(with_ending(stem, ending)));
     let mut steps = vec![];
     let put = put(&places, pair, force, &mut steps);
     match put {
-        Ok(()) => places.iter().for_each(Place::tidy),
+        // an old file that stays does no harm
+        Ok(()) => places.iter().for_each(|place| drop(fs::remove_file(&place.old))),
         Err(_) => steps.iter().rev().for_each(Step::undo),
     }
     put
@@ -73,12 +74,6 @@ impl Place {
         };
         Place { new: beside("new"), old: beside("old"), file }
     }
-
-    /// Removes what stands beside the file. A leftover does no harm.
-    fn tidy(&self) {
-        let _ = fs::remove_file(&self.new);
-        let _ = fs::remove_file(&self.old);
-    }
 }
 
 impl Step<'_> {
@@ -106,16 +101,15 @@ fn put<'a>(
         fs::rename(&place.file, &place.old).map_err(of_file(&place.file))?;
         steps.push(Step::Moved(place));
     }
+    if let Some(place) = places.iter().find(|place| place.file.symlink_metadata().is_ok()) {
+        let hint = "nothing is written; --force overwrites files";
+        return Err(Fault::Given(format!("{}: already there; {hint}", place.file.display())));
+    }
     for place in places {
-        // a link, unlike a rename, never takes the place of another file
-        fs::hard_link(&place.new, &place.file).map_err(|why| match why.kind() {
-            ErrorKind::AlreadyExists => {
-                let hint = "nothing is written; --force overwrites files";
-                Fault::Given(format!("{}: already there; {hint}", place.file.display()))
-            }
-            _ => of_file(&place.file)(why),
-        })?;
+        // a rename alone would replace a file that has come meanwhile
+        File::create_new(&place.file).map_err(of_file(&place.file))?;
         steps.push(Step::Made(&place.file));
+        fs::rename(&place.new, &place.file).map_err(of_file(&place.file))?;
     }
     Ok(())
 }

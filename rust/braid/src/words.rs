@@ -99,19 +99,18 @@ fn record(number: u32, place: usize, records: &[u8], pool: &[u8]) -> String {
     let Some(bytes) = records.chunks_exact(RECORD_BYTES).nth(place) else {
         return format!("behind the last of {place} records");
     };
-    if number == 3 {
-        let bytes: Vec<String> = bytes.iter().map(|byte| format!("{byte:02x}")).collect();
-        return format!("record {place}, bytes {}", bytes.join(" "));
-    }
     let record = Record::read(bytes.first_chunk().expect("a record's bytes"));
     let Record { id, offset, length, .. } = record;
-    match record.name(pool) {
-        Some(name) => format!("record {place}, id {id}, name {}", quoted(name)),
-        None => format!(
-            "record {place}, id {id}, name of {length} bytes at {offset} in a pool of {}",
-            pool.len()
-        ),
+    let name = match record.name(pool) {
+        Some(name) => quoted(name),
+        None => format!("of {length} bytes at {offset} in a pool of {}", pool.len()),
+    };
+    let mut words = format!("record {place}, id {id}, name {name}");
+    if number == 3 {
+        words += ", bytes";
+        bytes.iter().for_each(|byte| words += &format!(" {byte:02x}"));
     }
+    words
 }
 
 fn addition(place: usize, Addition { what, under }: &Addition<Field>) -> String {

@@ -1,6 +1,9 @@
 //! Every subcommand on good trees.
 
 use crate::folder::Folder;
+use std::ffi::OsStr;
+use std::os::unix::ffi::OsStrExt;
+
 use cases::{packed, prim, strukt};
 
 /// T's picture, as FORMAT.md has it.
@@ -144,6 +147,18 @@ fn negative_ids_are_arguments_like_any_other() {
     assert_eq!(ids(&folder, "less"), [-5, -2, -1]);
     let said = folder.braid("update less --last-id -1 --identifiers -5,-2 --add x:0 --out more");
     assert_eq!(said.answer(), "last id 0\n");
+}
+
+#[test]
+fn names_on_the_command_line_are_bytes() {
+    let folder = Folder::new();
+    folder.piped("make - --out X", b"1 -x: struct\n2 \"\\xff\": struct\n").answer();
+    assert_eq!(folder.braid("find X -- -x").answer(), "id 1 slot 0 -x\n");
+    let mut find = folder.command(&["find", "X"]);
+    let output = find.arg(OsStr::from_bytes(b"\xff")).output().expect("the tool runs");
+    assert_eq!(output.stdout, b"id 2 slot 1 \"\\xff\"\n");
+    folder.braid("update X --last-id 2 --add=-y:1 --under=-x --out Y").answer();
+    assert_eq!(folder.braid("find Y -- -x.-y").answer(), "id 3 slot 1 -x.-y\n");
 }
 
 #[test]

@@ -154,7 +154,9 @@ fn a_picture_of_no_tree_is_refused_by_the_library() {
     let said = refused("1 a: list\n  2 item: primitive 0\n");
     let words = "an element, key or value is named otherwise: -, record 1, id 2, name \"item\"";
     assert_eq!(said, format!("refused 6 at 0 1: {words}\n"));
-    assert!(refused("1 a: primitive 0\n  2 b: primitive 0\n").starts_with("refused 3 at 0 0: "));
+    let said = refused("1 a: primitive 0\n  2 b: primitive 0\n");
+    let words = "a byte rule of a record or entry is broken: -, record 0, id 1, name \"a\", bytes";
+    assert!(said.starts_with(&format!("refused 3 at 0 0: {words}")), "{said}");
     assert!(refused("1 a: map\n").starts_with("refused 3 at 0 0: "));
     assert!(refused("1 a: struct\n1 b: struct\n").starts_with("refused 7 at 0 1: "));
     let wide: String = (0..1_025).map(|id| format!("{id} a{id}: struct\n")).collect();

@@ -40,8 +40,9 @@ fn a_broken_byte_is_shown_with_its_record() {
     damaged(
         24 * 4 + 9,
         9,
-        "3 at 0 4: a byte rule of a record or entry is broken: T, record 4, bytes \
-         06 00 00 00 14 00 00 00 07 09 00 00 01 00 00 00 00 00 00 00 00 00 00 00",
+        "3 at 0 4: a byte rule of a record or entry is broken: T, record 4, id 6, \
+         name \"element\", bytes 06 00 00 00 14 00 00 00 07 09 00 00 01 00 00 00 00 00 00 \
+         00 00 00 00 00",
     );
 }
 
