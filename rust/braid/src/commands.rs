@@ -5,7 +5,7 @@ use std::io::{self, Read};
 use std::path::Path;
 
 use braidhurdle::layout::{NAME_ROOM, RECORD_BYTES, RECORD_ROOM};
-use braidhurdle::{Column, Field, FieldId, Mode, Overlong, Request, Slot, Tree};
+use braidhurdle::{Columns, Field, FieldId, Mode, Overlong, Request, Slot, Tree};
 
 use crate::arguments::{Added, Addition, Ask, Of, Out};
 use crate::words::{Asked, Given};
@@ -41,31 +41,19 @@ pub fn answer(ask: Ask) -> Result<Vec<u8>, Fault> {
 
 fn list(given: &Given, plain: bool) -> Result<Vec<u8>, Fault> {
     let columns = given.tree.columns().map_err(|why| given.refused(why))?;
-    if plain {
-        return Ok(lines(&columns.collect::<Vec<_>>()));
-    }
-    Ok(picture::draw(columns).into())
+    Ok(if plain { lines(columns) } else { picture::draw(columns).into() })
 }
 
 /// The lister's lines: slot, id, parent id or `-`, full name; names stand as they are.
-fn lines(columns: &[Column]) -> Vec<u8> {
+fn lines(columns: Columns) -> Vec<u8> {
     let mut lines = vec![];
     for column in columns {
         let parent = column.parent.map_or("-".into(), |(id, _)| id.to_string());
         lines.extend(format!("{} {} {parent} ", column.slot, column.id).bytes());
-        lines.extend(full_name(columns, column.slot));
+        lines.extend(column.full_name());
         lines.push(b'\n');
     }
     lines
-}
-
-/// The names from the root down to a column, joined by dots.
-fn full_name(columns: &[Column], slot: Slot) -> Vec<u8> {
-    let column = &columns[slot.0 as usize];
-    match column.parent {
-        Some((_, above)) => [&full_name(columns, above)[..], b".", column.name].concat(),
-        None => column.name.to_vec(),
-    }
 }
 
 fn check(given: &Given) -> Result<Vec<u8>, Fault> {
@@ -101,10 +89,10 @@ fn parent(given: &Given, id: FieldId) -> Result<Vec<u8>, Fault> {
 
 /// A column that was found: id, slot, full name.
 fn column(given: &Given, slot: Slot) -> Result<Vec<u8>, Fault> {
-    let columns = given.tree.columns().map_err(|why| given.refused(why))?;
-    let columns: Vec<Column> = columns.collect();
-    let (id, name) = (columns[slot.0 as usize].id, full_name(&columns, slot));
-    Ok(format!("id {id} slot {slot} {}\n", names::shown(&name)).into())
+    let mut columns = given.tree.columns().map_err(|why| given.refused(why))?;
+    let column = columns.nth(slot.0 as usize).expect("a slot that was found");
+    let name = names::shown(&column.full_name());
+    Ok(format!("id {} slot {slot} {name}\n", column.id).into())
 }
 
 fn prune(given: Given, keep: &[FieldId], full: bool, out: &Out) -> Result<Vec<u8>, Fault> {
@@ -149,10 +137,9 @@ fn added(additions: Vec<Addition<Added>>) -> Result<Vec<Addition<Field>>, Fault>
             Added::Column(what) => added.push(Addition { what, under }),
             Added::Tree(stem) => {
                 let tree = read(&stem)?;
-                let columns =
-                    tree.columns().map_err(|why| Given::new(&stem, &tree).refused(why))?;
+                let roots = tree.fields().map_err(|why| Given::new(&stem, &tree).refused(why))?;
                 let add = |what| Addition { what, under: under.clone() };
-                added.extend(picture::roots(columns).into_iter().map(add));
+                added.extend(roots.into_iter().map(add));
             }
         }
     }

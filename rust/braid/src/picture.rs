@@ -29,21 +29,23 @@ fn line(column: &Column) -> String {
 
 /// The roots of a picture, or the line that is none and why.
 pub fn read(text: &str) -> Result<Vec<Field>, String> {
-    let mut fields = vec![];
-    let mut most = 1;
+    let mut roots = vec![];
+    // the last column, behind those above it
+    let mut open = vec![];
     for (at, line) in text.lines().enumerate() {
         if line.trim().is_empty() || line.starts_with('#') {
             continue;
         }
         let at_line = |why: String| format!("line {}: {why}", at + 1);
         let (level, field) = column(line).map_err(at_line)?;
-        if level > most {
-            return Err(at_line(format!("level {level} stands behind level {}", most - 1)));
+        if level > open.len() + 1 {
+            return Err(at_line(format!("level {level} stands behind level {}", open.len())));
         }
-        most = level + 1;
-        fields.push((level, field));
+        close(level, &mut open, &mut roots);
+        open.push(field);
     }
-    Ok(nested(fields))
+    close(1, &mut open, &mut roots);
+    Ok(roots)
 }
 
 /// The level and the column of a line.
@@ -84,28 +86,6 @@ fn column(line: &str) -> Result<(usize, Field), String> {
 fn number(word: Option<&str>) -> Result<u32, String> {
     let word = word.unwrap_or_default();
     word.parse().map_err(|_| format!("{word:?} is no number below 2^32"))
-}
-
-/// The columns of a tree as roots with all that is inside them.
-pub fn roots(columns: Columns) -> Vec<Field> {
-    nested(columns.map(|column| {
-        let Column { id, kind, required, default, type_code, attribute, .. } = column;
-        let (name, inside) = (column.name.to_vec(), vec![]);
-        let field = Field { id, name, kind, required, default, type_code, attribute, inside };
-        (column.level, field)
-    }))
-}
-
-/// Columns in preorder, each with its level, put into one another.
-fn nested(fields: impl IntoIterator<Item = (usize, Field)>) -> Vec<Field> {
-    let mut roots = vec![];
-    let mut open: Vec<Field> = vec![];
-    for (level, field) in fields {
-        close(level, &mut open, &mut roots);
-        open.push(field);
-    }
-    close(1, &mut open, &mut roots);
-    roots
 }
 
 /// Puts every open column of this level or a lower one into the column above it.

@@ -1,9 +1,7 @@
 //! 01's worked examples, P1 to P13, on T.
 
-mod common;
-
+use crate::t::{ids, t};
 use braidhurdle::{Field, FieldId, Mode, Refusal, Request, Updated};
-use common::{ids, t};
 
 fn refused(number: u32, list: u32, place: u32) -> Refusal {
     Refusal { number, list, place }
