@@ -117,10 +117,11 @@ fn list() -> Command {
     Command::new("list")
         .about("Prints a tree as an indented picture, or as the lister's lines")
         .arg(path("STEM", "The tree to print"))
-        .arg(flag("plain", "Prints slot, id, parent id or -, and full name, as they are"))
+        .arg(flag("plain", "Prints slot, id, parent id or -, and full name"))
         .after_help(
             "A line of the picture: id, name, kind; then what is set of required, default and\n\
-             attribute. Names with other than printable characters are quoted and escaped.\n\n\
+             attribute. Names with other than printable characters are quoted and escaped; with\n\
+             --plain they stand as they are, except on a terminal. docs/FORMAT.md has the rest.\n\n\
              Example:\n  braid list examples/T\n  braid list examples/T --plain | cut -d' ' -f4",
         )
 }

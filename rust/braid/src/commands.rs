@@ -1,7 +1,7 @@
 //! What each subcommand does: read, ask the library, write, and say what people need to know.
 
 use std::fs::File;
-use std::io::{self, Read};
+use std::io::{self, IsTerminal, Read};
 use std::path::Path;
 
 use braidhurdle::layout::{NAME_ROOM, RECORD_BYTES, RECORD_ROOM};
@@ -44,13 +44,16 @@ fn list(given: &Given, plain: bool) -> Result<Vec<u8>, Fault> {
     Ok(if plain { lines(columns) } else { picture::draw(columns).into() })
 }
 
-/// The lister's lines: slot, id, parent id or `-`, full name; names stand as they are.
+/// The lister's lines: slot, id, parent id or `-`, full name. Names stand as they are, but not on
+/// a terminal, which would obey them.
 fn lines(columns: Columns) -> Vec<u8> {
+    let escaped = io::stdout().is_terminal();
     let mut lines = vec![];
     for column in columns {
         let parent = column.parent.map_or("-".into(), |(id, _)| id.to_string());
         lines.extend(format!("{} {} {parent} ", column.slot, column.id).bytes());
-        lines.extend(column.full_name());
+        let name = column.full_name();
+        lines.extend(if escaped { names::shown(&name).into() } else { name });
         lines.push(b'\n');
     }
     lines

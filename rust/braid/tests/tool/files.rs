@@ -2,9 +2,9 @@
 
 use std::fs;
 use std::io::Read;
-use std::process::Stdio;
+use std::process::{Command, Stdio};
 
-use crate::folder::Folder;
+use crate::folder::{BRAID, Folder};
 
 /// The three commands that write, by the stem that they write to.
 fn writers(out: &str) -> [String; 4] {
@@ -110,6 +110,18 @@ fn a_reader_that_has_read_enough_is_no_fault() {
         tool.stderr.take().expect("a pipe").read_to_string(&mut err).expect("words");
         assert_eq!((tool.wait().expect("it ends").code(), err.as_str()), (Some(0), ""));
     }
+}
+
+#[test]
+fn a_terminal_gets_no_control_bytes_and_a_pipe_gets_the_name() {
+    let folder = Folder::new();
+    folder.piped("make - --out E", b"1 \"\\x1b[2J\": struct\n").answer();
+    assert_eq!(folder.braid("list E --plain").answer(), "0 1 - \x1b[2J\n");
+    // script runs a command on a terminal of its own
+    let command = format!("{BRAID} list {} --plain", folder.file("E").display());
+    let output = Command::new("script").args(["-qec", &command, "/dev/null"]).output();
+    let seen = output.expect("bsdutils is essential in Debian").stdout;
+    assert_eq!(String::from_utf8_lossy(&seen), "0 1 - \"\\x1b[2J\"\r\n");
 }
 
 #[test]
