@@ -98,8 +98,8 @@ fn a_folder_that_is_not_there_is_a_fault() {
 fn a_reader_that_has_read_enough_is_no_fault() {
     let folder = Folder::new();
     // more than a pipe holds, so that the tool meets its end
-    let picture: String =
-        (0..1_024).map(|id| format!("{id} {id:0>30}: struct attribute {}\n", u32::MAX)).collect();
+    let line = |id| format!("{id} {id:0>30}: struct required default attribute {}\n", u32::MAX);
+    let picture: String = (0..1_024).map(line).collect();
     folder.piped("make - --out wide", picture.as_bytes()).answer();
     for arguments in [&["list", "wide"][..], &["list", "wide", "--plain"], &["update", "--help"]] {
         let mut command = folder.command(arguments);

@@ -190,6 +190,18 @@ fn an_addition_is_told_with_its_name_and_parent() {
 }
 
 #[test]
+fn an_added_tree_is_told_by_its_own_stem() {
+    let folder = Folder::with_t();
+    let (records, names) = packed(&[prim(1, "a"), prim(1, "b")]);
+    folder.put("twins", &records, &names);
+    refused(
+        &folder,
+        "update T --last-id 10 --add-tree twins --out U",
+        "7 at 0 1: an id equals an earlier one: twins, record 1, id 1, name \"b\"",
+    );
+}
+
+#[test]
 fn numbers_that_would_run_out_are_told_with_their_start() {
     let words = "18 at 0 0: an id would pass 2,147,483,647: 10 records from 2147483638";
     refused(&Folder::with_t(), "renumber T --from 2147483638 --out U", words);
