@@ -1,8 +1,9 @@
 //! The files in examples/ and the page about the layouts.
 
-use std::fs;
+use std::os::unix::fs::symlink;
 use std::path::{Path, PathBuf};
 use std::process::{Command, Output};
+use std::{env, fs};
 
 use crate::folder::{BRAID, Folder};
 
@@ -61,6 +62,23 @@ fn show_shows_a_picture_an_update_and_a_refusal() {
     assert!(said.starts_with("$ braid list examples/node-4\n1 node: struct required\n"), "{said}");
     assert!(said.contains("\nlast id 25\n"), "{said}");
     assert!(said.contains("\nrefused 11 at 2 0: "), "{said}");
+}
+
+#[test]
+fn every_example_of_the_help_can_be_run_as_it_stands() {
+    let tools = Path::new(BRAID).parent().expect("it is in a folder");
+    let path = format!("{}:{}", tools.display(), env::var("PATH").expect("there is one"));
+    for name in ["list", "check", "find", "parent", "prune", "renumber", "update", "make"] {
+        let folder = Folder::new();
+        symlink(file("examples"), folder.file("examples")).expect("a link");
+        let help = folder.run(&[name, "--help"]).answer();
+        let (_, example) = help.split_once("Example:\n").expect("an example");
+        assert!(example.starts_with(&format!("  braid {name} ")), "{help}");
+        let mut shell = Command::new("sh");
+        shell.args(["-ec", example]).current_dir(folder.file("")).env("PATH", &path);
+        let Output { status, stderr, .. } = shell.output().expect("a shell");
+        assert!(status.success() && stderr.is_empty(), "{example}");
+    }
 }
 
 #[test]

@@ -172,10 +172,7 @@ fn wrong_arguments_end_with_status_3_and_help_with_0() {
         assert!(!said.err.is_empty(), "{arguments}");
     }
     assert_eq!(folder.files(), ["T.names", "T.rec"]);
-    for name in ["list", "check", "find", "parent", "prune", "renumber", "update", "make"] {
-        let help = folder.run(&[name, "--help"]).answer();
-        assert!(help.contains(&format!("Example:\n  braid {name} ")), "{help}");
-    }
+    assert!(folder.braid("--help").answer().contains("Exit status: 0 "));
 }
 
 #[test]
