@@ -172,7 +172,8 @@ fn prune() -> Command {
         .arg(flag("full", "Keeps a chosen column with all that is inside it"))
         .args(out_arguments())
         .after_help(
-            "A chosen list or map is refused (20) without --full: choose columns inside it.\n\n\
+            "A chosen list or map is refused (20) without --full: choose columns inside it.\n\
+             Prints how many records were kept.\n\n\
              Example:\n  braid prune examples/T --keep 5,7 --out report",
         )
 }

@@ -61,9 +61,8 @@ fn lines(columns: Columns) -> Vec<u8> {
 
 fn check(given: &Given) -> Result<Vec<u8>, Fault> {
     given.tree.check().map_err(|why| given.refused(why))?;
-    let Tree { records, pool } = given.tree;
-    let records = records.len() / RECORD_BYTES;
-    Ok(format!("accepted: {records} records, {} name bytes\n", pool.len()).into())
+    let (records, names) = (records(given.tree), given.tree.pool.len());
+    Ok(format!("accepted: {records} records, {names} name bytes\n").into())
 }
 
 fn find_name(given: &Given, name: &[u8]) -> Result<Vec<u8>, Fault> {
@@ -102,8 +101,9 @@ fn prune(given: Given, keep: &[FieldId], full: bool, out: &Out) -> Result<Vec<u8
     let mode = if full { Mode::Full } else { Mode::Plain };
     let given = Given { ask: Asked::Prune { chosen: keep.len() }, ..given };
     let tree = given.tree.prune(keep, mode).map_err(|why| given.refused(why))?;
+    let said = format!("kept {} of {} records\n", records(&tree), records(given.tree));
     write(tree, out)?;
-    Ok(vec![])
+    Ok(said.into())
 }
 
 fn renumber(
@@ -186,6 +186,11 @@ fn make(picture: &Path, out: &Out) -> Result<Vec<u8>, Fault> {
     tree.check().map_err(|why| Given::new(picture, &tree).refused(why))?;
     write(tree, out)?;
     Ok(vec![])
+}
+
+/// How many whole records a tree has.
+fn records(tree: &Tree) -> usize {
+    tree.records.len() / RECORD_BYTES
 }
 
 fn overlong(why: Overlong) -> Fault {

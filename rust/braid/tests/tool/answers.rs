@@ -73,14 +73,16 @@ fn parent_is_the_column_above() {
 #[test]
 fn prune_keeps_what_is_chosen() {
     let folder = Folder::with_t();
-    assert_eq!(folder.braid("prune T --keep 7 --out day").answer(), "");
+    let said = folder.braid("prune T --keep 7 --out day").answer();
+    assert_eq!(said, "kept 3 of 10 records\n");
     let lines = "0 2 - visits\n1 6 2 visits.element\n2 7 6 visits.element.day\n";
     assert_eq!(folder.braid("list day --plain").answer(), lines);
     folder.braid("prune T --keep 1 --out node").answer();
     assert_eq!(ids(&folder, "node"), [1]);
     folder.braid("prune T --keep 1,1,99 --full --out whole").answer();
     assert_eq!(ids(&folder, "whole"), [1, 4, 5]);
-    folder.run(&["prune", "T", "--keep", "", "--out", "nothing"]).answer();
+    let said = folder.run(&["prune", "T", "--keep", "", "--out", "nothing"]).answer();
+    assert_eq!(said, "kept 0 of 10 records\n");
     assert_eq!(folder.pair("nothing"), (vec![], vec![]));
     assert_eq!(folder.braid("list nothing").answer(), "");
 }

@@ -49,10 +49,12 @@ fn running_make_gives_the_very_files_that_are_here() {
         assert_eq!(fs::read(folder.file(&name)).expect("it was made"), here, "{name}");
     }
     let page = text("examples/README.md");
-    for line in said.lines() {
-        let (tree, last) = line.split_once(": last id ").expect("a tree and its last id");
+    let lasts: Vec<(&str, &str)> =
+        said.lines().filter_map(|line| line.split_once(": last id ")).collect();
+    assert_eq!(lasts.len(), 4, "{said}");
+    for (tree, last) in lasts {
         let row = page.lines().find(|row| row.starts_with(&format!("| {tree} |")));
-        assert!(row.expect("a row of the page").ends_with(&format!("| {last} |")), "{line}");
+        assert!(row.expect("a row of the page").ends_with(&format!("| {last} |")), "{tree}");
     }
 }
 
