@@ -43,7 +43,9 @@ fn parents_and_full_names_are_those_of_the_look_ups() -> Result<(), Box<dyn std:
         assert_eq!(tree.find_parent(column.id)?, column.parent);
         assert_eq!(tree.find_name(column.full_name())?, Some((column.id, column.slot)));
         assert_eq!(tree.find_id(column.id)?, Some(column.slot));
+        assert_eq!(tree.column(column.slot)?, Some(column));
     }
+    assert_eq!(tree.column(Slot(10))?, None);
     Ok(())
 }
 
@@ -60,7 +62,7 @@ fn the_fields_of_a_tree_build_the_same_tree() -> Result<(), Box<dyn std::error::
 #[test]
 fn a_name_is_the_very_part_of_the_pool() -> Result<(), Box<dyn std::error::Error>> {
     let tree = t();
-    let visits = tree.columns()?.nth(3).expect("T has ten columns");
+    let visits = tree.column(Slot(3))?.expect("T has ten columns");
     assert!(std::ptr::eq(visits.name, &tree.pool[14..20]));
     Ok(())
 }
