@@ -73,3 +73,14 @@ fn an_empty_tree_has_no_columns_and_a_refused_one_says_why() {
     let refusal = Tree::new(t().records, vec![]).columns().map(|_| ()).unwrap_err();
     assert_eq!((refusal.number, refusal.list, refusal.place), (4, 0, 0));
 }
+
+#[test]
+fn equal_columns_are_equal_whatever_stands_before_them() -> Result<(), Box<dyn std::error::Error>> {
+    let behind = |member: &str| {
+        let before = Field::structure("s", [primitive(2, member)]).id(FieldId(1));
+        Tree::build(&[before, primitive(3, "same")])
+    };
+    assert_eq!(behind("x")?.column(Slot(2))?, behind("y")?.column(Slot(2))?);
+    assert_ne!(behind("x")?.column(Slot(1))?, behind("y")?.column(Slot(1))?);
+    Ok(())
+}
