@@ -50,240 +50,74 @@ pub struct Found {
     pub slot: u32,
 }
 
-/// Declares the archive's functions.
-#[cfg(archive)]
-macro_rules! declare {
-    ($(fn $name:ident($($argument:ident: $type:ty),* $(,)?) -> $answer:ty;)*) => {
-        unsafe extern "C" {
-            $(pub fn $name($($argument: $type),*) -> $answer;)*
+/// One function of the archive. Its arguments are lists, a number, lists, and buffers to write, in
+/// this order; in C a list or buffer is a pointer and a length, as `include/braidhurdle.h` has it.
+macro_rules! function {
+    (
+        $(#[$doc:meta])*
+        $name:ident is $symbol:ident(
+            $($list:ident)*; $($number:ident: $type:ty)?; $($more:ident)*; $($out:ident)*
+        ) -> $answer:ty
+    ) => {
+        $(#[$doc])*
+        #[allow(clippy::too_many_arguments)] // the C function's own
+        pub fn $name(
+            $($list: &[u8],)* $($number: $type,)? $($more: &[u8],)* $($out: &mut [u8],)*
+        ) -> $answer {
+            #[cfg(archive)]
+            unsafe extern "C" {
+                fn $symbol(
+                    $($list: *const u8, _: usize,)* $($number: $type,)?
+                    $($more: *const u8, _: usize,)* $($out: *mut u8, _: usize,)*
+                ) -> $answer;
+            }
+            #[cfg(not(archive))]
+            #[allow(unused_variables)]
+            unsafe fn $symbol(
+                $($list: *const u8, _: usize,)* $($number: $type,)?
+                $($more: *const u8, _: usize,)* $($out: *mut u8, _: usize,)*
+            ) -> $answer {
+                panic!("braidhurdle was built with BRAIDHURDLE_ARCHIVE=none, so without its code")
+            }
+            // SAFETY: the function asks nothing of its caller but that each pointer and length
+            // are those of bytes that it may read, or write where the pointer says so, and that
+            // what it writes overlaps nothing else. They are a slice's own, borrowed for the call.
+            unsafe {
+                $symbol(
+                    $($list.as_ptr(), $list.len(),)* $($number,)?
+                    $($more.as_ptr(), $more.len(),)* $($out.as_mut_ptr(), $out.len(),)*
+                )
+            }
         }
     };
 }
 
-/// The same names where the build was told to do without the archive.
-#[cfg(not(archive))]
-macro_rules! declare {
-    ($(fn $name:ident($($argument:ident: $type:ty),* $(,)?) -> $answer:ty;)*) => {
-        $(
-            pub unsafe fn $name($(_: $type),*) -> $answer {
-                panic!("braidhurdle was built with BRAIDHURDLE_ARCHIVE=none, so without its code")
-            }
-        )*
-    };
+function! {
+    /// Drops and adds columns. Ids are handed out from `last_id` + 1.
+    update is braidhurdle_update(
+        records pool identifiers; last_id: i32; deletions additions added_records request_pool;
+        out_records out_names
+    ) -> Changed
 }
-
-// SAFETY of the calls below. The declarations are those of `include/braidhurdle.h`. Each pointer and
-// length is a Rust slice's own; a slice that is written overlaps no other, since it is borrowed so;
-// no function keeps a pointer, and none needs more than that of its bytes.
-#[allow(clippy::too_many_arguments)] // a slice is two of them
-mod archive {
-    use super::{Changed, Found};
-
-    declare! {
-        fn braidhurdle_update(
-            records: *const u8,
-            records_len: usize,
-            pool: *const u8,
-            pool_len: usize,
-            identifiers: *const u8,
-            identifiers_len: usize,
-            last_id: i32,
-            deletions: *const u8,
-            deletions_len: usize,
-            additions: *const u8,
-            additions_len: usize,
-            added_records: *const u8,
-            added_records_len: usize,
-            request_pool: *const u8,
-            request_pool_len: usize,
-            out_records: *mut u8,
-            out_records_len: usize,
-            out_names: *mut u8,
-            out_names_len: usize,
-        ) -> Changed;
-        fn braidhurdle_prune(
-            records: *const u8,
-            records_len: usize,
-            pool: *const u8,
-            pool_len: usize,
-            selected: *const u8,
-            selected_len: usize,
-            full: u32,
-            out_records: *mut u8,
-            out_records_len: usize,
-            out_names: *mut u8,
-            out_names_len: usize,
-        ) -> Changed;
-        fn braidhurdle_renumber(
-            records: *const u8,
-            records_len: usize,
-            pool: *const u8,
-            pool_len: usize,
-            identifiers: *const u8,
-            identifiers_len: usize,
-            start: i32,
-            out_records: *mut u8,
-            out_records_len: usize,
-            out_names: *mut u8,
-            out_names_len: usize,
-            out_identifiers: *mut u8,
-            out_identifiers_len: usize,
-        ) -> Changed;
-        fn braidhurdle_find_name(
-            records: *const u8,
-            records_len: usize,
-            pool: *const u8,
-            pool_len: usize,
-            name: *const u8,
-            name_len: usize,
-        ) -> Found;
-        fn braidhurdle_find_id(
-            records: *const u8,
-            records_len: usize,
-            pool: *const u8,
-            pool_len: usize,
-            id: i32,
-        ) -> Found;
-        fn braidhurdle_find_parent(
-            records: *const u8,
-            records_len: usize,
-            pool: *const u8,
-            pool_len: usize,
-            id: i32,
-        ) -> Found;
-    }
+function! {
+    /// Keeps the selected columns. `full`: not 0 keeps a chosen column's whole type.
+    prune is braidhurdle_prune(records pool selected; full: u32;; out_records out_names) -> Changed
 }
-
-/// Drops and adds columns. Ids are handed out from `last_id` + 1.
-#[allow(clippy::too_many_arguments)] // the C function's own list
-pub fn update(
-    records: &[u8],
-    pool: &[u8],
-    identifiers: &[u8],
-    last_id: i32,
-    deletions: &[u8],
-    additions: &[u8],
-    added_records: &[u8],
-    request_pool: &[u8],
-    out_records: &mut [u8],
-    out_names: &mut [u8],
-) -> Changed {
-    // SAFETY: as said above, for all six.
-    unsafe {
-        archive::braidhurdle_update(
-            records.as_ptr(),
-            records.len(),
-            pool.as_ptr(),
-            pool.len(),
-            identifiers.as_ptr(),
-            identifiers.len(),
-            last_id,
-            deletions.as_ptr(),
-            deletions.len(),
-            additions.as_ptr(),
-            additions.len(),
-            added_records.as_ptr(),
-            added_records.len(),
-            request_pool.as_ptr(),
-            request_pool.len(),
-            out_records.as_mut_ptr(),
-            out_records.len(),
-            out_names.as_mut_ptr(),
-            out_names.len(),
-        )
-    }
+function! {
+    /// Numbers every column anew from `start` on; identifiers are mapped in the order given.
+    renumber is braidhurdle_renumber(
+        records pool identifiers; start: i32;; out_records out_names out_identifiers
+    ) -> Changed
 }
-
-/// Keeps the selected columns. `full`: not 0 keeps a chosen column's whole type.
-pub fn prune(
-    records: &[u8],
-    pool: &[u8],
-    selected: &[u8],
-    full: u32,
-    out_records: &mut [u8],
-    out_names: &mut [u8],
-) -> Changed {
-    // SAFETY: as said above, for all six.
-    unsafe {
-        archive::braidhurdle_prune(
-            records.as_ptr(),
-            records.len(),
-            pool.as_ptr(),
-            pool.len(),
-            selected.as_ptr(),
-            selected.len(),
-            full,
-            out_records.as_mut_ptr(),
-            out_records.len(),
-            out_names.as_mut_ptr(),
-            out_names.len(),
-        )
-    }
+function! {
+    /// The column of a full name, or else of a short name.
+    find_name is braidhurdle_find_name(records pool name;;;) -> Found
 }
-
-/// Numbers every column anew from `start` on; identifiers are mapped in the order given.
-pub fn renumber(
-    records: &[u8],
-    pool: &[u8],
-    identifiers: &[u8],
-    start: i32,
-    out_records: &mut [u8],
-    out_names: &mut [u8],
-    out_identifiers: &mut [u8],
-) -> Changed {
-    // SAFETY: as said above, for all six.
-    unsafe {
-        archive::braidhurdle_renumber(
-            records.as_ptr(),
-            records.len(),
-            pool.as_ptr(),
-            pool.len(),
-            identifiers.as_ptr(),
-            identifiers.len(),
-            start,
-            out_records.as_mut_ptr(),
-            out_records.len(),
-            out_names.as_mut_ptr(),
-            out_names.len(),
-            out_identifiers.as_mut_ptr(),
-            out_identifiers.len(),
-        )
-    }
+function! {
+    /// The column of an id.
+    find_id is braidhurdle_find_id(records pool; id: i32;;) -> Found
 }
-
-/// The column of a full name, or else of a short name.
-pub fn find_name(records: &[u8], pool: &[u8], name: &[u8]) -> Found {
-    // SAFETY: as said above, for all six.
-    unsafe {
-        archive::braidhurdle_find_name(
-            records.as_ptr(),
-            records.len(),
-            pool.as_ptr(),
-            pool.len(),
-            name.as_ptr(),
-            name.len(),
-        )
-    }
-}
-
-/// The column of an id.
-pub fn find_id(records: &[u8], pool: &[u8], id: i32) -> Found {
-    // SAFETY: as said above, for all six.
-    unsafe {
-        archive::braidhurdle_find_id(records.as_ptr(), records.len(), pool.as_ptr(), pool.len(), id)
-    }
-}
-
-/// The column above that of an id.
-pub fn find_parent(records: &[u8], pool: &[u8], id: i32) -> Found {
-    // SAFETY: as said above, for all six.
-    unsafe {
-        archive::braidhurdle_find_parent(
-            records.as_ptr(),
-            records.len(),
-            pool.as_ptr(),
-            pool.len(),
-            id,
-        )
-    }
+function! {
+    /// The column above that of an id.
+    find_parent is braidhurdle_find_parent(records pool; id: i32;;) -> Found
 }

@@ -70,6 +70,11 @@ impl Tree {
         self.lent().columns()
     }
 
+    /// The column at a slot, or why the tree is refused. A slot behind the last has none.
+    pub fn column(&self, slot: Slot) -> Result<Option<Column<'_>>, Refusal> {
+        Ok(self.columns()?.nth(slot.0 as usize))
+    }
+
     /// The roots with all that is inside them, as [`Tree::build`] takes them, or why the tree is
     /// refused.
     pub fn fields(&self) -> Result<Vec<Field>, Refusal> {

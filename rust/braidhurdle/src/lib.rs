@@ -65,8 +65,8 @@
 //!
 //! # Without the heap
 //!
-//! [`TreeRef`] and [`RequestRef`] are the same on lent bytes, and a [`Room`] holds the answer. It is
-//! made once and used again and again; no call allocates.
+//! [`TreeRef`] and [`RequestRef`] are the same on lent bytes, and a [`Room`] holds the answer. It
+//! is made once and used again and again; no call allocates.
 //!
 //! ```
 //! # use braidhurdle::{Field, FieldId, Tree};
@@ -75,7 +75,8 @@
 //! # let (records, pool) = (&tree.records[..], &tree.pool[..]);
 //!
 //! let mut room = Room::boxed();
-//! let kept: TreeRef = TreeRef::new(records, pool).prune_in(&[FieldId(1)], Mode::Plain, &mut room)?;
+//! let tree = TreeRef::new(records, pool);
+//! let kept: TreeRef = tree.prune_in(&[FieldId(1)], Mode::Plain, &mut room)?;
 //! assert_eq!(kept.columns()?.len(), 1);
 //! # Ok::<(), Box<dyn std::error::Error>>(())
 //! ```
@@ -84,9 +85,10 @@
 //!
 //! # The archive
 //!
-//! The build takes `libbraidhurdle.a` from the folder that the variable `BRAIDHURDLE_ARCHIVE` names;
-//! else from `target/staticlib` of the checkout that this crate stands in; else it has the toolchain
-//! make it there, which proves the library first and takes minutes. `docs/GUIDE.md` has the steps.
+//! The build takes `libbraidhurdle.a` from the folder that the variable `BRAIDHURDLE_ARCHIVE`
+//! names; else from `target/staticlib` of the checkout that this crate stands in; else it has the
+//! toolchain make it there, which proves the library first and takes minutes. `docs/GUIDE.md` has
+//! the steps.
 #![no_std]
 #![deny(missing_docs)]
 #![deny(unsafe_code)]

@@ -31,7 +31,8 @@ pub struct Refusal {
 /// 01's words, by number from 1 on.
 const MEANINGS: [&str; 20] = [
     "an output buffer is below its size",
-    "a limit on an input count, length or name sum is passed, or a list is no whole number of records",
+    "a limit on an input count, length or name sum is passed, or a list is no whole number of \
+     records",
     "a byte rule of a record or entry is broken",
     "a name or path has offset + length above its pool's length",
     "level 17 is reached, or counts need records past the end",

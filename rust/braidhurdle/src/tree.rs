@@ -15,8 +15,8 @@ pub struct Tree {
     pub pool: Vec<u8>,
 }
 
-/// A tree whose bytes are lent: what [`Tree`] owns, or a part of a file or a [`Room`]. Nothing that
-/// is asked of it allocates.
+/// A tree whose bytes are lent: what [`Tree`] owns, or a part of a file or a [`Room`]. No look-up
+/// and no change of it allocates.
 #[derive(Clone, Copy, Debug, Default, PartialEq, Eq, Hash)]
 pub struct TreeRef<'a> {
     /// The records, 24 bytes each.
@@ -65,20 +65,24 @@ impl Tree {
         TreeRef { records: &self.records, pool: &self.pool }
     }
 
-    /// Drops and adds columns.
+    /// Drops and adds columns. New ones come behind those that stay, in the order of the request.
+    /// Refusals 2 to 19.
     pub fn update(&self, request: &Request) -> Result<Updated, Refusal> {
         let mut room = Room::boxed();
         let Updated { tree, last_id } = self.lent().update_in(request.lent(), &mut room)?;
         Ok(Updated { tree: tree.to_tree(), last_id })
     }
 
-    /// Keeps the chosen columns. Ids that the tree has not are ignored.
+    /// Keeps the chosen columns and what stands above them. Ids that the tree has not are ignored.
+    /// Refusals 2 to 8 and 20.
     pub fn prune(&self, chosen: &[FieldId], mode: Mode) -> Result<Tree, Refusal> {
         let mut room = Room::boxed();
         Ok(self.lent().prune_in(chosen, mode, &mut room)?.to_tree())
     }
 
-    /// Numbers every column anew from `start` on, and maps the identifiers in the order given.
+    /// Numbers every column anew from `start` on, and maps the identifiers in the order given. The
+    /// old ids then mean nothing: no data file that carries them fits the new tree. Refusals 2 to 9
+    /// and 18.
     pub fn renumber(&self, start: FieldId, identifiers: &[FieldId]) -> Result<Renumbered, Refusal> {
         let mut room = Room::boxed();
         let renumbered = self.lent().renumber_in(start, identifiers, &mut room)?;
@@ -88,17 +92,19 @@ impl Tree {
         })
     }
 
-    /// The column of a full name, or else of a short name.
+    /// The column of a full name, or else of a short name, which leaves out the structs that are a
+    /// list's element or a map's value: `visits.day` finds `visits.element.day`. Any bytes are a
+    /// name. Refusals 2 to 8.
     pub fn find_name(&self, name: impl AsRef<[u8]>) -> Result<Option<(FieldId, Slot)>, Refusal> {
         self.lent().find_name(name)
     }
 
-    /// The slot of an id.
+    /// The slot of an id. Refusals 2 to 8.
     pub fn find_id(&self, id: FieldId) -> Result<Option<Slot>, Refusal> {
         self.lent().find_id(id)
     }
 
-    /// The column above that of an id. A root and an unknown id have none.
+    /// The column above that of an id. A root and an unknown id have none. Refusals 2 to 8.
     pub fn find_parent(&self, id: FieldId) -> Result<Option<(FieldId, Slot)>, Refusal> {
         self.lent().find_parent(id)
     }

@@ -1,4 +1,4 @@
-//! The calls as they are.
+//! The calls as they are. The judge shares no type with what it judges, so the numbers are copied.
 
 use braidhurdle::c;
 use cases::Operations;
@@ -7,13 +7,13 @@ use judge::{Changed, Found};
 /// The port.
 pub struct Port;
 
-/// The same numbers, as the judge has them.
+/// The numbers, as the judge has them.
 fn changed(c: c::Changed) -> Changed {
     let c::Changed { refusal, list, place, records, names, last_id } = c;
     Changed { refusal, list, place, records, names, last_id }
 }
 
-/// The same numbers, as the judge has them.
+/// The numbers, as the judge has them.
 fn found(f: c::Found) -> Found {
     let c::Found { refusal, list, place, found, id, slot } = f;
     Found { refusal, list, place, found, id, slot }

@@ -5,18 +5,10 @@ use cases::Random;
 
 use crate::t::t;
 
-/// Bytes without any sense; small values are common, and half the lists are whole.
-fn noise(random: &mut Random, unit: usize) -> Vec<u8> {
-    let parts = random.below(6);
-    let loose = if random.chance(1, 2) { random.below(unit) } else { 0 };
-    let most = *random.pick(&[2, 4, 30, 256]);
-    (0..parts * unit + loose).map(|_| random.below(most) as u8).collect()
-}
-
 /// T with some of its bytes changed, or bytes without any sense.
 fn any_tree(random: &mut Random) -> Tree {
     if random.chance(1, 3) {
-        return Tree::new(noise(random, 24), noise(random, 40));
+        return Tree::new(random.noise(24), random.noise(40));
     }
     let mut tree = t();
     for _ in 0..random.below(4) {
@@ -46,12 +38,12 @@ fn no_bytes_are_without_an_answer() {
             used(tree.lent());
             accepted += 1;
         }
-        let _ = tree.find_name(noise(&mut random, 3));
+        let _ = tree.find_name(random.noise(3));
         let _ = tree.find_parent(id);
         let mode = if random.chance(1, 2) { Mode::Plain } else { Mode::Full };
         let _ = tree.lent().prune_in(&[id], mode, &mut room).map(used);
         let _ = tree.lent().renumber_in(id, &[id], &mut room).map(|answer| used(answer.tree));
-        let parts: [Vec<u8>; 5] = [4, 8, 8, 24, 40].map(|unit| noise(&mut random, unit));
+        let parts: [Vec<u8>; 5] = [4, 8, 8, 24, 40].map(|unit| random.noise(unit));
         let [identifiers, deletions, additions, added_records, pool] = &parts;
         let request = RequestRef {
             last_id: FieldId(random.any_id()),

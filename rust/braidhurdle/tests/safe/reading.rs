@@ -43,7 +43,9 @@ fn parents_and_full_names_are_those_of_the_look_ups() -> Result<(), Box<dyn std:
         assert_eq!(tree.find_parent(column.id)?, column.parent);
         assert_eq!(tree.find_name(column.full_name())?, Some((column.id, column.slot)));
         assert_eq!(tree.find_id(column.id)?, Some(column.slot));
+        assert_eq!(tree.column(column.slot)?, Some(column));
     }
+    assert_eq!(tree.column(Slot(10))?, None);
     Ok(())
 }
 
@@ -60,7 +62,7 @@ fn the_fields_of_a_tree_build_the_same_tree() -> Result<(), Box<dyn std::error::
 #[test]
 fn a_name_is_the_very_part_of_the_pool() -> Result<(), Box<dyn std::error::Error>> {
     let tree = t();
-    let visits = tree.columns()?.nth(3).expect("T has ten columns");
+    let visits = tree.column(Slot(3))?.expect("T has ten columns");
     assert!(std::ptr::eq(visits.name, &tree.pool[14..20]));
     Ok(())
 }
@@ -70,4 +72,15 @@ fn an_empty_tree_has_no_columns_and_a_refused_one_says_why() {
     assert_eq!(Tree::default().columns().map(|columns| columns.len()), Ok(0));
     let refusal = Tree::new(t().records, vec![]).columns().map(|_| ()).unwrap_err();
     assert_eq!((refusal.number, refusal.list, refusal.place), (4, 0, 0));
+}
+
+#[test]
+fn equal_columns_are_equal_whatever_stands_before_them() -> Result<(), Box<dyn std::error::Error>> {
+    let behind = |member: &str| {
+        let before = Field::structure("s", [primitive(2, member)]).id(FieldId(1));
+        Tree::build(&[before, primitive(3, "same")])
+    };
+    assert_eq!(behind("x")?.column(Slot(2))?, behind("y")?.column(Slot(2))?);
+    assert_ne!(behind("x")?.column(Slot(1))?, behind("y")?.column(Slot(1))?);
+    Ok(())
 }
