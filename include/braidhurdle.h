@@ -20,7 +20,8 @@
  *   0-3 id, signed            9  kind: 0 primitive, 1 struct, 2 list, 3 map     12-13 direct children
  *   4-7 name offset           10 bit 0 required, bit 1 has an initial default   16-19 type code, 0 unless primitive
  *   8   name length           11 is 0                                          20-23 attribute number (14-15 are 0)
- * A path entry is 8 bytes: offset (4), length (2), has-path 0 or 1 (1), then 0 (1). A list of ids is 4 bytes an id.
+ * A path entry is 8 bytes: offset (4), length (2), has-path (1), then 0 (1). has-path is 1; or 0, with offset and length 0, for
+ * an addition at the root. A list of ids is 4 bytes an id.
  *
  * Limits: 1,024 records, 16 levels, 32,768 bytes in a pool, 32,768 as the sum of a tree's name lengths, 64 deletions, 64
  * additions, 64 identifiers, 1,024 selected ids.
