@@ -48,9 +48,8 @@ fn figures(row: &Row, iceberg: Option<Iceberg>) -> String {
     let ours = port::absent().is_none().then(|| timed(&mut room, row, &Port));
     let theirs = iceberg.filter(|_| row.crate_too).map(|i| time(|| i.operate(&row.case)));
     let copy = time(|| room.copy(&row.case));
-    let shown = |time: Option<f64>| {
-        time.map_or(format!("{:>12}", "-"), |t| format!("{:>12.3}", t / 1e3))
-    };
+    let shown =
+        |time: Option<f64>| time.map_or(format!("{:>12}", "-"), |t| format!("{:>12.3}", t / 1e3));
     let ratio = ours.zip(theirs).map_or("-".into(), |(o, t)| format!("{:.1}", t / o));
     format!("{}{}{ratio:>9}{:>9.3}", shown(ours), shown(theirs), copy / 1e3)
 }
