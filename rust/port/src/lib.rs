@@ -1,9 +1,11 @@
 //! The port's C functions, for the comparison and the benchmark. What has not landed in the
 //! archive answers none; nothing here changes when it lands.
 
+mod beside;
 mod guarded;
 mod plain;
 
+pub use beside::{beside, beside_paper};
 pub use guarded::Guarded;
 pub use plain::Port;
 
