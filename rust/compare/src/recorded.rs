@@ -89,8 +89,7 @@ fn held(recorded: &Recorded, iceberg: Option<Iceberg>) -> Result<(), String> {
     if now != recorded.answer {
         return Err(format!("recorded {:?}\nnow {now:?}", recorded.answer));
     }
-    let (agreed, _) = check(&recorded.case, iceberg)?;
-    match agreed {
+    match check(&recorded.case, iceberg)?.agreed {
         Some(Agreement::Same) if recorded.judge != Judge::Both => {
             Err("the crate gives this answer too".into())
         }
