@@ -42,7 +42,10 @@ impl std::ops::AddAssign for Counts {
 
 impl fmt::Display for Counts {
     fn fmt(&self, f: &mut fmt::Formatter<'_>) -> fmt::Result {
-        self.0.iter().try_for_each(|count| write!(f, "{count:>9}"))
+        self.0.iter().try_for_each(|count| match count {
+            0 => write!(f, "{:>9}", "-"),
+            _ => write!(f, "{count:>9}"),
+        })
     }
 }
 

@@ -6,13 +6,14 @@ use std::sync::Mutex;
 use std::sync::atomic::{AtomicU64, Ordering};
 
 use cases::{
-    Answer, ByJudge, Case, Counts, Generator, Judge, OPERATIONS, Operations, Recorded, Tally,
-    answer, outcome, shown, shrink, write_line,
+    Answer, ByJudge, Case, Counts, Generator, OPERATIONS, Operations, Tally, answer, outcome,
+    shown, shrink,
 };
 use oracle::Iceberg;
 use port::{Guarded, Port, beside};
 
 use crate::agree::{Agreement, LISTED, agreement, not_the_crates};
+use crate::recorded::line;
 
 /// What a run met.
 #[derive(Clone, Debug, Default, PartialEq, Eq)]
@@ -96,11 +97,6 @@ fn checked_by<O: Operations>(
         _ => false,
     };
     Ok(Shown { paper, agreed, port })
-}
-
-fn line(case: &Case) -> String {
-    let recorded = Recorded { case: case.clone(), judge: Judge::Paper, answer: answer(case) };
-    write_line(&recorded)
 }
 
 /// Cases that a thread takes at a time.
@@ -195,7 +191,7 @@ impl Run {
         let least = shrink(&case, &|case| why(case).is_some());
         let why = why(&case).expect("it parted before");
         let why = format!("seed {}, case {number}\n{why}", self.generator.seed);
-        Failure { number, why, line: line(&case), shrunk: line(&least) }
+        Failure { number, why, line: line(case, iceberg).0, shrunk: line(least, iceberg).0 }
     }
 }
 

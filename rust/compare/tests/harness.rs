@@ -1,7 +1,7 @@
 //! The comparison finds what is wrong with a port.
 
 use cases::{Ask, ByJudge, Generator, Operations, Sizes, named, outcome, read_line};
-use compare::Run;
+use compare::{Run, iceberg, replay};
 use judge::{Changed, Found, RECORD_BYTES};
 use port::{Guarded, beside_paper};
 
@@ -148,7 +148,7 @@ fn a_run_shows_the_first_failing_case_whole_and_shrunk() {
     let generator = Generator { seed: 3, sizes: Sizes::Usual };
     let failure = |threads| {
         let run = Run { threads, ..Run::new(generator, 0, 50_000) };
-        run.report_by(None, || Some(wrong())).expect_err("a wrong slot is seen")
+        run.report_by(iceberg(), || Some(wrong())).expect_err("a wrong slot is seen")
     };
     let (one, three) = (failure(1), failure(3));
     assert_eq!((one.number, &one.shrunk), (three.number, &three.shrunk));
@@ -162,6 +162,9 @@ fn a_run_shows_the_first_failing_case_whole_and_shrunk() {
     let least = read_line(&one.shrunk).expect("a line of the recorded format");
     assert!(beside_paper(&least.case, &Guarded::new(wrong())).is_err());
     assert_ne!(outcome(&least.case, &wrong()), outcome(&least.case, &ByJudge));
+    // the lines replay: nobody else parts on them
+    let lines = format!("{}\n{}\n", one.line, one.shrunk);
+    assert_eq!(replay(&lines, iceberg()), Ok(2));
     // twelve records, and the inside of some map that can't be left out
     assert!((12..=16).contains(&(least.case.records.len() / RECORD_BYTES)), "{}", one.shrunk);
 }
