@@ -91,8 +91,8 @@ fn parent(given: &Given, id: FieldId) -> Result<Vec<u8>, Fault> {
 
 /// A column that was found: id, slot, full name.
 fn column(given: &Given, slot: Slot) -> Result<Vec<u8>, Fault> {
-    let mut columns = given.tree.columns().map_err(|why| given.refused(why))?;
-    let column = columns.nth(slot.0 as usize).expect("a slot that was found");
+    let column = given.tree.column(slot).map_err(|why| given.refused(why))?;
+    let column = column.expect("a slot that was found");
     let name = names::shown(&column.full_name());
     Ok(format!("id {} slot {slot} {name}\n", column.id).into())
 }
