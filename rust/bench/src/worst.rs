@@ -4,7 +4,7 @@
 use std::collections::HashMap;
 
 use cases::{Ask, Case, packed, prim, strukt, update_of};
-use judge::{LEVELS, MOST_RECORDS, NAME_SUM, Node};
+use judge::{LEVELS, MOST_RECORDS, Node};
 
 use crate::rows::Row;
 use crate::schemas::numbered;
@@ -35,7 +35,7 @@ fn word(n: usize, letters: usize) -> Vec<u8> {
 
 /// So many words of eight letters that share a hash. The last three letters are looked up: what
 /// they add to the hash is what the first five leave open.
-fn names_of_one_hash(count: usize) -> Vec<Vec<u8>> {
+fn words_of_one_hash(count: usize) -> Vec<Vec<u8>> {
     let ends: HashMap<u32, usize> = (0..1 << 18).map(|n| (hash(&word(n, 3), 0), n)).collect();
     let carried = FACTOR.wrapping_pow(3);
     let name = |n: usize| {
@@ -50,40 +50,51 @@ fn text(name: &[u8]) -> &str {
     str::from_utf8(name).expect("letters")
 }
 
-/// Chains of fifteen levels, under each the same leaves. All leaves have full names of one hash
-/// and one length; the chains differ in the first bytes of their roots alone, and full names
-/// are compared from their ends.
-fn chains(count: usize, name_bytes: usize, names: &[Vec<u8>]) -> Vec<Node> {
-    let leaves = (MOST_RECORDS - count * (LEVELS - 1)) / count;
-    let long = |start: &[u8]| format!("{}{}", text(start), "x".repeat(name_bytes - start.len()));
-    let mut roots: Vec<Node> = vec![];
-    for root in &names[..count] {
-        let inside = names[..leaves].iter().map(|name| prim(0, text(name))).collect();
-        let chain = (2..LEVELS - 1)
-            .fold(strukt(0, &long(b""), inside), |inside, _| strukt(0, &long(b""), vec![inside]));
-        roots.push(strukt(0, &long(root), vec![chain]));
-    }
-    numbered(roots)
+/// A word made longer, to so many bytes.
+fn long(word: &[u8], bytes: usize) -> String {
+    format!("{}{}", text(word), "x".repeat(bytes - word.len()))
+}
+
+/// Chains of structs, under each the same leaves; every name of a chain and of a leaf has so many
+/// bytes. All leaves have full names of one hash and one length. Full names are compared from
+/// their ends, and names differ at their front alone, the chains only at their roots.
+fn chains(
+    count: usize,
+    levels: usize,
+    [chain_bytes, leaf_bytes]: [usize; 2],
+    words: &[Vec<u8>],
+) -> Vec<Node> {
+    let leaves = MOST_RECORDS / count - levels;
+    let leaf = |word: &Vec<u8>| prim(0, &long(word, leaf_bytes));
+    let chain = |root: &Vec<u8>| {
+        let leaves = words[..leaves].iter().map(leaf).collect();
+        let inner = |inside, _| vec![strukt(0, &long(b"", chain_bytes), inside)];
+        strukt(0, &long(root, chain_bytes), (1..levels).fold(leaves, inner))
+    };
+    numbered(words[..count].iter().map(chain).collect())
 }
 
 /// The worst cases that are known, each with the operation that is timed.
 pub fn worst() -> Vec<Row> {
-    let names = names_of_one_hash(MOST_RECORDS);
+    let words = words_of_one_hash(MOST_RECORDS);
     let ids = ids_of_one_bucket(MOST_RECORDS);
     let column = |(n, id): (usize, &i32)| prim(*id, &format!("column_{n}"));
     let one_bucket: Vec<Node> = ids.iter().enumerate().map(column).collect();
-    let one_hash = numbered(names.iter().map(|name| prim(0, text(name))).collect());
-    let four = chains(4, 250, &names);
-    // as long as the name sum lets them be, where each leaf has eight bytes
-    let ten = chains(10, (NAME_SUM - 8 * (MOST_RECORDS - 150)) / 150, &names);
-    let look_up = |what, base: &[Node]| row(what, asked(base));
+    // siblings are compared from their fronts, so these differ at their ends
+    let end = |word: &Vec<u8>| prim(0, &format!("{}{}", "x".repeat(24), text(word)));
+    let one_hash = numbered(words.iter().map(end).collect());
+    let deep = chains(4, LEVELS - 1, [250, 16], &words);
+    let wide = chains(32, 1, [8, 32], &words);
+    let gone = format!("{}.{}", text(&words[31]), long(&words[30], 32));
     let fresh = [(None, prim(0, "fresh"))];
+    let updated = update_of(&wide, &[], MOST_RECORDS as i32, &[&gone], &fresh);
+    let look_up = |what, base: &[Node]| row(what, asked(base));
     vec![
         look_up("all ids in one bucket", &one_bucket),
-        look_up("1,024 root names of one hash and one length", &one_hash),
-        look_up("4 chains, under each the same 241 leaves", &four),
-        look_up("10 chains, under each the same 87 leaves", &ten),
-        row("the same 10, an update with an addition", update_of(&ten, &[], 1_024, &[], &fresh)),
+        look_up("1,024 root names of one hash", &one_hash),
+        look_up("4 chains of 15 levels, the same 241 leaves", &deep),
+        look_up("32 structs, the same 31 leaves", &wide),
+        row("the same, 1 deletion and 1 addition", updated),
     ]
 }
 
