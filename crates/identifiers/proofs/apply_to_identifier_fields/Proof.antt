@@ -69,7 +69,7 @@ loop-less c = search (mapping, needs)
 
 -- src/lib.rt:37:5
 loop-again : tie.Need-loop-again Inv-loop μ-loop
-loop-again c = (mapping-goes _ _ _ _ _ _ _ (c .before .before .before .before .before .before .before .before .before .before .before .before .before .pre) _ _ refl (c .before .before .before .before .before .before .before .before .before .loop-test .taken) _ (c .before .before .before .before .before .before .before .before .before .before .loop .inv .0) _ (c .before .before .before .before .before .before .before .before .id-at .ensures .1) _ (c .before .before .before .before .before .before .before .find-id .ensures) _ _ _ refl (c .before .before .before .before .before .id-bytes .ensures .1) (c .before .before .before .before .before .id-bytes .ensures .0) (c .before .before .put-bytes .ensures), omega arith)
+loop-again c = (mapping-goes _ _ _ _ _ _ _ (c .before .before .before .before .before .before .before .before .before .before .before .before .before .pre) _ _ refl (c .before .before .before .before .before .before .before .before .before .loop-test .taken) _ (c .before .before .before .before .before .before .before .before .before .before .loop .inv .0) _ (c .before .before .before .before .before .before .before .before .id-at .ensures .1) _ (c .before .before .before .before .before .before .before .find-id .ensures) _ _ _ (search (mapping, needs)) (c .before .before .before .before .before .id-bytes .ensures .1) (c .before .before .before .before .before .id-bytes .ensures .0) (c .before .before .put-bytes .ensures), omega arith)
 
 -- src/lib.rt:23:1
 same-length : tie.Need-same-length Inv-loop μ-loop

@@ -20,6 +20,6 @@ resolve-parent-target-spec =
     (λ c κs. let p = c .before .before .before .before .before .pre in let v = c .value-at .ensures in omega (arith, v .1, p .0 .whole))  -- as-struct-requires-2
     (λ c. to-nothing _ _ _ _ (c .before .before .kind-at .ensures) (c .enum-told .given .1))  -- returns
     (λ c. to-itself _ _ _ _ (c .before .before .kind-at .ensures) (c .enum-told2 .given .1))  -- returns-2
-    (λ c. to-element _ _ _ _ (c .before .before .before .kind-at .ensures) _ (c .before .enum-told3 .given .1) (c .as-struct .ensures))  -- returns-3
+    (λ c. to-element _ _ _ _ (c .before .before .before .kind-at .ensures) _ (c .before .enum-told3 .given .1) (search needs))  -- returns-3
     (λ c. to-value _ _ _ _ (c .before .before .before .before .kind-at .ensures) _ _ (c .before .before .enum-told4 .given .1) (c .before .value-at .ensures .0) (c .as-struct2 .ensures))  -- returns-4
     )

@@ -12,7 +12,7 @@ write-sound-spec =
     (tie.spec
     (λ c κs. let p = c .before .before .before .before .before .before .before .before .before .before .before .before .before .before .pre in (p .0, (record { heads = length-replicate {A = ℕ} 1024 0; next = length-replicate {A = ℕ} 1024 0; ups = length-replicate {A = ℕ} 1024 0; lens = length-replicate {A = ℕ} 1024 0; hashes = length-replicate {A = ℕ} 1024 0; name-firsts = length-replicate {A = ℕ} 1024 0; name-links = length-replicate {A = ℕ} 1024 0 }, p .1)))  -- index-plan-requires
     (λ c. search needs)  -- enum-known-sound
-    (λ c. sound-stops _ _ _ _ _ _ _ _ _ (c .before .before .before .before .before .before .before .before .before .before .before .before .before .before .before .before .before .before .pre .0) _ _ _ _ _ _ _ _ (c .before .before .before .index-plan .ensures) _ (c .before .sound .given .1))  -- returns
+    (λ c. search (sound-stops, needs))  -- returns
     (λ c. search needs)  -- enum-told
     (λ c κs. search needs)  -- write-plan-requires
     (λ c. record { fits = records-fit _ _ _ _ _ (c .before .before .before .before .before .before .before .before .before .before .before .before .before .before .before .before .before .before .before .before .before .before .before .before .pre .0) })  -- cast-t34
