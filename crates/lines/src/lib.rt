@@ -18,13 +18,13 @@ ghost use Rattle.lines.specs.Digits.{Ends, Put};
 ghost use Rattle.lines.specs.Text.{above, numbers, line-at, joined, refusal-text, Shown};
 
 // Decimal digits, at the end of ten bytes.
-pub struct Digits {
-    pub bytes: [u8; 10],
-    pub start: usize,
+struct Digits {
+    bytes: [u8; 10],
+    start: usize,
 }
 
 // The digits of a number.
-pub fn digits_of(number: u32) -> Digits
+fn digits_of(number: u32) -> Digits
     ensures { λ r. ⌜ Ends (decimal number) r ⌝ }
 {
     let mut bytes = [48u8; 10];
@@ -43,7 +43,7 @@ pub fn digits_of(number: u32) -> Digits
 }
 
 // A number in decimal from `at` on, and the place behind it.
-pub fn put_decimal(out: &mut [u8], at: usize, number: u32) -> usize
+fn put_decimal(out: &mut [u8], at: usize, number: u32) -> usize
     requires { ⌜ at + 10 ≤ length (now out) ⌝ }
     ensures { λ r. ⌜ Put (decimal number) at (now (out .entry)) r (now (out .exit)) × (r ≤ at + 10) ⌝ }
 {
@@ -55,7 +55,7 @@ pub fn put_decimal(out: &mut [u8], at: usize, number: u32) -> usize
 }
 
 // An id as the signed number that it is.
-pub fn put_signed(out: &mut [u8], at: usize, id: u32) -> usize
+fn put_signed(out: &mut [u8], at: usize, id: u32) -> usize
     requires { ⌜ at + 11 ≤ length (now out) ⌝ }
     ensures { λ r. ⌜ Put (signed (turned id)) at (now (out .entry)) r (now (out .exit)) × (r ≤ at + 11) ⌝ }
 {
@@ -74,7 +74,7 @@ fn span(x: u16) -> usize
 }
 
 // The full name of a slot from `at` on: its own name at the end, then the names above it, each before a dot.
-pub fn put_full<'a>(
+fn put_full<'a>(
     pool: &'a [u8],
     base: &[u8],
     request: &'a [u8],
@@ -134,7 +134,7 @@ fn put_numbers(out: &mut [u8], ids: &[u32; 1024], slot: usize, up: usize) -> usi
 }
 
 // The line of a slot at the start of the buffer, and its length.
-pub fn put_line(
+fn put_line(
     records: &[u8],
     pool: &[u8],
     slots: &[u16; 1024],

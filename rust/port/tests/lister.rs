@@ -70,7 +70,7 @@ fn listed(text: &str) -> Left {
 }
 
 fn refused(line: &str) -> Left {
-    Left { status: 1, written: line.as_bytes().to_vec(), said: String::new() }
+    Left { status: 2, written: line.as_bytes().to_vec(), said: String::new() }
 }
 
 /// The second judge's listing.
@@ -172,7 +172,7 @@ fn a_listing_of_four_million_bytes_is_written_whole() {
 #[test]
 fn a_file_that_cant_be_read_is_named_and_nothing_is_listed() {
     let Some(room) = Room::new("missing") else { return };
-    let said = |said: &str| Left { status: 2, written: vec![], said: said.into() };
+    let said = |said: &str| Left { status: 3, written: vec![], said: said.into() };
     assert_eq!(room.run(&[]), said("tree.rec: No such file or directory\n"));
     room.put("tree.rec", &p8().0);
     assert_eq!(room.run(&[]), said("tree.names: No such file or directory\n"));

@@ -20,5 +20,5 @@ put-line-spec =
     (λ c. search needs)  -- slice-write-out
     (λ c. search needs)  -- add-result
     (λ c. simp length-set (c .before .before .put-full .kept .1 .1 .1 .1 .1 .1 .1 .1 .1 .0 ∙ c .before .before .before .before .before .before .put-numbers .kept .0))  -- same-length
-    (λ c. (put-line _ _ _ _ _ _ _ _ _ _ _ (c .before .before .before .before .before .before .before .place .ensures) (c .before .before .before .before .before .before .put-numbers .ensures .0) (c .before .before .put-full .ensures .0), omega arith))  -- returns
+    (λ c. (search (put-line, needs), omega arith))  -- returns
     )

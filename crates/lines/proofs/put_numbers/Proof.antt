@@ -25,5 +25,5 @@ put-numbers-spec =
     (λ c. omega (arith, (simp length-set at (c .before .before .put-parent .kept .0)), (simp length-set at (c .before .before .before .before .before .before .put-signed .kept .0))))  -- slice-write-out-3
     (λ c. search needs)  -- add-result
     (λ c. simp length-set ((simp length-set at (c .before .before .put-parent .kept .0)) ∙ (simp length-set at (c .before .before .before .before .before .before .put-signed .kept .0)) ∙ c .before .before .before .before .before .before .before .before .before .before .before .put-decimal .kept .0))  -- same-length
-    (λ c. (put-numbers _ _ _ _ _ _ _ _ _ _ (c .before .before .before .before .before .before .before .before .before .before .before .put-decimal .ensures .0) (c .before .before .before .before .before .before .put-signed .ensures .0) (c .before .before .put-parent .ensures .0), omega arith))  -- returns
+    (λ c. (search (put-numbers, needs), omega arith))  -- returns
     )

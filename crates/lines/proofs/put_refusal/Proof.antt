@@ -25,5 +25,5 @@ put-refusal-spec =
     (λ c. omega (arith, (simp length-set at (c .before .before .put-decimal3 .kept .0))))  -- slice-write-out-2
     (λ c. search needs)  -- add-result
     (λ c. simp length-set ((simp length-set at (c .before .before .put-decimal3 .kept .0)) ∙ c .before .before .before .before .before .before .put-decimal2 .kept .0 ∙ c .before .before .before .before .before .before .before .before .before .before .put-bytes2 .kept .0 ∙ c .before .before .before .before .before .before .before .before .before .before .before .before .before .before .before .put-decimal .kept .0 ∙ c .before .before .before .before .before .before .before .before .before .before .before .before .before .before .before .before .before .before .before .put-bytes .kept .0))  -- same-length
-    (λ c. (put-refusal _ _ _ _ _ _ _ _ _ _ (c .before .before .before .before .before .before .before .before .before .before .before .before .before .before .before .before .before .before .before .put-bytes .ensures) (c .before .before .before .before .before .before .before .before .before .before .before .before .before .before .before .put-decimal .ensures .0) (c .before .before .before .before .before .before .before .before .before .before .put-bytes2 .ensures) (c .before .before .before .before .before .before .put-decimal2 .ensures .0) (c .before .before .put-decimal3 .ensures .0), omega arith))  -- returns
+    (λ c. (search (put-refusal, needs), omega arith))  -- returns
     )
