@@ -52,11 +52,12 @@ pub fn check(case: &Case, iceberg: Option<Iceberg>) -> Shown {
             }
         }
     };
-    Ok((agreed, beside_paper(case, &Guarded::port())?))
+    let port = port::absent().is_none() && beside_paper(case, &Guarded::port())?;
+    Ok((agreed, port))
 }
 
-/// Do these operations leave what the paper leaves, in numbers and in every byte? False where
-/// the operation has not landed, and for the lister, which is none of them.
+/// Do these operations leave what the paper leaves, in numbers and in every byte? False for the
+/// lister, which is none of them.
 pub fn beside_paper<O: Operations>(case: &Case, by: &Guarded<O>) -> Result<bool, String> {
     let Some(ours) = outcome(case, by) else { return Ok(false) };
     if let Some(stray) = by.stray() {

@@ -24,10 +24,10 @@ impl Operations for Altered {
         request_pool: &[u8],
         r: &mut [u8],
         n: &mut [u8],
-    ) -> Option<Changed> {
+    ) -> Changed {
         let (d, a, t, q) = (deletions, additions, added_records, request_pool);
-        let answer = ByJudge.update(records, pool, identifiers, last_id, d, a, t, q, r, n)?;
-        Some((self.changed)(answer, r, n))
+        let answer = ByJudge.update(records, pool, identifiers, last_id, d, a, t, q, r, n);
+        (self.changed)(answer, r, n)
     }
     fn prune(
         &self,
@@ -37,9 +37,9 @@ impl Operations for Altered {
         full: u32,
         r: &mut [u8],
         n: &mut [u8],
-    ) -> Option<Changed> {
-        let answer = ByJudge.prune(records, pool, selected, full, r, n)?;
-        Some((self.changed)(answer, r, n))
+    ) -> Changed {
+        let answer = ByJudge.prune(records, pool, selected, full, r, n);
+        (self.changed)(answer, r, n)
     }
     fn renumber(
         &self,
@@ -50,18 +50,18 @@ impl Operations for Altered {
         r: &mut [u8],
         n: &mut [u8],
         i: &mut [u8],
-    ) -> Option<Changed> {
-        let answer = ByJudge.renumber(records, pool, identifiers, start, r, n, i)?;
-        Some((self.changed)(answer, r, n))
+    ) -> Changed {
+        let answer = ByJudge.renumber(records, pool, identifiers, start, r, n, i);
+        (self.changed)(answer, r, n)
     }
-    fn find_name(&self, records: &[u8], pool: &[u8], name: &[u8]) -> Option<Found> {
-        ByJudge.find_name(records, pool, name).map(self.found)
+    fn find_name(&self, records: &[u8], pool: &[u8], name: &[u8]) -> Found {
+        (self.found)(ByJudge.find_name(records, pool, name))
     }
-    fn find_id(&self, records: &[u8], pool: &[u8], id: i32) -> Option<Found> {
-        ByJudge.find_id(records, pool, id).map(self.found)
+    fn find_id(&self, records: &[u8], pool: &[u8], id: i32) -> Found {
+        (self.found)(ByJudge.find_id(records, pool, id))
     }
-    fn find_parent(&self, records: &[u8], pool: &[u8], id: i32) -> Option<Found> {
-        ByJudge.find_parent(records, pool, id).map(self.found)
+    fn find_parent(&self, records: &[u8], pool: &[u8], id: i32) -> Found {
+        (self.found)(ByJudge.find_parent(records, pool, id))
     }
 }
 
