@@ -66,7 +66,7 @@ fn put_signed(out: &mut [u8], at: usize, id: u32) -> usize
     put_decimal(out, at + 1, 4294967295 - id + 1)
 }
 
-// A length.
+// A length, which a u16 keeps below 65,536.
 fn span(x: u16) -> usize
     ensures { λ r. ⌜ (r ≡ x) × (r < 65536) ⌝ }
 {
