@@ -1,12 +1,19 @@
-//! The benchmark's table: named schemas, sizes, and the cases that are timed on them.
+//! The benchmark: named schemas, sizes, and the cases that are timed on them; cases that are
+//! built to be bad; the stack that an entry uses.
 
+mod deepest;
 mod rows;
 mod schemas;
+mod stack;
 mod timing;
+mod worst;
 
+pub use deepest::deepest;
 pub use rows::{Row, rows};
 pub use schemas::{SCHEMAS, schema};
+pub use stack::{marks, stack_used};
 pub use timing::{Room, copy_all, time};
+pub use worst::worst;
 
 /// Records in a schema.
 pub const SIZES: [usize; 3] = [10, 100, 1_024];

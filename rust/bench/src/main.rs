@@ -1,8 +1,9 @@
 //! The benchmark: for each schema, size and operation the port's time, the time of iceberg's
 //! own code from the same bytes (build and operation), how many times the port is faster, and
-//! a plain copy of the same bytes.
+//! a plain copy of the same bytes. Then the same for trees that are built to be bad, and the
+//! stack that each entry uses.
 
-use bench::{Room, Row, SCHEMAS, SIZES, rows, time};
+use bench::{Room, Row, SCHEMAS, SIZES, deepest, marks, rows, time, worst};
 use cases::Operations;
 use oracle::Iceberg;
 use port::Port;
@@ -26,16 +27,31 @@ fn main() {
     }
     for (schema, what) in SCHEMAS {
         println!("\n{schema}: {what}");
-        println!(
-            "{:>7} {:40}{:>12}{:>12}{:>9}{:>9}",
-            "records", "", "ours", "iceberg", "times", "copy"
-        );
+        heading();
         for size in SIZES {
-            for row in rows(schema, size) {
-                println!("{size:>7} {:40}{}", row.what, figures(&row, iceberg));
-            }
+            rows(schema, size).iter().for_each(|row| line(size, row, iceberg));
         }
     }
+    println!("\nbuilt to be bad: look-ups by id, and one update");
+    heading();
+    for row in worst() {
+        line(row.case.records.len() / judge::RECORD_BYTES, &row, iceberg);
+    }
+    println!("\nbytes of stack, the most of all cases tried");
+    if port::absent().is_none() {
+        marks(deepest(), &Port).iter().for_each(|(entry, bytes)| println!("{bytes:>7} {entry}"));
+    }
+}
+
+fn heading() {
+    println!(
+        "{:>7} {:45}{:>12}{:>12}{:>9}{:>9}",
+        "records", "", "ours", "iceberg", "times", "copy"
+    );
+}
+
+fn line(records: usize, row: &Row, iceberg: Option<Iceberg>) {
+    println!("{records:>7} {:45}{}", row.what, figures(row, iceberg));
 }
 
 fn machine() -> String {
@@ -48,9 +64,8 @@ fn figures(row: &Row, iceberg: Option<Iceberg>) -> String {
     let ours = port::absent().is_none().then(|| timed(&mut room, row, &Port));
     let theirs = iceberg.filter(|_| row.crate_too).map(|i| time(|| i.operate(&row.case)));
     let copy = time(|| room.copy(&row.case));
-    let shown = |time: Option<f64>| {
-        time.map_or(format!("{:>12}", "-"), |t| format!("{:>12.3}", t / 1e3))
-    };
+    let shown =
+        |time: Option<f64>| time.map_or(format!("{:>12}", "-"), |t| format!("{:>12.3}", t / 1e3));
     let ratio = ours.zip(theirs).map_or("-".into(), |(o, t)| format!("{:.1}", t / o));
     format!("{}{}{ratio:>9}{:>9.3}", shown(ours), shown(theirs), copy / 1e3)
 }

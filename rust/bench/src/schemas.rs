@@ -28,8 +28,12 @@ pub fn schema(name: &str, records: usize) -> Vec<Node> {
         left -= size(&root);
         roots.push(root);
     }
-    let mut next = 0;
-    number(&mut roots, &mut next);
+    numbered(roots)
+}
+
+/// The same with ids from 1 in slot order.
+pub fn numbered(mut roots: Vec<Node>) -> Vec<Node> {
+    number(&mut roots, &mut 0);
     roots
 }
 

@@ -1,8 +1,8 @@
 //! The benchmark times what its table says.
 
-use bench::{Room, SCHEMAS, SIZES, rows, schema};
+use bench::{Room, SCHEMAS, SIZES, rows, schema, worst};
 use cases::{Answer, ByJudge, answer};
-use judge::{LEVELS, Tree};
+use judge::{LEVELS, RECORD_BYTES, Tree};
 
 #[test]
 fn every_schema_has_exactly_its_records() {
@@ -17,15 +17,13 @@ fn every_schema_has_exactly_its_records() {
 
 #[test]
 fn every_row_goes_as_far_as_it_says() {
-    for (name, _) in SCHEMAS {
-        for size in SIZES {
-            for row in rows(name, size) {
-                let refusal = answer(&row.case).refusal().map_or(0, |r| r.number);
-                assert_eq!(refusal, row.refusal, "{name} {size} {}", row.what);
-                let called = Room::default().call(&row.case, &ByJudge);
-                assert_eq!(called, Some(row.refusal), "{name} {size} {}", row.what);
-            }
-        }
+    let table = SCHEMAS.iter().flat_map(|(name, _)| SIZES.map(|size| rows(name, size)));
+    for row in table.flatten().chain(worst()) {
+        let records = row.case.records.len() / RECORD_BYTES;
+        let refusal = answer(&row.case).refusal().map_or(0, |r| r.number);
+        assert_eq!(refusal, row.refusal, "{records} {}", row.what);
+        let called = Room::default().call(&row.case, &ByJudge);
+        assert_eq!(called, Some(row.refusal), "{records} {}", row.what);
     }
 }
 

@@ -212,7 +212,10 @@ impl Operations for ByJudge {
 
 /// A buffer whose bytes differ from their neighbours, so that a stray write shows.
 fn filled(bytes: usize) -> Vec<u8> {
-    (0..bytes).map(|at| (at as u8).wrapping_mul(37) ^ 0xA5).collect()
+    let turn: [u8; 256] = std::array::from_fn(|at| (at as u8).wrapping_mul(37) ^ 0xA5);
+    let mut buffer = turn.repeat(bytes.div_ceil(turn.len()));
+    buffer.truncate(bytes);
+    buffer
 }
 
 /// All that an operation leaves on a case; none for the lister, which is no operation of the port.

@@ -5,8 +5,8 @@ use judge::{ENTRY_BYTES, ID_BYTES, RECORD_BYTES};
 use crate::case::{Ask, Case};
 use crate::random::Random;
 
-/// A list that a case lends, with the bytes of one of its parts.
-fn lists(case: &mut Case) -> Vec<(&mut Vec<u8>, usize)> {
+/// Every list that a case lends, with the bytes of one of its parts.
+pub fn lists(case: &mut Case) -> Vec<(&mut Vec<u8>, usize)> {
     let mut lists = vec![(&mut case.records, RECORD_BYTES), (&mut case.pool, 1)];
     match &mut case.ask {
         Ask::Update { identifiers, deletions, additions, added_records, request_pool, .. } => lists

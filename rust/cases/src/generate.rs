@@ -14,7 +14,8 @@ use crate::edges::edge;
 use crate::random::Random;
 use crate::trees::{Shape, column, identifiers, lay, name, size, tree};
 
-const OPERATIONS: [&str; 7] = ["update", "prune", "renumber", "name", "id", "parent", "list"];
+/// The operations' words, in the order in which cases of a seed take turns.
+pub const OPERATIONS: [&str; 7] = ["update", "prune", "renumber", "name", "id", "parent", "list"];
 
 /// How large the trees are.
 #[derive(Clone, Copy, Debug, PartialEq, Eq)]
@@ -32,17 +33,33 @@ pub struct Generator {
     pub sizes: Sizes,
 }
 
+/// How a case was made.
+#[derive(Clone, Copy, Debug, PartialEq, Eq, PartialOrd, Ord)]
+pub enum Origin {
+    /// From a random tree, and left so.
+    Whole,
+    /// From a random tree, with one list damaged after it.
+    Damaged,
+    /// At a limit or one past it.
+    Edge,
+}
+
 impl Generator {
     /// The n-th case; the operations take turns.
     pub fn case(&self, n: u64) -> Case {
+        self.made(n).0
+    }
+
+    /// The n-th case, and how it was made.
+    pub fn made(&self, n: u64) -> (Case, Origin) {
         let operation = OPERATIONS[(n % OPERATIONS.len() as u64) as usize];
         let mut random = Random::nth(self.seed, n);
         if self.sizes == Sizes::Usual && random.chance(1, 40) {
-            return edge(&mut random, operation);
+            return (edge(&mut random, operation), Origin::Edge);
         }
         let most = match self.sizes {
             Sizes::Small => 5,
-            Sizes::Usual if random.chance(1, 250) => MOST_RECORDS,
+            Sizes::Usual if random.chance(1, 200) => MOST_RECORDS,
             Sizes::Usual => *random.pick(&[6, 12, 24, 40]),
         };
         let distinct = !random.chance(1, 12);
@@ -50,8 +67,9 @@ impl Generator {
         let mut case = plain(&mut random, operation, shape);
         if random.chance(1, 6) {
             damage(&mut random, &mut case);
+            return (case, Origin::Damaged);
         }
-        case
+        (case, Origin::Whole)
     }
 }
 

@@ -11,15 +11,19 @@ mod named;
 mod random;
 mod shapes;
 mod shrink;
+mod tally;
 mod trees;
 
 pub use build::{
-    Addition, additions, list_of, map_of, packed, prim, request, strukt, the_tree, update_of,
+    Addition, additions, ask_of, list_of, map_of, packed, prim, prune_by, renumber_by, request,
+    strukt, the_tree, update_of,
 };
-pub use case::{Answer, Ask, ByJudge, Case, Numbers, Operations, Outcome, answer, outcome};
-pub use generate::{Generator, Sizes};
+pub use case::{Answer, Ask, ByJudge, Case, Numbers, Operations, Outcome, answer, outcome, shown};
+pub use damage::lists;
+pub use generate::{Generator, OPERATIONS, Origin, Sizes};
 pub use line::{Judge, Recorded, read_line, read_recorded, write_line};
 pub use named::{Expected, Named, named};
 pub use random::Random;
-pub use shapes::{SHAPES, Tally, shapes_of};
+pub use shapes::{SHAPES, shapes_of};
 pub use shrink::shrink;
+pub use tally::{Counts, Tally};

@@ -1,14 +1,13 @@
-//! What came up in a run: every refusal, and every accepted shape.
-
-use std::collections::BTreeMap;
+//! The shapes of a case and its answer, which a run should meet.
 
 use judge::{
-    DEFAULT, LEVELS, LIST, MAP, MOST_RECORDS, RECORD_BYTES, REQUIRED, STRUCT, Tree, read_tree,
+    DEFAULT, LEVELS, LIST, MAP, MOST_RECORDS, Names, RECORD_BYTES, REQUIRED, Refusal, STRUCT, Tree,
+    Unwrap, read_tree,
 };
 
 use crate::case::{Answer, Ask, Case};
 
-/// The accepted shapes that a run should meet.
+/// The shapes. Those of a tree can come up in every operation, the others in the one named.
 pub const SHAPES: &[&str] = &[
     "update: accepted",
     "update: a member dropped",
@@ -22,16 +21,27 @@ pub const SHAPES: &[&str] = &[
     "update: found by a short name",
     "update: an id handed out again",
     "update: with identifiers",
+    "update: an identifier twice",
+    "update: a column dropped twice",
     "update: the last id consumed is the largest",
     "update: a required column with a default",
     "update: an empty tree",
+    "update: 5 for level 17 of the additions tree",
+    "update: 5 for counts past the end of the additions tree",
+    "update: 9 in the rebuilt tree",
     "prune: all is kept",
     "prune: a part is kept",
     "prune: an empty tree",
     "prune: full mode",
+    "prune: not in full mode",
+    "prune: an id chosen twice",
     "prune: an empty struct is left",
-    "prune: where Rust panics",
+    "prune: Rust panics at the root",
+    "prune: Rust panics at a map's value",
     "prune: a key keeps the map",
+    "prune: 20 at a field",
+    "prune: 20 at an element",
+    "prune: 20 at a value",
     "renumber: accepted",
     "renumber: with identifiers",
     "renumber: an identifier twice",
@@ -62,22 +72,26 @@ pub const SHAPES: &[&str] = &[
     "tree: a name that is not UTF-8",
     "tree: a member named element, key or value",
     "tree: the least and the largest id",
+    "tree: a negative id",
     "tree: id -1",
     "tree: names that share pool bytes",
+    "tree: 5 for level 17",
+    "tree: 5 for counts past the end",
 ];
 
-/// The accepted shapes of a case and its answer.
+/// The shapes of a case and its answer.
 pub fn shapes_of(case: &Case, answer: &Answer) -> Vec<&'static str> {
-    if answer.refusal().is_some() {
-        return vec![];
-    }
-    let tree = read_tree(&case.records, &case.pool, 0).expect("an accepted base is read");
     let mut shapes = vec![];
     let mut met = |shape, is: bool| {
         if is {
             shapes.push(shape);
         }
     };
+    if let Some(refusal) = answer.refusal() {
+        refused_shapes(case, refusal, &mut met);
+        return shapes;
+    }
+    let tree = read_tree(&case.records, &case.pool, 0).expect("an accepted base is read");
     tree_shapes(case, &tree, &mut met);
     match &case.ask {
         Ask::Update { .. } => update_shapes(case, &tree, answer, &mut met),
@@ -85,9 +99,7 @@ pub fn shapes_of(case: &Case, answer: &Answer) -> Vec<&'static str> {
         Ask::Renumber { identifiers, start, .. } => {
             met("renumber: accepted", true);
             met("renumber: with identifiers", !identifiers.is_empty());
-            let ids: Vec<&[u8]> = identifiers.chunks(4).collect();
-            let twice = |(at, id): (usize, &&[u8])| ids[..at].contains(id);
-            met("renumber: an identifier twice", ids.iter().enumerate().any(twice));
+            met("renumber: an identifier twice", twice(identifiers.chunks(4)));
             let last = i64::from(*start) + tree.rows.len() as i64;
             met("renumber: up to the edge", last == i64::from(i32::MAX));
         }
@@ -105,6 +117,40 @@ pub fn shapes_of(case: &Case, answer: &Answer) -> Vec<&'static str> {
         Ask::List => met("list: accepted", true),
     }
     shapes
+}
+
+/// Does anything stand in a row twice?
+fn twice<T: PartialEq>(row: impl Iterator<Item = T>) -> bool {
+    let row: Vec<T> = row.collect();
+    row.iter().enumerate().any(|(at, one)| row[..at].contains(one))
+}
+
+/// Of refusals with more than one ground, which it was.
+fn refused_shapes(case: &Case, refusal: Refusal, met: &mut impl FnMut(&'static str, bool)) {
+    let past = |records: &[u8]| refusal.place as usize == records.len() / RECORD_BYTES;
+    match (&case.ask, refusal.number, refusal.list) {
+        (_, 5, judge::BASE) => {
+            met("tree: 5 for level 17", !past(&case.records));
+            met("tree: 5 for counts past the end", past(&case.records));
+        }
+        (Ask::Update { added_records, .. }, 5, _) => {
+            met("update: 5 for level 17 of the additions tree", !past(added_records));
+            met("update: 5 for counts past the end of the additions tree", past(added_records));
+        }
+        (Ask::Update { identifiers, .. }, 9, _) => {
+            let base = ids_in(&case.records);
+            let known = ids_of(identifiers).iter().all(|id| base.contains(id));
+            met("update: 9 in the rebuilt tree", known);
+        }
+        (Ask::Prune { .. }, 20, _) => {
+            let tree = read_tree(&case.records, &case.pool, 0).expect("20 comes after 6");
+            let above = tree.rows[refusal.place as usize].parent.map(|up| tree.rows[up].kind);
+            met("prune: 20 at a field", above.is_none_or(|kind| kind == STRUCT));
+            met("prune: 20 at an element", above == Some(LIST));
+            met("prune: 20 at a value", above == Some(MAP));
+        }
+        _ => {}
+    }
 }
 
 fn tree_shapes(case: &Case, tree: &Tree, met: &mut impl FnMut(&'static str, bool)) {
@@ -134,6 +180,7 @@ fn tree_shapes(case: &Case, tree: &Tree, met: &mut impl FnMut(&'static str, bool
         "tree: the least and the largest id",
         any(&|row| row.id == i32::MIN) && any(&|row| row.id == i32::MAX),
     );
+    met("tree: a negative id", any(&|row| row.id < 0));
     met("tree: id -1", any(&|row| row.id == -1));
     let sum: usize = rows.iter().map(|row| row.name.len()).sum();
     met("tree: names that share pool bytes", sum > case.pool.len());
@@ -144,6 +191,10 @@ fn ids_in(records: &[u8]) -> Vec<i32> {
     records.chunks_exact(RECORD_BYTES).map(id).collect()
 }
 
+fn ids_of(bytes: &[u8]) -> Vec<i32> {
+    bytes.chunks_exact(4).map(|b| i32::from_le_bytes([b[0], b[1], b[2], b[3]])).collect()
+}
+
 fn paths(entries: &[u8], pool: &[u8]) -> Vec<Option<Vec<u8>>> {
     let path = |e: &[u8]| {
         let offset = u32::from_le_bytes([e[0], e[1], e[2], e[3]]) as usize;
@@ -151,12 +202,6 @@ fn paths(entries: &[u8], pool: &[u8]) -> Vec<Option<Vec<u8>>> {
         (e[6] == 1).then(|| pool[offset..offset + length].to_vec())
     };
     entries.chunks_exact(8).map(path).collect()
-}
-
-fn found(case: &Case, name: &[u8]) -> usize {
-    let found = judge::find_name(&case.records, &case.pool, name);
-    assert_eq!(found.found, 1, "an accepted path finds a record");
-    found.slot as usize
 }
 
 fn update_shapes(
@@ -170,6 +215,7 @@ fn update_shapes(
     let (before, after) = (ids_in(&case.records), ids_in(records));
     met("update: accepted", true);
     met("update: with identifiers", !identifiers.is_empty());
+    met("update: an identifier twice", twice(identifiers.chunks(4)));
     met("update: an empty tree", after.is_empty());
     let given = i64::from(*last_id) + 1..=i64::from(*consumed);
     let fresh = |id: &i32| given.contains(&i64::from(*id));
@@ -185,19 +231,24 @@ fn update_shapes(
         "update: a required column with a default",
         added_records.chunks(24).any(|r| r[10] == both),
     );
-    deletion_shapes(case, tree, &after, met);
-    addition_shapes(case, tree, met);
+    let names = Names::of(tree);
+    let found = |path: &[u8]| names.find(path).expect("an accepted path finds a record");
+    deletion_shapes(case, tree, &found, &after, met);
+    addition_shapes(case, tree, &found, met);
 }
 
 fn deletion_shapes(
     case: &Case,
     tree: &Tree,
+    found: &impl Fn(&[u8]) -> usize,
     after: &[i32],
     met: &mut impl FnMut(&'static str, bool),
 ) {
     let Ask::Update { deletions, request_pool, .. } = &case.ask else { return };
-    for path in paths(deletions, request_pool).into_iter().flatten() {
-        let slot = found(case, &path);
+    let paths: Vec<Vec<u8>> = paths(deletions, request_pool).into_iter().flatten().collect();
+    met("update: a column dropped twice", twice(paths.iter().map(|path| found(path))));
+    for path in paths {
+        let slot = found(&path);
         let fixed = tree.rows[slot].parent.is_some_and(|p| tree.rows[p].kind >= LIST);
         let stays = after.contains(&tree.rows[slot].id);
         met("update: an element, key or value dropped stays", fixed && stays);
@@ -206,14 +257,19 @@ fn deletion_shapes(
     }
 }
 
-fn addition_shapes(case: &Case, tree: &Tree, met: &mut impl FnMut(&'static str, bool)) {
+fn addition_shapes(
+    case: &Case,
+    tree: &Tree,
+    found: &impl Fn(&[u8]) -> usize,
+    met: &mut impl FnMut(&'static str, bool),
+) {
     let Ask::Update { additions, request_pool, .. } = &case.ask else { return };
     for path in paths(additions, request_pool) {
         let Some(path) = path else {
             met("update: a column added at the root", true);
             continue;
         };
-        let row = &tree.rows[found(case, &path)];
+        let row = &tree.rows[found(&path)];
         let above = row.parent.map(|p| tree.rows[p].kind);
         met("update: a column added under a struct", row.kind == STRUCT);
         met("update: a column added under a list", row.kind == LIST);
@@ -235,14 +291,16 @@ fn prune_shapes(
     met("prune: a part is kept", kept > 0 && kept < tree.rows.len());
     met("prune: an empty tree", kept == 0);
     met("prune: full mode", *full != 0 && kept > 0);
+    met("prune: not in full mode", *full == 0 && kept > 0);
+    met("prune: an id chosen twice", twice(selected.chunks(4)));
     let panics = judge::prune_where_rust_panics(&case.records, &case.pool, selected, *full);
-    met("prune: where Rust panics", panics);
+    met("prune: Rust panics at the root", panics == Some(Unwrap::Root));
+    met("prune: Rust panics at a map's value", panics == Some(Unwrap::Value));
     let empty = |r: &[u8]| r[9] == STRUCT && r[12] == 0 && r[13] == 0;
     let filled = |id: i32| tree.rows.iter().any(|row| row.id == id && !row.children.is_empty());
     let mut emptied = records.chunks(RECORD_BYTES).filter(|r| empty(r));
     met("prune: an empty struct is left", emptied.any(|r| filled(ids_in(r)[0])));
-    let chosen: Vec<i32> =
-        selected.chunks_exact(4).map(|b| ids_in(&[b, &[0; 20]].concat())[0]).collect();
+    let chosen = ids_of(selected);
     let key = |row: &judge::Row| row.kind == MAP && chosen.contains(&tree.rows[row.children[0]].id);
     met("prune: a key keeps the map", *full == 0 && tree.rows.iter().any(key) && kept > 0);
 }
@@ -269,48 +327,4 @@ fn name_shapes(
 fn slots_with_both(tree: &Tree, name: &[u8]) -> usize {
     let both = |slot: &usize| tree.full_name(*slot) == name && tree.short_name(*slot) == name;
     (0..tree.rows.len()).filter(both).count()
-}
-
-/// How often each refusal and each accepted shape came up.
-#[derive(Clone, Debug, Default)]
-pub struct Tally {
-    pub cases: u64,
-    pub operations: BTreeMap<&'static str, u64>,
-    pub refusals: BTreeMap<u32, u64>,
-    pub shapes: BTreeMap<&'static str, u64>,
-}
-
-impl Tally {
-    /// Counts a case with its answer.
-    pub fn count(&mut self, case: &Case, answer: &Answer) {
-        self.cases += 1;
-        *self.operations.entry(case.ask.word()).or_default() += 1;
-        if let Some(refusal) = answer.refusal() {
-            *self.refusals.entry(refusal.number).or_default() += 1;
-        }
-        for shape in shapes_of(case, answer) {
-            *self.shapes.entry(shape).or_default() += 1;
-        }
-    }
-
-    /// What never came up: refusals 1 to 20 and the accepted shapes.
-    pub fn missing(&self) -> Vec<String> {
-        let refusals = (1..=20).filter(|n| !self.refusals.contains_key(n));
-        let shapes = SHAPES.iter().filter(|s| !self.shapes.contains_key(*s));
-        refusals.map(|n| format!("refusal {n}")).chain(shapes.map(|s| s.to_string())).collect()
-    }
-
-    /// The counts, a line each.
-    pub fn report(&self) -> String {
-        let mut lines = vec![format!("{:>9} cases", self.cases)];
-        lines.extend(self.operations.iter().map(|(o, n)| format!("{n:>9} {o}")));
-        lines
-            .extend((1..=20).map(|r| {
-                format!("{:>9} refusal {r}", self.refusals.get(&r).copied().unwrap_or(0))
-            }));
-        lines.extend(
-            SHAPES.iter().map(|s| format!("{:>9} {s}", self.shapes.get(s).copied().unwrap_or(0))),
-        );
-        lines.join("\n")
-    }
 }

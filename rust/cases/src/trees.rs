@@ -356,11 +356,9 @@ pub fn lay(random: &mut Random, roots: &[Node]) -> (Vec<u8>, Vec<u8>) {
     }
     let shared = random.chance(1, 3);
     let records = laid_out(roots, &mut pool, &mut |pool, name| {
-        let there = pool.windows(name.len().max(1)).position(|part| part == name);
-        match there {
-            Some(offset) if shared => offset,
-            _ => at_the_end(pool, name),
-        }
+        let mut parts = pool.windows(name.len().max(1));
+        let there = if shared { parts.position(|part| part == name) } else { None };
+        there.unwrap_or_else(|| at_the_end(pool, name))
     });
     if random.chance(1, 8) {
         pool.extend_from_slice(b"unused");

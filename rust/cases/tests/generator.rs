@@ -12,10 +12,10 @@ fn usual() -> Generator {
 fn every_refusal_and_every_accepted_shape_comes_up() {
     let mut tally = Tally::default();
     for n in 0..35_000 {
-        let case = usual().case(n);
-        tally.count(&case, &answer(&case));
+        let (case, origin) = usual().made(n);
+        tally.count(&case, origin, &answer(&case));
     }
-    println!("seed {SEED}\n{}", tally.report());
+    println!("seed {SEED}\n{tally}");
     assert_eq!(tally.missing(), Vec::<String>::new(), "seed {SEED}");
 }
 
@@ -32,11 +32,12 @@ fn a_seed_makes_the_same_cases_again() {
 fn equal_short_names_are_common() {
     let mut tally = Tally::default();
     for n in (3..14_000).step_by(7) {
-        let case = usual().case(n);
-        tally.count(&case, &answer(&case));
+        let (case, origin) = usual().made(n);
+        tally.count(&case, origin, &answer(&case));
     }
-    let twins = tally.shapes["name: of equal short names the first entered"];
-    assert!(twins * 20 > tally.cases, "{twins} of {}", tally.cases);
+    let twins = tally.shapes["name: of equal short names the first entered"].of("name");
+    let cases = tally.cases.of("name");
+    assert!(twins * 20 > cases, "{twins} of {cases}");
 }
 
 #[test]

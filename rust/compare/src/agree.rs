@@ -1,17 +1,19 @@
 //! Where the two judges have common ground, and whether they agree there.
 
 use cases::{Answer, Ask, Case};
-use judge::Refusal;
+use judge::{
+    ENTRY_BYTES, ID_BYTES, PRIMITIVE, RECORD_BYTES, REQUIRED, Refusal, Row, STRUCT, Unwrap,
+};
 use oracle::Verdict;
 
-/// How the crate's word stands to the paper's.
-#[derive(Clone, Debug, PartialEq, Eq, PartialOrd, Ord)]
+/// How the crate's word stands to the paper's. The words are those of docs/DIFFERENCES.md.
+#[derive(Clone, Copy, Debug, PartialEq, Eq, PartialOrd, Ord)]
 pub enum Agreement {
     /// The same answer; of a refusal the same number, and the place where the crate tells it.
     Same,
     /// Both refuse a tree with several faults, and 01 compares only the fact.
-    Fact(&'static str),
-    /// A departure that 01 or docs/COMPARISON.md lists.
+    Fact,
+    /// A departure that the page lists.
     Departure(&'static str),
     /// The crate can't be asked, or the base is outside the domain of comparison.
     Outside(&'static str),
@@ -21,55 +23,150 @@ pub enum Agreement {
 
 use Agreement::{Departure, Differ, Fact, Outside, Same};
 
+const ELEMENT_KEY_VALUE: &str = "6: names of element, key and value";
+const PAST_LARGEST: &str = "18 in updates";
+const LIMITS: &str = "the limits";
+const NOT_UTF8: &str = "names that are not UTF-8";
+const NOTHING_AT_ROOT: &str = "a panic: nothing yielded at the root";
+const VALUE_YIELDS_NOTHING: &str =
+    "a panic: a chosen map value of struct kind that yields nothing, not full";
+const HANDED_OUT_AGAIN: &str = "An identifier's id handed out again";
+const BYTES: &str = "1 to 6 and 10 speak of bytes that the crate never sees";
+const STRICTER: &str = "The builder's rule for identifiers is stricter than 9";
+
+/// Every agreement that is none of the same answer: all that a run may meet.
+pub const LISTED: [Agreement; 10] = [
+    Fact,
+    Departure(ELEMENT_KEY_VALUE),
+    Departure(PAST_LARGEST),
+    Departure(LIMITS),
+    Departure(NOT_UTF8),
+    Departure(NOTHING_AT_ROOT),
+    Departure(VALUE_YIELDS_NOTHING),
+    Departure(HANDED_OUT_AGAIN),
+    Outside(BYTES),
+    Outside(STRICTER),
+];
+
+impl Agreement {
+    /// The words of docs/DIFFERENCES.md, where it has some.
+    pub fn words(&self) -> Option<&'static str> {
+        match self {
+            Same | Differ => None,
+            Fact => Some("only the fact of refusal is compared"),
+            Departure(words) | Outside(words) => Some(words),
+        }
+    }
+}
+
+impl std::fmt::Display for Agreement {
+    fn fmt(&self, f: &mut std::fmt::Formatter<'_>) -> std::fmt::Result {
+        let kind = match self {
+            Same => "the same answer",
+            Differ => "they differ",
+            Fact => "both refuse: ",
+            Departure(_) => "departure: ",
+            Outside(_) => "outside: ",
+        };
+        write!(f, "{kind}{}", self.words().unwrap_or_default())
+    }
+}
+
+/// Where the paper's answer is a refusal that the crate does not have, there is nothing to ask.
+pub fn not_the_crates(case: &Case, paper: &Answer) -> Option<Agreement> {
+    let refusal = paper.refusal()?;
+    match refusal.number {
+        2 if whole(case) => Some(Departure(LIMITS)),
+        5 if !past_the_end(case, refusal) => Some(Departure(LIMITS)),
+        6 => Some(Departure(ELEMENT_KEY_VALUE)),
+        19 => Some(Departure(LIMITS)),
+        1..=5 | 10 => Some(Outside(BYTES)),
+        _ => None,
+    }
+}
+
+/// Is every list a whole number of records, so that 2 speaks of a limit?
+fn whole(case: &Case) -> bool {
+    let fit = |list: &[u8], unit| list.len().is_multiple_of(unit);
+    let lists = match &case.ask {
+        Ask::Update { identifiers, deletions, additions, added_records, .. } => {
+            fit(identifiers, ID_BYTES)
+                && fit(deletions, ENTRY_BYTES)
+                && fit(additions, ENTRY_BYTES)
+                && fit(added_records, RECORD_BYTES)
+        }
+        Ask::Prune { selected: ids, .. } | Ask::Renumber { identifiers: ids, .. } => {
+            fit(ids, ID_BYTES)
+        }
+        _ => true,
+    };
+    lists && fit(&case.records, RECORD_BYTES)
+}
+
+/// Does 5 speak of counts that need more records, and not of level 17?
+fn past_the_end(case: &Case, refusal: Refusal) -> bool {
+    let records = match &case.ask {
+        Ask::Update { added_records, .. } if refusal.list == judge::ADDED => added_records,
+        _ => &case.records,
+    };
+    refusal.place as usize == records.len() / RECORD_BYTES
+}
+
 /// How the crate's word on a case stands to the paper's answer.
 pub fn agreement(case: &Case, paper: &Answer, said: &Verdict) -> Agreement {
-    if let Some(own) = paper.refusal().and_then(|refusal| not_the_crates(refusal.number)) {
-        return Outside(own);
+    if let Some(own) = not_the_crates(case, paper) {
+        return own;
     }
     match said {
-        Verdict::Unfit("a name that is not UTF-8") => Outside("names that are not UTF-8"),
+        Verdict::Unfit("a name that is not UTF-8") => Departure(NOT_UTF8),
         Verdict::Unfit(_) => Differ,
         Verdict::Answer(answer) if answer == paper => Same,
         Verdict::Answer(_) => Differ,
-        Verdict::Refused { number, base: true, .. } => base_refused(paper, *number),
+        Verdict::Refused { number, base: true, .. } => base_refused(case, paper, *number),
         Verdict::Refused { number, place, .. } => refused(case, paper, *number, *place),
         Verdict::Panicked { place, text } => panicked(case, paper, *place, text),
     }
 }
 
-/// Refusals that the crate does not have.
-fn not_the_crates(number: u32) -> Option<&'static str> {
-    match number {
-        1 => Some("refusal 1: the crate has no buffers"),
-        2 => Some("refusal 2: the crate has no limits"),
-        3 => Some("refusal 3: the crate has no bytes"),
-        4 => Some("refusal 4: the crate has no pools"),
-        5 => Some("refusal 5: the crate has no levels"),
-        6 => Some("refusal 6: the crate takes any name there"),
-        10 => Some("refusal 10: the crate has no additions tree"),
-        19 => Some("refusal 19: the crate has no limits"),
-        _ => None,
+fn base_refused(case: &Case, paper: &Answer, number: u32) -> Agreement {
+    let fault = |number: u32| (7..=9).contains(&number);
+    match paper.refusal() {
+        Some(refusal) if refusal.number == number => Same,
+        Some(refusal) if fault(refusal.number) && fault(number) => Fact,
+        _ if number == 9 && stricter(case) => Outside(STRICTER),
+        _ => Differ,
     }
 }
 
-fn base_refused(paper: &Answer, number: u32) -> Agreement {
-    match paper.refusal() {
-        Some(refusal) if refusal.number == number => Same,
-        Some(refusal) if (7..=9).contains(&refusal.number) => Fact("several faults in a base"),
-        _ if number == 9 => Outside("identifiers that the builder refuses"),
-        _ => Differ,
-    }
+/// Is some identifier no required primitive, or something else than required structs above it?
+fn stricter(case: &Case) -> bool {
+    let (Ask::Update { identifiers, .. } | Ask::Renumber { identifiers, .. }) = &case.ask else {
+        return false;
+    };
+    let Ok(tree) = judge::read_tree(&case.records, &case.pool, judge::BASE) else { return false };
+    let required = |row: &Row, kind: u8| row.kind == kind && row.flags & REQUIRED != 0;
+    let above = |row: &Row| row.parent.map(|up| &tree.rows[up]);
+    let fits = |row: &Row| {
+        let mut up = std::iter::successors(above(row), |row| above(row));
+        required(row, PRIMITIVE) && up.all(|row| required(row, STRUCT))
+    };
+    let ids: Vec<i32> = ids(identifiers).collect();
+    tree.rows.iter().any(|row| ids.contains(&row.id) && !fits(row))
+}
+
+fn ids(bytes: &[u8]) -> impl Iterator<Item = i32> {
+    bytes.chunks_exact(ID_BYTES).map(|b| i32::from_le_bytes([b[0], b[1], b[2], b[3]]))
 }
 
 fn refused(case: &Case, paper: &Answer, number: u32, place: Option<u32>) -> Agreement {
     let Some(refusal) = paper.refusal() else {
         let again = number == 9 && id_handed_out_again(case, paper);
-        return if again { Departure("an identifier's id handed out again") } else { Differ };
+        return if again { Departure(HANDED_OUT_AGAIN) } else { Differ };
     };
     let rebuilt = |r: Refusal| r.list >= judge::REBUILT && (7..=9).contains(&number);
     match refusal.number == number {
         true if place.is_none_or(|place| place == refusal.place) => Same,
-        false if rebuilt(refusal) => Fact("several faults in a rebuilt tree"),
+        false if rebuilt(refusal) => Fact,
         _ => Differ,
     }
 }
@@ -80,14 +177,16 @@ fn panicked(case: &Case, paper: &Answer, place: Option<u32>, text: &str) -> Agre
             let same = |r: Refusal| r.number == 18 && Some(r.place) == place;
             let overflow = text == "attempt to add with overflow";
             match paper.refusal().is_some_and(same) && overflow {
-                true => Departure("18 in an update: the crate adds without a check"),
+                true => Departure(PAST_LARGEST),
                 false => Differ,
             }
         }
-        Ask::Prune { selected, full, .. }
-            if judge::prune_where_rust_panics(&case.records, &case.pool, selected, *full) =>
-        {
-            Departure("pruning: the crate's unwrap panics")
+        Ask::Prune { selected, full, .. } if text.contains("Option::unwrap()") => {
+            match judge::prune_where_rust_panics(&case.records, &case.pool, selected, *full) {
+                Some(Unwrap::Root) => Departure(NOTHING_AT_ROOT),
+                Some(Unwrap::Value) => Departure(VALUE_YIELDS_NOTHING),
+                None => Differ,
+            }
         }
         _ => Differ,
     }
@@ -100,6 +199,5 @@ fn id_handed_out_again(case: &Case, paper: &Answer) -> bool {
     else {
         return false;
     };
-    let id = |b: &[u8]| i32::from_le_bytes([b[0], b[1], b[2], b[3]]);
-    identifiers.chunks_exact(4).map(id).any(|id| id > *last_id && id <= *consumed)
+    ids(identifiers).any(|id| id > *last_id && id <= *consumed)
 }

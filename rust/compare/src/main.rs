@@ -3,7 +3,7 @@
 use std::process::ExitCode;
 
 use cases::{Generator, Sizes};
-use compare::{iceberg, recorded_list, replay, run};
+use compare::{Run, iceberg, recorded_list, replay};
 
 const USAGE: &str = "\
 compare run [SEED [COUNT [FROM]]]   random cases; COUNT is 70000 unless given, SEED 1, FROM 0
@@ -41,8 +41,8 @@ fn random(numbers: &[&str]) -> Result<String, String> {
     let (seed, count, from) = (number(0, 1)?, number(1, COUNT)?, number(2, 0)?);
     println!("seed {seed}, cases {from} to {}", from + count);
     let generator = Generator { seed, sizes: Sizes::Usual };
-    let report = run(generator, from, count, iceberg()).map_err(|failure| failure.to_string())?;
-    Ok(report.to_string())
+    let run = Run::new(generator, from, count);
+    run.report(iceberg()).map(|report| report.to_string()).map_err(|failure| failure.to_string())
 }
 
 fn record() -> Result<String, String> {

@@ -3,7 +3,8 @@
 use std::path::PathBuf;
 
 use cases::{
-    Generator, Judge, Named, Recorded, Sizes, answer, named, read_line, read_recorded, write_line,
+    Case, Generator, Judge, Named, Recorded, Sizes, answer, named, read_line, read_recorded,
+    write_line,
 };
 use oracle::Iceberg;
 
@@ -33,14 +34,19 @@ pub fn recorded_list(iceberg: Iceberg) -> String {
     header(&lines) + &lines.join("\n") + "\n"
 }
 
-fn entry(case: cases::Case, iceberg: Iceberg) -> String {
-    let paper = answer(&case);
-    let judge = match agreement(&case, &paper, &iceberg.verdict(&case)) {
-        Agreement::Same => Judge::Both,
-        Agreement::Differ => panic!("the judges part: {case:?}"),
-        _ => Judge::Paper,
-    };
-    write_line(&Recorded { case, judge, answer: paper })
+fn entry(case: Case, iceberg: Iceberg) -> String {
+    let (line, agreed) = line(case, Some(iceberg));
+    assert_ne!(agreed, Some(Agreement::Differ), "the judges part: {line}");
+    line
+}
+
+/// A case as a line of the list, and how the crate, where it is there, stands to its answer.
+pub fn line(case: Case, iceberg: Option<Iceberg>) -> (String, Option<Agreement>) {
+    let answer = answer(&case);
+    let agreed = iceberg.map(|iceberg| agreement(&case, &answer, &iceberg.verdict(&case)));
+    let both = agreed == Some(Agreement::Same);
+    let judge = if both { Judge::Both } else { Judge::Paper };
+    (write_line(&Recorded { case, judge, answer }), agreed)
 }
 
 fn header(lines: &[String]) -> String {
@@ -89,8 +95,7 @@ fn held(recorded: &Recorded, iceberg: Option<Iceberg>) -> Result<(), String> {
     if now != recorded.answer {
         return Err(format!("recorded {:?}\nnow {now:?}", recorded.answer));
     }
-    let (agreed, _) = check(&recorded.case, iceberg)?;
-    match agreed {
+    match check(&recorded.case, iceberg)?.agreed {
         Some(Agreement::Same) if recorded.judge != Judge::Both => {
             Err("the crate gives this answer too".into())
         }

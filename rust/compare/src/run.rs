@@ -1,29 +1,35 @@
 //! A run over many cases.
 
 use std::collections::BTreeMap;
+use std::panic::{AssertUnwindSafe, catch_unwind};
+use std::sync::Mutex;
+use std::sync::atomic::{AtomicU64, Ordering};
 
 use cases::{
-    ByJudge, Case, Generator, Judge, Operations, Recorded, Tally, answer, outcome, shrink,
-    write_line,
+    Answer, ByJudge, Case, Counts, Generator, OPERATIONS, Operations, Tally, answer, outcome,
+    shown, shrink,
 };
 use oracle::Iceberg;
-use port::Guarded;
+use port::{Guarded, Port, beside};
 
-use crate::agree::{Agreement, agreement};
+use crate::agree::{Agreement, LISTED, agreement, not_the_crates};
+use crate::recorded::line;
 
 /// What a run met.
-#[derive(Clone, Debug, Default)]
+#[derive(Clone, Debug, Default, PartialEq, Eq)]
 pub struct Report {
     pub tally: Tally,
     /// How the crate's words stood to the paper's.
-    pub crate_beside_paper: BTreeMap<Agreement, u64>,
-    /// Cases of each operation in which the port gave the paper's answer.
-    pub port: BTreeMap<&'static str, u64>,
+    pub crate_beside_paper: BTreeMap<Agreement, Counts>,
+    /// Cases in which the port gave the paper's answer.
+    pub port: Counts,
 }
 
 /// A case on which two of them part.
 #[derive(Clone, Debug)]
 pub struct Failure {
+    /// The case's number.
+    pub number: u64,
     pub why: String,
     /// The case as it was made, and shrunk, each a line of the recorded format.
     pub line: String,
@@ -36,15 +42,49 @@ impl std::fmt::Display for Failure {
     }
 }
 
-/// What one case shows: the crate's agreement, whether the port was asked, or how they part.
-type Shown = Result<(Option<Agreement>, bool), String>;
+/// What one case shows where nobody parts.
+#[derive(Clone, Debug)]
+pub struct Shown {
+    /// The paper's answer.
+    pub paper: Answer,
+    /// How the crate stood to it, where it was there.
+    pub agreed: Option<Agreement>,
+    /// Was the port asked?
+    pub port: bool,
+}
 
-/// Puts one case to all who are there.
-pub fn check(case: &Case, iceberg: Option<Iceberg>) -> Shown {
-    let paper = answer(case);
-    let agreed = match iceberg {
-        None => None,
-        Some(iceberg) => {
+/// Puts one case to the judges and the port, or tells how two of them part.
+pub fn check(case: &Case, iceberg: Option<Iceberg>) -> Result<Shown, String> {
+    check_by(case, iceberg, linked())
+}
+
+/// The port, where it is there.
+fn linked() -> Option<Port> {
+    port::absent().is_none().then_some(Port)
+}
+
+/// The same with any operations in the port's place. A panic of somebody is told like a
+/// difference, so that its case is shown.
+fn check_by<O: Operations>(
+    case: &Case,
+    iceberg: Option<Iceberg>,
+    by: Option<O>,
+) -> Result<Shown, String> {
+    let checked = catch_unwind(AssertUnwindSafe(|| checked_by(case, iceberg, by)));
+    checked.unwrap_or_else(|_| Err("somebody panicked".into()))
+}
+
+fn checked_by<O: Operations>(
+    case: &Case,
+    iceberg: Option<Iceberg>,
+    by: Option<O>,
+) -> Result<Shown, String> {
+    let left = outcome(case, &ByJudge);
+    let paper = left.as_ref().map_or_else(|| answer(case), |left| shown(case, left));
+    let agreed = match (iceberg, not_the_crates(case, &paper)) {
+        (None, _) => None,
+        (_, Some(own)) => Some(own),
+        (Some(iceberg), None) => {
             let said = iceberg.verdict(case);
             match agreement(case, &paper, &said) {
                 Agreement::Differ => return Err(format!("crate {said:?}\npaper {paper:?}")),
@@ -52,94 +92,169 @@ pub fn check(case: &Case, iceberg: Option<Iceberg>) -> Shown {
             }
         }
     };
-    let port = port::absent().is_none() && beside_paper(case, &Guarded::port())?;
-    Ok((agreed, port))
+    let port = match (left, by) {
+        (Some(left), Some(by)) => beside(case, &left, &Guarded::new(by))?,
+        _ => false,
+    };
+    Ok(Shown { paper, agreed, port })
 }
 
-/// Do these operations leave what the paper leaves, in numbers and in every byte? False for the
-/// lister, which is none of them.
-pub fn beside_paper<O: Operations>(case: &Case, by: &Guarded<O>) -> Result<bool, String> {
-    let Some(ours) = outcome(case, by) else { return Ok(false) };
-    if let Some(stray) = by.stray() {
-        return Err(format!("port: {stray}"));
-    }
-    let paper = outcome(case, &ByJudge).expect("the judge answers every operation");
-    if ours.numbers != paper.numbers {
-        return Err(format!("port {:?}\npaper {:?}", ours.numbers, paper.numbers));
-    }
-    let buffers = [
-        ("records", &ours.out_records, &paper.out_records),
-        ("names", &ours.out_names, &paper.out_names),
-        ("identifiers", &ours.out_identifiers, &paper.out_identifiers),
-    ];
-    for (buffer, ours, paper) in buffers {
-        if let Some(at) = (0..ours.len()).find(|at| ours[*at] != paper[*at]) {
-            let (o, p) = (ours[at], paper[at]);
-            return Err(format!("byte {at} of the {buffer}: port {o}, paper {p}"));
-        }
-    }
-    Ok(true)
+/// Cases that a thread takes at a time.
+const PART: u64 = 512;
+
+/// The cases `from..from + count` of a seed, up to the first on which two of them part; the
+/// report and that first case are the same whatever the number of threads.
+pub struct Run {
+    pub generator: Generator,
+    pub from: u64,
+    pub count: u64,
+    pub threads: usize,
 }
 
-fn line(case: &Case) -> String {
-    let recorded = Recorded { case: case.clone(), judge: Judge::Paper, answer: answer(case) };
-    write_line(&recorded)
-}
+impl Run {
+    /// As many threads as the machine has cores.
+    pub fn new(generator: Generator, from: u64, count: u64) -> Run {
+        let threads = std::thread::available_parallelism().map_or(1, usize::from);
+        Run { generator, from, count, threads }
+    }
 
-/// The cases `from..from + count` of a seed, up to the first on which two of them part.
-pub fn run(
-    generator: Generator,
-    from: u64,
-    count: u64,
-    iceberg: Option<Iceberg>,
-) -> Result<Report, Box<Failure>> {
-    let mut report = Report::default();
-    for n in from..from + count {
-        let case = generator.case(n);
-        match check(&case, iceberg) {
-            Err(why) => {
-                let least = shrink(&case, &|case| check(case, iceberg).is_err());
-                let why = format!("seed {}, case {n}\n{why}", generator.seed);
-                return Err(Box::new(Failure { why, line: line(&case), shrunk: line(&least) }));
-            }
-            Ok((agreed, port)) => {
-                report.tally.count(&case, &answer(&case));
-                if let Some(agreed) = agreed {
-                    *report.crate_beside_paper.entry(agreed).or_default() += 1;
+    /// Puts the cases to the judges and the port.
+    pub fn report(&self, iceberg: Option<Iceberg>) -> Result<Report, Box<Failure>> {
+        self.report_by(iceberg, linked)
+    }
+
+    /// The same with any operations in the port's place.
+    pub fn report_by<O: Operations>(
+        &self,
+        iceberg: Option<Iceberg>,
+        by: impl Fn() -> Option<O> + Sync,
+    ) -> Result<Report, Box<Failure>> {
+        let (next, first) = (AtomicU64::new(self.from), AtomicU64::new(u64::MAX));
+        let whole = Mutex::new(Report::default());
+        let part = || {
+            let mut report = Report::default();
+            loop {
+                // parts go out in order, so each case before a failing one is put by somebody
+                let start = next.fetch_add(PART, Ordering::Relaxed);
+                let end = (start + PART).min(self.from + self.count);
+                if start >= end.min(first.load(Ordering::Relaxed)) {
+                    break;
                 }
-                if port {
-                    *report.port.entry(case.ask.word()).or_default() += 1;
+                if let Some(n) =
+                    (start..end).find(|n| !self.count_in(*n, &mut report, iceberg, by()))
+                {
+                    first.fetch_min(n, Ordering::Relaxed);
+                    break;
                 }
             }
+            whole.lock().expect("no thread panics").add(&report);
+        };
+        std::thread::scope(|scope| {
+            for _ in 0..self.threads {
+                scope.spawn(part);
+            }
+        });
+        match first.into_inner() {
+            u64::MAX => Ok(whole.into_inner().expect("no thread panics")),
+            n => Err(Box::new(self.failure(n, iceberg, by))),
         }
     }
-    Ok(report)
+
+    /// Counts a case; false where two of them part.
+    fn count_in(
+        &self,
+        n: u64,
+        report: &mut Report,
+        iceberg: Option<Iceberg>,
+        by: Option<impl Operations>,
+    ) -> bool {
+        let (case, origin) = self.generator.made(n);
+        let Ok(Shown { paper, agreed, port }) = check_by(&case, iceberg, by) else { return false };
+        report.tally.count(&case, origin, &paper);
+        if let Some(agreed) = agreed {
+            report.crate_beside_paper.entry(agreed).or_default().add(case.ask.word());
+        }
+        if port {
+            report.port.add(case.ask.word());
+        }
+        true
+    }
+
+    fn failure<O: Operations>(
+        &self,
+        number: u64,
+        iceberg: Option<Iceberg>,
+        by: impl Fn() -> Option<O>,
+    ) -> Failure {
+        let case = self.generator.case(number);
+        let why = |case: &Case| check_by(case, iceberg, by()).err();
+        let least = shrink(&case, &|case| why(case).is_some());
+        let why = why(&case).expect("it parted before");
+        let why = format!("seed {}, case {number}\n{why}", self.generator.seed);
+        Failure { number, why, line: line(case, iceberg).0, shrunk: line(least, iceberg).0 }
+    }
+}
+
+impl Report {
+    /// Why a run says too little: too few cases of an operation, or too few trees of more than
+    /// 900 records that were accepted; a refusal, shape or departure that never came up; cases
+    /// that were not put to the crate or to the port, where these are there.
+    pub fn short_of(&self, cases: u64, large: u64) -> Vec<String> {
+        let mut short = self.tally.missing_by_operation();
+        let mut at_least = |counts: &Counts, operation: &str, least: u64, what: &str| {
+            let count = counts.of(operation);
+            if count < least {
+                short.push(format!("{operation}: {count} {what}, not {least}"));
+            }
+        };
+        let none = Counts::default();
+        let grown = self.tally.shapes.get("tree: more than 900 records").unwrap_or(&none);
+        for operation in OPERATIONS {
+            at_least(&self.tally.cases, operation, cases, "cases");
+            at_least(&self.tally.small, operation, cases / 2, "cases of up to 40 records");
+            at_least(grown, operation, large, "accepted trees of more than 900 records");
+        }
+        let all = |operation: &str| self.tally.cases.of(operation);
+        if port::absent().is_none() {
+            for operation in OPERATIONS.into_iter().filter(|operation| *operation != "list") {
+                at_least(&self.port, operation, all(operation), "answers of the port");
+            }
+        }
+        let judged = &self.crate_beside_paper;
+        if !judged.is_empty() {
+            let mut asked = Counts::default();
+            judged.values().for_each(|counts| asked += *counts);
+            for operation in OPERATIONS {
+                at_least(&asked, operation, all(operation), "cases put to the crate");
+            }
+            let never = LISTED.iter().filter(|listed| !judged.contains_key(listed));
+            short.extend(never.map(|listed| format!("never {listed}")));
+            let known = |met: &Agreement| *met == Agreement::Same || LISTED.contains(met);
+            let unknown = judged.keys().filter(|met| !known(met));
+            short.extend(unknown.map(|met| format!("not in the list: {met}")));
+        }
+        short
+    }
+
+    fn add(&mut self, other: &Report) {
+        self.tally.add(&other.tally);
+        self.port += other.port;
+        for (agreed, counts) in &other.crate_beside_paper {
+            *self.crate_beside_paper.entry(*agreed).or_default() += *counts;
+        }
+    }
 }
 
 impl std::fmt::Display for Report {
     fn fmt(&self, f: &mut std::fmt::Formatter<'_>) -> std::fmt::Result {
-        writeln!(f, "{}", self.tally.report())?;
+        writeln!(f, "{}", self.tally)?;
         writeln!(f, "iceberg's own code beside 01's text:")?;
-        for (agreed, n) in &self.crate_beside_paper {
-            writeln!(f, "{n:>9} {}", words(agreed))?;
+        for (agreed, counts) in &self.crate_beside_paper {
+            writeln!(f, "{counts}  {agreed}")?;
         }
         match port::absent() {
-            Some(why) => writeln!(f, "the port was not asked: {why}")?,
-            None => writeln!(f, "the port beside 01's text, all bytes:")?,
+            Some(why) => writeln!(f, "the port was not asked: {why}"),
+            None => writeln!(f, "the port beside 01's text:\n{}  the same in all bytes", self.port),
         }
-        for (operation, n) in &self.port {
-            writeln!(f, "{n:>9} {operation}")?;
-        }
-        Ok(())
-    }
-}
-
-fn words(agreed: &Agreement) -> String {
-    match agreed {
-        Agreement::Same => "the same answer".into(),
-        Agreement::Fact(what) => format!("both refuse: {what}"),
-        Agreement::Departure(what) => format!("departure: {what}"),
-        Agreement::Outside(what) => format!("outside: {what}"),
-        Agreement::Differ => "they differ".into(),
     }
 }

@@ -1,9 +1,9 @@
 //! The comparison finds what is wrong with a port.
 
-use cases::{Ask, ByJudge, Generator, Operations, Sizes, named};
-use compare::beside_paper;
-use judge::{Changed, Found};
-use port::Guarded;
+use cases::{Ask, ByJudge, Generator, Operations, Sizes, named, outcome, read_line};
+use compare::{Run, iceberg, replay};
+use judge::{Changed, Found, RECORD_BYTES};
+use port::{Guarded, beside_paper};
 
 /// The second judge with its answers changed a little.
 struct Altered {
@@ -136,4 +136,35 @@ fn a_wrong_slot_is_found() {
 fn a_slot_where_nothing_is_found_is_found() {
     let found = |answer: Found| Found { slot: 1 - answer.found.min(1), ..answer };
     assert!(failures(Altered { found, ..right() }) > 5);
+}
+
+/// A port that is right but on trees of more than eleven records, where a slot is one too high.
+/// The run stops at the lowest such case, whatever the threads; its line is the case, and the
+/// shrunk line is the least case that still fails.
+#[test]
+fn a_run_shows_the_first_failing_case_whole_and_shrunk() {
+    let wrong =
+        || Altered { found: |f| Found { slot: f.slot + u32::from(f.slot > 10), ..f }, ..right() };
+    let generator = Generator { seed: 3, sizes: Sizes::Usual };
+    let failure = |threads| {
+        let run = Run { threads, ..Run::new(generator, 0, 50_000) };
+        run.report_by(iceberg(), || Some(wrong())).expect_err("a wrong slot is seen")
+    };
+    let (one, three) = (failure(1), failure(3));
+    assert_eq!((one.number, &one.shrunk), (three.number, &three.shrunk));
+    let fails = |n: &u64| beside_paper(&generator.case(*n), &Guarded::new(wrong())).is_err();
+    assert_eq!((0..50_000).find(fails), Some(one.number));
+
+    let shown = one.to_string();
+    assert!(shown.contains(&format!("seed 3, case {}", one.number)), "{shown}");
+    let whole = read_line(&one.line).expect("a line of the recorded format");
+    assert_eq!(whole.case, generator.case(one.number));
+    let least = read_line(&one.shrunk).expect("a line of the recorded format");
+    assert!(beside_paper(&least.case, &Guarded::new(wrong())).is_err());
+    assert_ne!(outcome(&least.case, &wrong()), outcome(&least.case, &ByJudge));
+    // the lines replay: nobody else parts on them
+    let lines = format!("{}\n{}\n", one.line, one.shrunk);
+    assert_eq!(replay(&lines, iceberg()), Ok(2));
+    // twelve records, and the inside of some map that can't be left out
+    assert!((12..=16).contains(&(least.case.records.len() / RECORD_BYTES)), "{}", one.shrunk);
 }

@@ -1,11 +1,10 @@
 //! The two judges beside each other, on their common ground.
 
 use cases::{Generator, Named, Sizes, answer, named};
-use compare::{Agreement, absent, agreement, check, iceberg, run};
+use compare::{Agreement, LISTED, Run, absent, agreement, check, iceberg};
 use oracle::Verdict;
 
 const SEED: u64 = 7;
-const CASES: u64 = 28_000;
 
 #[test]
 fn the_judges_agree_on_every_named_case() {
@@ -18,22 +17,45 @@ fn the_judges_agree_on_every_named_case() {
 }
 
 #[test]
-fn the_judges_agree_on_random_cases() {
-    println!("seed {SEED}");
+fn threads_change_nothing_in_a_report() {
+    let report = |threads| {
+        let generator = Generator { seed: SEED, sizes: Sizes::Usual };
+        let run = Run { threads, ..Run::new(generator, 100, 7_000) };
+        run.report(iceberg()).unwrap_or_else(|failure| panic!("{failure}"))
+    };
+    let (one, three) = (report(1), report(3));
+    assert_eq!(one.tally.cases.sum(), 7_000);
+    assert_eq!(one, three);
+}
+
+#[test]
+fn a_run_that_says_too_little_is_told() {
     let generator = Generator { seed: SEED, sizes: Sizes::Usual };
-    let report = run(generator, 0, CASES, iceberg()).unwrap_or_else(|failure| panic!("{failure}"));
-    println!("{report}");
-    assert_eq!(report.tally.missing(), Vec::<String>::new());
-    if !report.crate_beside_paper.is_empty() {
-        let same = report.crate_beside_paper[&Agreement::Same];
-        assert!(same * 4 > CASES * 3, "{same} of {CASES} could be compared whole");
-        for departure in [
-            "18 in an update: the crate adds without a check",
-            "pruning: the crate's unwrap panics",
-        ] {
-            let met = report.crate_beside_paper.contains_key(&Agreement::Departure(departure));
-            assert!(met, "{departure}");
-        }
+    let report = Run::new(generator, 0, 700).report(iceberg()).expect("they agree");
+    let short = report.short_of(101, 500);
+    for told in [
+        "update: 100 cases, not 101",
+        "prune: never refusal 1 in list 0",
+        "id: never tree: 1,024 records",
+    ] {
+        assert!(short.contains(&told.to_string()), "{told}: {short:?}");
+    }
+    assert!(
+        short.iter().any(|why| why.contains("accepted trees of more than 900 records, not 500"))
+    );
+    if iceberg().is_some() {
+        assert!(short.contains(&"never departure: An identifier's id handed out again".into()));
+    }
+}
+
+/// Every departure that a run counts stands on the page, in the same words.
+#[test]
+fn what_a_run_may_meet_stands_in_the_list_of_differences() {
+    let page = concat!(env!("CARGO_MANIFEST_DIR"), "/../../docs/DIFFERENCES.md");
+    let page = std::fs::read_to_string(page).expect("docs/DIFFERENCES.md").replace('*', "");
+    for listed in LISTED {
+        let words = listed.words().expect("it is listed");
+        assert!(page.contains(words), "{words}");
     }
 }
 
@@ -74,8 +96,8 @@ fn a_word_that_differs_is_told() {
 }
 
 #[test]
-fn a_missing_folder_is_a_note_and_in_the_gate_a_failure() {
-    let note = absent("no folder", false).expect("a note");
-    assert!(note.contains("did not run") && note.contains("no folder"), "{note}");
-    assert!(absent("no folder", true).is_err());
+fn a_missing_judge_is_a_note_and_where_it_is_needed_a_failure() {
+    let note = absent("the port", "no archive", false).expect("a note");
+    assert!(note.contains("the port did not run: no archive"), "{note}");
+    assert!(absent("the port", "no archive", true).is_err());
 }

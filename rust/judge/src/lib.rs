@@ -22,6 +22,7 @@ mod write;
 
 pub use answer::{ADDED, ADDITIONS, BASE, DELETIONS, IDENTIFIERS, REBUILT};
 pub use answer::{Changed, Found, Refusal};
+pub use index::Names;
 pub use layout::{DEFAULT, LIST, MAP, PRIMITIVE, REQUIRED, STRUCT};
 pub use layout::{ENTRY_BYTES, ID_BYTES, RECORD_BYTES};
 pub use limits::{
@@ -30,7 +31,7 @@ pub use limits::{
 };
 pub use lister::list;
 pub use lookup::{find_id, find_name, find_parent};
-pub use prune::{prune, prune_where_rust_panics};
+pub use prune::{Unwrap, prune, prune_where_rust_panics};
 pub use read::read_tree;
 pub use renumber::renumber;
 pub use tree::{Node, Row, Tree};

@@ -25,14 +25,30 @@ pub fn prune(
     }
 }
 
-/// Would Rust's `unwrap` panic on the way? 01 names the two places: nothing yielded at the
-/// root; a chosen map value of struct kind that yields nothing, not full. A panic comes
-/// before a 20 that is met later.
-pub fn prune_where_rust_panics(records: &[u8], pool: &[u8], selected: &[u8], full: u32) -> bool {
-    let Ok(tree) = checked(records, pool, selected) else { return false };
+/// The two places that 01 names, where Rust's `unwrap` panics.
+#[derive(Clone, Copy, Debug, PartialEq, Eq)]
+pub enum Unwrap {
+    /// Nothing is yielded at the root.
+    Root,
+    /// A chosen map value of struct kind yields nothing, not full.
+    Value,
+}
+
+/// Where Rust's `unwrap` would panic on the way, if it would. A panic comes before a 20 that
+/// is met later.
+pub fn prune_where_rust_panics(
+    records: &[u8],
+    pool: &[u8],
+    selected: &[u8],
+    full: u32,
+) -> Option<Unwrap> {
+    let tree = checked(records, pool, selected).ok()?;
     let mut pruner = Pruner::new(&tree, selected, full);
-    let kept = pruner.members(&tree.roots);
-    pruner.unwraps || kept == Ok(None)
+    match pruner.members(&tree.roots) {
+        _ if pruner.unwraps => Some(Unwrap::Value),
+        Ok(None) => Some(Unwrap::Root),
+        _ => None,
+    }
 }
 
 fn checked(records: &[u8], pool: &[u8], selected: &[u8]) -> Result<Tree, Refusal> {

@@ -1,8 +1,10 @@
 //! The port's C functions, for the comparison and the benchmark: plain, and behind fences.
 
+mod beside;
 mod guarded;
 mod plain;
 
+pub use beside::{beside, beside_paper};
 pub use guarded::Guarded;
 pub use plain::Port;
 

@@ -1,7 +1,12 @@
 //! The frame around the C functions, and the functions on damaged bytes.
 
-use cases::{ByJudge, Generator, Operations, Sizes, outcome, packed, the_tree};
-use port::{Guarded, Port, absent};
+use std::sync::atomic::{AtomicUsize, Ordering};
+
+use cases::{
+    Ask, ByJudge, Case, Generator, Sizes, answer, ask_of, lists, outcome, packed, prim, prune_by,
+    renumber_by, strukt, the_tree, update_of,
+};
+use port::{Guarded, absent, beside_paper};
 
 #[test]
 fn fences_change_no_answer() {
@@ -14,33 +19,67 @@ fn fences_change_no_answer() {
     }
 }
 
-/// The port and 01's text on one damaged tree.
-fn same_on(records: &[u8], pool: &[u8], what: &str) {
-    let answer = Port.find_name(records, pool, b"visits.day");
-    assert_eq!(answer, ByJudge.find_name(records, pool, b"visits.day"), "{what}");
+/// Every entry on T: as the base of each, and as the additions tree of an update.
+fn asked_of_t() -> Vec<Case> {
+    let base = || packed(&the_tree());
+    let [node, visits, parts] = the_tree().try_into().expect("T has three roots");
+    let under = [strukt(20, "s", vec![prim(21, "m")])];
+    let two = [(Some("visits"), prim(0, "hour")), (None, prim(0, "floor"))];
+    vec![
+        update_of(&the_tree(), &[4], 10, &["node.cost"], &two),
+        update_of(&under, &[], 21, &["s.m"], &[(None, node), (Some("s"), visits), (None, parts)]),
+        prune_by(base(), &[7, 9], false),
+        prune_by(base(), &[2, 4], true),
+        renumber_by(base(), &[4, 10], 1),
+        ask_of(base(), Ask::Name(b"visits.day".to_vec())),
+        ask_of(base(), Ask::Id(7)),
+        ask_of(base(), Ask::Parent(7)),
+    ]
+}
+
+/// A case with one of its lists damaged is answered as 01's text answers it.
+fn same_on(case: &Case, what: &str) {
+    let word = case.ask.word();
+    assert_eq!(beside_paper(case, &Guarded::port()), Ok(true), "{word}: {what}\n{case:?}");
+}
+
+/// Each byte of each list through all values, and each list cut after each byte.
+fn damaged_everywhere(case: &Case) {
+    for at in 0..lists(&mut case.clone()).len() {
+        let damaged = |damage: &dyn Fn(&mut Vec<u8>)| {
+            let mut case = case.clone();
+            damage(lists(&mut case)[at].0);
+            case
+        };
+        let bytes = lists(&mut case.clone())[at].0.len();
+        for byte in 0..bytes {
+            for value in 0..=255 {
+                let what = format!("byte {byte} of list {at} is {value}");
+                same_on(&damaged(&|list| list[byte] = value), &what);
+            }
+            same_on(&damaged(&|list| list.truncate(byte)), &format!("list {at} ends at {byte}"));
+        }
+    }
 }
 
 #[test]
-fn each_byte_of_t_through_all_values_and_every_truncation_get_the_texts_answer() {
+fn t_damaged_in_every_byte_gets_the_texts_answer_from_every_entry() {
     if let Some(why) = absent() {
-        println!("the port was not asked: {why}");
+        println!("T was not put to the port: {why}");
         return;
     }
-    let (records, pool) = packed(&the_tree());
-    for at in 0..records.len() + pool.len() {
-        for value in 0..=255 {
-            let (mut records, mut pool) = (records.clone(), pool.clone());
-            match at.checked_sub(records.len()) {
-                None => records[at] = value,
-                Some(at) => pool[at] = value,
-            }
-            same_on(&records, &pool, &format!("byte {at} is {value}"));
+    let cases = asked_of_t();
+    let next = AtomicUsize::new(0);
+    let threads = std::thread::available_parallelism().map_or(1, usize::from);
+    std::thread::scope(|scope| {
+        for _ in 0..threads {
+            scope.spawn(|| {
+                while let Some(case) = cases.get(next.fetch_add(1, Ordering::Relaxed)) {
+                    assert_eq!(answer(case).refusal(), None);
+                    same_on(case, "undamaged");
+                    damaged_everywhere(case);
+                }
+            });
         }
-    }
-    for end in 0..=records.len() {
-        same_on(&records[..end], &pool, &format!("{end} record bytes"));
-    }
-    for end in 0..=pool.len() {
-        same_on(&records, &pool[..end], &format!("{end} name bytes"));
-    }
+    });
 }

@@ -1,0 +1,68 @@
+//! Cases whose walks go deep.
+
+use cases::{
+    Ask, Case, Generator, Sizes, ask_of, list_of, map_of, packed, prim, prune_by, renumber_by,
+    strukt, update_of,
+};
+use judge::{LEVELS, LIST, MAP, MOST_RECORDS, Node, STRUCT, Tree};
+
+use crate::rows::rows;
+use crate::schemas::{SCHEMAS, numbered};
+
+/// Cases whose walks go as deep as they can, in trees as large as they can be: the table's own,
+/// sixteen levels of each kind, and random ones.
+pub fn deepest() -> impl Iterator<Item = Case> {
+    let table = SCHEMAS.iter().flat_map(|(name, _)| rows(name, MOST_RECORDS));
+    let nested = [STRUCT, LIST, MAP, KEY].into_iter().flat_map(|kind| asked_of(&nested(kind)));
+    let random = Generator { seed: 1, sizes: Sizes::Usual };
+    let random = (0..3_500).map(move |n| random.case(n)).filter(|case| case.ask != Ask::List);
+    table.map(|row| row.case).chain(nested).chain(random)
+}
+
+/// A map whose key is nested.
+const KEY: u8 = 4;
+
+/// Sixteen levels of one kind, and so many roots beside them that these levels fit in again.
+fn nested(kind: u8) -> Vec<Node> {
+    let named = |mut node: Node, name: &str| {
+        node.name = name.as_bytes().to_vec();
+        node
+    };
+    let above = |inside: Node, _| match kind {
+        LIST => list_of(0, "n", named(inside, "element")),
+        MAP => map_of(0, "n", prim(0, "key"), named(inside, "value")),
+        KEY => map_of(0, "n", named(inside, "key"), prim(0, "value")),
+        _ => strukt(0, "n", vec![inside]),
+    };
+    let mut roots = vec![(1..LEVELS).fold(strukt(0, "n", vec![]), above)];
+    let left = MOST_RECORDS - 2 * Tree::of(&roots).rows.len();
+    roots.extend((0..left).map(|n| prim(0, &format!("column_{n}"))));
+    numbered(roots)
+}
+
+/// Every entry on a base: all is chosen, the deepest record is sought, and in an update 64 roots
+/// go and 64 come, one of them with all levels.
+fn asked_of(base: &[Node]) -> Vec<Case> {
+    let tree = Tree::of(base);
+    let level = |slot: &usize| tree.rows[*slot].level;
+    let deepest = (0..tree.rows.len()).max_by_key(level).expect("it has records");
+    let id = tree.rows[deepest].id;
+    let ids: Vec<i32> = tree.rows.iter().map(|row| row.id).collect();
+    let gone: Vec<String> = (0..64).map(|n| format!("column_{n}")).collect();
+    let gone: Vec<&str> = gone.iter().map(String::as_str).collect();
+    let added: Vec<(Option<&str>, Node)> = (0..64)
+        .map(|n| match n {
+            0 => (None, strukt(0, "whole", base[0].inside.clone())),
+            _ => (None, prim(0, &format!("fresh_{n}"))),
+        })
+        .collect();
+    vec![
+        update_of(base, &[id], MOST_RECORDS as i32, &gone, &added),
+        prune_by(packed(base), &ids, true),
+        prune_by(packed(base), &[id], false),
+        renumber_by(packed(base), &[id], 1),
+        ask_of(packed(base), Ask::Name(tree.full_name(deepest))),
+        ask_of(packed(base), Ask::Id(id)),
+        ask_of(packed(base), Ask::Parent(id)),
+    ]
+}

@@ -1,0 +1,30 @@
+//! Agreement at scale: the port's C functions beside both judges. `rust/test` runs this by
+//! itself, in a release build, since it takes long in another and uses all cores.
+
+use cases::{Generator, OPERATIONS, Sizes};
+use compare::{Run, iceberg, port_is_there};
+
+/// Cases of each operation, and accepted trees of more than 900 records among them.
+const CASES: u64 = 200_000;
+const LARGE: u64 = 500;
+const SEED: u64 = 2;
+
+fn from_environment(variable: &str, usual: u64) -> u64 {
+    match std::env::var(variable) {
+        Ok(word) => word.parse().unwrap_or_else(|_| panic!("{variable} is no number: {word}")),
+        Err(_) => usual,
+    }
+}
+
+#[test]
+fn the_port_and_both_judges_agree_at_scale() {
+    let seed = from_environment("BRAIDHURDLE_SEED", SEED);
+    let cases = from_environment("BRAIDHURDLE_CASES", CASES).max(CASES);
+    let (iceberg, _) = (iceberg(), port_is_there());
+    let generator = Generator { seed, sizes: Sizes::Usual };
+    let run = Run::new(generator, 0, cases * OPERATIONS.len() as u64);
+    println!("seed {seed}, {cases} cases of each operation");
+    let report = run.report(iceberg).unwrap_or_else(|failure| panic!("{failure}"));
+    println!("{report}");
+    assert_eq!(report.short_of(cases, LARGE), Vec::<String>::new());
+}
