@@ -1,6 +1,6 @@
 -- A full name is put from its end: what is left to put is the full name of the record that was reached.
 use mathlib.Core.Path.{_≡_, refl, sym, ap, _∙_}
-use mathlib.Core.List.{List, [], _∷_, _++_}
+use mathlib.Core.List.{List, [], _∷_}
 use Prim.Native.Nat.{ℕ, zero, suc, _+_, _-_, _<_, _≤_}
 use native.Mathlib.Omega.{arith}
 use lib.ListN.{length, set, getD, length-append, length-set}
@@ -25,8 +25,8 @@ pub record Climbing (name : ℕ → List ℕ) (us : List ℕ) (m slot start : �
   pub long : length out ≡ length out₀
 
 module _ (l : Lent) (xs : List ℕ) (m : ℕ) (us ls : List ℕ) (slot start : ℕ) (out₀ : List ℕ) (q : slot < m) (sp : Spelt l xs m us ls) where
-  pub climb-starts : (len : ℕ) → len ≡ getD ls slot 0 → start + length (full-at (name-in l xs) us slot) ≤ length out₀ → Climbing (name-in l xs) us m slot start out₀ slot (start + len) out₀
-  climb-starts len e h = let g = sp .len slot q in record { small = q; ends = omega arith; room = omega arith; whole = refl; long = refl }
+  pub climb-starts : (len : ℕ) → len ≡ getD ls slot 0 → len < 65536 → start + 65535 ≤ length out₀ → Climbing (name-in l xs) us m slot start out₀ slot (start + len) out₀
+  climb-starts len e b h = let g = sp .len slot q in record { small = q; ends = omega arith; room = omega arith; whole = refl; long = refl }
 
   module _ (here end : ℕ) (out nm : List ℕ) (h : Climbing (name-in l xs) us m slot start out₀ here end out) (en : nm ≡ name-in l xs here) where
     N : ℕ → List ℕ

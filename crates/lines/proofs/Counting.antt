@@ -1,11 +1,11 @@
 -- Digits from the last to the first, into the end of ten bytes: what is left to write, before what is written, is the whole text.
-use mathlib.Core.Path.{_≡_, refl, sym, ap, _∙_}
-use mathlib.Core.List.{List, [], _∷_}
+use mathlib.Core.Path.{_≡_, sym, _∙_}
+use mathlib.Core.List.{List, _∷_}
 use Prim.Native.Nat.{ℕ, suc, _+_, _-_, _/_, _%_, _<_, _≤_}
 use native.Mathlib.Numerals.{add-one}
 use native.Mathlib.Omega.{arith}
 use borrow.Author.Tests.{lt-ltb, le-ltb}
-use lib.ListN.{length, drop, set, getD, length-set}
+use lib.ListN.{length, drop, set, length-set}
 use lib.Seq.{drop-length, drop-cons, drop-set-lt, getD-set-same}
 use Rattle.paper.specs.Lister.{digits, decimal}
 use Rattle.lines.specs.Digits.{Ends}

@@ -1,3 +1,5 @@
 pub mod Counting
 pub mod Putting
 pub mod Climbing
+pub mod Showing
+pub mod Lines

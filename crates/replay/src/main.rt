@@ -2,6 +2,7 @@
 // every byte of its answer compared. The inputs are lent as `&`, so no call can change them, and no test of them is needed.
 mod answers;
 mod fields;
+mod lister;
 mod look_ups;
 mod outputs;
 mod pruning;
@@ -179,7 +180,8 @@ fn replay_line(
         Line::Name => tally.judged(look_ups::replay_name(text, inputs)),
         Line::Id => tally.judged(look_ups::replay_id(text, inputs)),
         Line::Parent => tally.judged(look_ups::replay_parent(text, inputs)),
-        Line::Passed => tally,
+        Line::List => tally.judged(lister::replay(text, inputs, names)),
+        Line::Comment => tally,
         Line::Unknown => tally.judged(Verdict::Unreadable),
     }
 }

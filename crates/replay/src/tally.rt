@@ -2,7 +2,7 @@
 use libc::STDOUT_FILENO;
 use record::equal;
 
-// What a line is: a case of an operation, or one that is passed over.
+// What a line is: a case of an operation or of the lister, or a comment.
 pub enum Line {
     Update,
     Prune,
@@ -10,7 +10,8 @@ pub enum Line {
     Name,
     Id,
     Parent,
-    Passed,
+    List,
+    Comment,
     Unknown,
 }
 
@@ -21,7 +22,7 @@ pub enum Verdict {
     Unreadable,
 }
 
-// The lines so far, the cases of each operation, and how many agree and differ.
+// The lines so far, the cases of each operation and of the lister, and how many agree and differ.
 pub struct Tally {
     pub lines: u64,
     pub update: u64,
@@ -30,6 +31,7 @@ pub struct Tally {
     pub name: u64,
     pub id: u64,
     pub parent: u64,
+    pub list: u64,
     pub agree: u64,
     pub differ: u64,
 }
@@ -61,11 +63,11 @@ fn tell_count(word: &[u8], n: u64) {
     io::write_all(STDOUT_FILENO, b"\n");
 }
 
-// What a line is, by its first field. A comment has # first; the lines of `list` are passed over like comments.
+// What a line is, by its first field. A comment has # first.
 pub fn line_of(text: &[u8], word: &[u8]) -> Line {
     if 0 < text.len() {
         if text[0] == b'#' {
-            return Line::Passed;
+            return Line::Comment;
         }
     }
     if equal(word, b"update") {
@@ -87,7 +89,7 @@ pub fn line_of(text: &[u8], word: &[u8]) -> Line {
         return Line::Parent;
     }
     if equal(word, b"list") {
-        return Line::Passed;
+        return Line::List;
     }
     Line::Unknown
 }
@@ -103,6 +105,7 @@ impl Tally {
             name: 0,
             id: 0,
             parent: 0,
+            list: 0,
             agree: 0,
             differ: 0,
         }
@@ -130,7 +133,10 @@ impl Tally {
             Line::Parent => {
                 self.parent = more(self.parent);
             }
-            Line::Passed => {}
+            Line::List => {
+                self.list = more(self.list);
+            }
+            Line::Comment => {}
             Line::Unknown => {}
         }
         self
@@ -162,6 +168,7 @@ impl Tally {
         tell_count(b"name ", self.name);
         tell_count(b"id ", self.id);
         tell_count(b"parent ", self.parent);
+        tell_count(b"list ", self.list);
         io::print_decimal(STDOUT_FILENO, self.agree);
         io::write_all(STDOUT_FILENO, b" cases agree, ");
         io::print_decimal(STDOUT_FILENO, self.differ);

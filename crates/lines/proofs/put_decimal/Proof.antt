@@ -1,6 +1,7 @@
 -- The digits are the last bytes of ten.
 -- Assumes nothing.
 use Rattle.lines.proofs.Putting.{put-whole}
+use native.Mathlib.Omega.{arith}
 use borrow.Author.Needs.{needs}
 use Rattle.lines.proofs.put_decimal.Statement.{statement}
 use Rattle.lines.proofs.put_decimal.Tie as tie
@@ -17,5 +18,5 @@ put-decimal-spec =
     (λ c. search needs)  -- sub-result
     (λ c. search needs)  -- add-result
     (λ c. search needs)  -- same-length
-    (λ c. search (put-whole, needs))  -- returns
+    (λ c. (search (put-whole, needs), omega arith))  -- returns
     )

@@ -15,12 +15,12 @@ put-signed-spec =
     (tie.spec
     (λ c. search needs)  -- put-decimal-requires
     (λ c. search needs)  -- same-length
-    (λ c. search (signed-low, needs))  -- returns
+    (λ c. (search (signed-low, needs), omega arith))  -- returns
     (λ c. search needs)  -- slice-write-out
     (λ c. search needs)  -- add-put-decimal
     (λ c. search needs)  -- sub-put-decimal
     (λ c. search needs)  -- add-put-decimal-2
     (λ c κs. simp length-set (omega arith))  -- put-decimal-requires-2
-    (λ c. ap length (c .before .before .put-decimal2 .ensures .bytes) ∙ simp (length-sets, length-set))  -- same-length-2
-    (λ c. search (signed-high, needs))  -- returns-2
+    (λ c. ap length (c .before .before .put-decimal2 .ensures .0 .bytes) ∙ simp (length-sets, length-set))  -- same-length-2
+    (λ c. (search (signed-high, needs), omega arith))  -- returns-2
     )
