@@ -9,7 +9,7 @@ use oracle::Iceberg;
 use port::Port;
 
 fn main() {
-    println!("microseconds of one call, best of 20 rounds; {}", machine());
+    println!("microseconds of processor time of one call, best of 20 rounds; {}", machine());
     if cfg!(debug_assertions) {
         println!(
             "this is no release build, so its times say nothing: cargo run --profile bench -p bench"
@@ -67,7 +67,10 @@ fn figures(row: &Row, iceberg: Option<Iceberg>) -> String {
     let shown = |time: Option<f64>, else_: &str| {
         time.map_or(format!("{else_:>12}"), |t| format!("{:>12.3}", t / 1e3))
     };
-    let ratio = ours.zip(theirs).map_or("-".into(), |(o, t)| format!("{:.1}", t / o));
+    let ratio = ours.zip(theirs).map_or("-".into(), |(o, t)| match t / o {
+        less if less < 1.0 => format!("{less:.3}"),
+        more => format!("{more:.1}"),
+    });
     let theirs = shown(theirs, "-");
     format!("{}{theirs}{ratio:>9}{:>9.3}", shown(ours, "not landed"), copy / 1e3)
 }
