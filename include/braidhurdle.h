@@ -2,20 +2,26 @@
  *
  * This header is the manual of the C boundary. Every function is a thin layer over a proved library: what it says here of
  * sizes, of what is written and of what a refusal leaves is proved of the Rattle source (docs/PROMISES.md). What is not proved
- * is this declaration itself: keep it as it is.
+ * is this declaration itself: keep it as it is. examples/c/calls.c calls every function; docs/GUIDE.md says how to link.
  *
  * Calls. No function has a state, allocates, or keeps a pointer: each may be called from any thread at any time. No call needs a
- * check first: any bytes at all get an answer. Each list is a pointer and a length in BYTES. A list of length 0 may have any
- * pointer that is not null and is aligned for bytes (in C, the address of anything); with length 0 nothing behind it is read.
+ * check first: any bytes at all get an answer. Each list is a pointer and a length in BYTES, and its pointer needs no alignment.
  *
- * Buffers must not overlap. Of a call whose buffers overlap nothing at all is promised: the proofs speak of buffers that do
- * not, and the compiler relies on it.
+ * Null. A list or buffer of length 0 may have any pointer, null too: nothing behind it is read or written. (A buffer of records
+ * or names of length 0 is below its size, so it is refused with 1.) The proofs' language has no null; see docs/DECISIONS.md.
+ *
+ * Overlap. A buffer that is written must share no byte with another buffer or list of the same call. Of a call in which it does,
+ * nothing at all is promised: the proofs speak of buffers that stand apart. Lists that are only read may share bytes.
+ *
+ * Machines. The functions follow the C of the machine that the archive was made for, so this header is the same everywhere. The
+ * toolchain compiles for x86-64; tools/archive says how the archive of another machine is made. Ids are two's complement.
  *
  * A tree is a list of 24-byte records in preorder, and a pool of names (document 01, 'Tree records'). Little-endian:
  *   0-3 id, signed            9  kind: 0 primitive, 1 struct, 2 list, 3 map     12-13 direct children
  *   4-7 name offset           10 bit 0 required, bit 1 has an initial default   16-19 type code, 0 unless primitive
  *   8   name length           11 is 0                                          20-23 attribute number (14-15 are 0)
- * A path entry is 8 bytes: offset (4), length (2), has-path 0 or 1 (1), then 0 (1). A list of ids is 4 bytes an id.
+ * A path entry is 8 bytes: offset (4), length (2), has-path (1), then 0 (1). has-path is 1; or 0, with offset and length 0, for
+ * an addition at the root. A list of ids is 4 bytes an id.
  *
  * Limits: 1,024 records, 16 levels, 32,768 bytes in a pool, 32,768 as the sum of a tree's name lengths, 64 deletions, 64
  * additions, 64 identifiers, 1,024 selected ids.
@@ -43,7 +49,9 @@
 #include <stddef.h>
 #include <stdint.h>
 
+/* The version of this boundary. It changes with any name, argument, result or size here. */
 #define BRAIDHURDLE_VERSION 1
+/* The least output buffers, in bytes. */
 #define BRAIDHURDLE_RECORD_ROOM 24576
 #define BRAIDHURDLE_NAME_ROOM 32768
 
@@ -51,14 +59,15 @@
 extern "C" {
 #endif
 
-/* refusal 0: accepted. On a refusal the last three are 0. last_id is 0 but for an accepted update. */
+/* What update, prune and renumber answer. refusal 0: accepted; then the first `records` * 24 bytes of out_records and the first
+ * `names` bytes of out_names are the tree. last_id is 0 but for an accepted update. On a refusal the last three are 0. */
 struct braidhurdle_changed {
     uint32_t refusal, list, place;
     uint32_t records, names;
     int32_t last_id;
 };
 
-/* found 0 or 1. Where nothing is found, or on a refusal, id and slot are 0. */
+/* What a look-up answers. found is 0 or 1. Where nothing is found, or on a refusal, id and slot are 0. */
 struct braidhurdle_found {
     uint32_t refusal, list, place;
     uint32_t found;
@@ -66,7 +75,10 @@ struct braidhurdle_found {
     uint32_t slot;
 };
 
-/* Drops and adds columns. Ids are handed out from last_id + 1; the answer's last_id is what to give next time. */
+/* Drops and adds columns. Deletions and additions are path entries into request_pool; the k-th root of added_records belongs to
+ * the k-th addition, its names too stand in request_pool, and ids in it are ignored. Ids are handed out from last_id + 1: the
+ * largest id in the tree is not enough, since that column may have been dropped. The answer's last_id is what to give next time.
+ * Refusals 1 to 19. */
 struct braidhurdle_changed braidhurdle_update(
     const uint8_t *records, size_t records_len, const uint8_t *pool, size_t pool_len,
     const uint8_t *identifiers, size_t identifiers_len, int32_t last_id,
@@ -74,24 +86,30 @@ struct braidhurdle_changed braidhurdle_update(
     const uint8_t *added_records, size_t added_records_len, const uint8_t *request_pool, size_t request_pool_len,
     uint8_t *out_records, size_t out_records_len, uint8_t *out_names, size_t out_names_len);
 
-/* Keeps the selected columns. full: not 0 keeps a chosen column's whole type. */
+/* Keeps the selected columns. full: not 0 keeps a chosen column's whole type. Selected ids that the tree has not are ignored.
+ * Refusals 1 to 8 and 20. */
 struct braidhurdle_changed braidhurdle_prune(
     const uint8_t *records, size_t records_len, const uint8_t *pool, size_t pool_len,
     const uint8_t *selected, size_t selected_len, uint32_t full,
     uint8_t *out_records, size_t out_records_len, uint8_t *out_names, size_t out_names_len);
 
-/* Numbers every column anew, level by level, from start on; identifiers are mapped in the order given. */
+/* Numbers every column anew, level by level, from start on. Identifiers are mapped in the order given: the first
+ * `identifiers_len` bytes of out_identifiers are their new ids. Refusals 1 to 9 and 18. */
 struct braidhurdle_changed braidhurdle_renumber(
     const uint8_t *records, size_t records_len, const uint8_t *pool, size_t pool_len,
     const uint8_t *identifiers, size_t identifiers_len, int32_t start,
     uint8_t *out_records, size_t out_records_len, uint8_t *out_names, size_t out_names_len,
     uint8_t *out_identifiers, size_t out_identifiers_len);
 
-/* The column of a full name, or else of a short name; of an id; and the column above that of an id. */
+/* The column of a full name, or else of a short name: its id and slot. A name is any bytes, of any length. Refusals 2 to 8. */
 struct braidhurdle_found braidhurdle_find_name(
     const uint8_t *records, size_t records_len, const uint8_t *pool, size_t pool_len, const uint8_t *name, size_t name_len);
+
+/* The column of an id: that id and its slot. Refusals 2 to 8. */
 struct braidhurdle_found braidhurdle_find_id(
     const uint8_t *records, size_t records_len, const uint8_t *pool, size_t pool_len, int32_t id);
+
+/* The column above that of an id: its id and slot. Nothing for a root, and for an id that the tree has not. Refusals 2 to 8. */
 struct braidhurdle_found braidhurdle_find_parent(
     const uint8_t *records, size_t records_len, const uint8_t *pool, size_t pool_len, int32_t id);
 

@@ -61,23 +61,20 @@ fn machine() -> String {
 
 fn figures(row: &Row, iceberg: Option<Iceberg>) -> String {
     let mut room = Room::default();
-    let ours = timed(&mut room, row, &Port);
+    let ours = port::absent().is_none().then(|| timed(&mut room, row, &Port));
     let theirs = iceberg.filter(|_| row.crate_too).map(|i| time(|| i.operate(&row.case)));
     let copy = time(|| room.copy(&row.case));
-    let shown = |time: Option<f64>, else_: &str| {
-        time.map_or(format!("{else_:>12}"), |t| format!("{:>12.3}", t / 1e3))
-    };
+    let shown =
+        |time: Option<f64>| time.map_or(format!("{:>12}", "-"), |t| format!("{:>12.3}", t / 1e3));
     let ratio = ours.zip(theirs).map_or("-".into(), |(o, t)| match t / o {
         less if less < 1.0 => format!("{less:.3}"),
         more => format!("{more:.1}"),
     });
-    let theirs = shown(theirs, "-");
-    format!("{}{theirs}{ratio:>9}{:>9.3}", shown(ours, "not landed"), copy / 1e3)
+    format!("{}{}{ratio:>9}{:>9.3}", shown(ours), shown(theirs), copy / 1e3)
 }
 
-/// The time of an operation that has landed; its answer is looked at first.
-fn timed(room: &mut Room, row: &Row, by: &impl Operations) -> Option<f64> {
-    let refusal = room.call(&row.case, by)?;
-    assert_eq!(refusal, row.refusal, "{}", row.what);
-    Some(time(|| room.call(&row.case, by)))
+/// The time of an operation; its answer is looked at first.
+fn timed(room: &mut Room, row: &Row, by: &impl Operations) -> f64 {
+    assert_eq!(room.call(&row.case, by), Some(row.refusal), "{}", row.what);
+    time(|| room.call(&row.case, by))
 }

@@ -63,11 +63,11 @@ impl Default for Room {
 }
 
 impl Room {
-    /// Calls the operation of a case; 01's number of a refusal, or none if it hasn't landed.
+    /// Calls the operation of a case; 01's number of a refusal, or none for the lister.
     pub fn call(&mut self, case: &Case, by: &impl Operations) -> Option<u32> {
         let (base, pool) = (&case.records[..], &case.pool[..]);
         let (r, n, i) = (&mut self.records[..], &mut self.names[..], &mut self.identifiers[..]);
-        match &case.ask {
+        Some(match &case.ask {
             Ask::Update {
                 identifiers,
                 last_id,
@@ -76,18 +76,18 @@ impl Room {
                 added_records: t,
                 request_pool: q,
                 ..
-            } => by.update(base, pool, identifiers, *last_id, d, a, t, q, r, n).map(|c| c.refusal),
+            } => by.update(base, pool, identifiers, *last_id, d, a, t, q, r, n).refusal,
             Ask::Prune { selected, full, .. } => {
-                by.prune(base, pool, selected, *full, r, n).map(|c| c.refusal)
+                by.prune(base, pool, selected, *full, r, n).refusal
             }
             Ask::Renumber { identifiers, start, .. } => {
-                by.renumber(base, pool, identifiers, *start, r, n, i).map(|c| c.refusal)
+                by.renumber(base, pool, identifiers, *start, r, n, i).refusal
             }
-            Ask::Name(name) => by.find_name(base, pool, name).map(|f| f.refusal),
-            Ask::Id(id) => by.find_id(base, pool, *id).map(|f| f.refusal),
-            Ask::Parent(id) => by.find_parent(base, pool, *id).map(|f| f.refusal),
-            Ask::List => None,
-        }
+            Ask::Name(name) => by.find_name(base, pool, name).refusal,
+            Ask::Id(id) => by.find_id(base, pool, *id).refusal,
+            Ask::Parent(id) => by.find_parent(base, pool, *id).refusal,
+            Ask::List => return None,
+        })
     }
 
     /// Copies the base's bytes to the front of the buffers: what no operation can be below

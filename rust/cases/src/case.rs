@@ -105,8 +105,7 @@ pub struct Outcome {
     pub out_identifiers: Vec<u8>,
 }
 
-/// Somebody who does the operations: the second judge, or the port. None says that the
-/// operation has not landed.
+/// Somebody who does the operations: the second judge, or the port.
 pub trait Operations {
     #[allow(clippy::too_many_arguments)] // the C function's own list
     fn update(
@@ -121,7 +120,7 @@ pub trait Operations {
         request_pool: &[u8],
         out_records: &mut [u8],
         out_names: &mut [u8],
-    ) -> Option<Changed>;
+    ) -> Changed;
     fn prune(
         &self,
         records: &[u8],
@@ -130,7 +129,7 @@ pub trait Operations {
         full: u32,
         out_records: &mut [u8],
         out_names: &mut [u8],
-    ) -> Option<Changed>;
+    ) -> Changed;
     #[allow(clippy::too_many_arguments)] // the C function's own list
     fn renumber(
         &self,
@@ -141,10 +140,10 @@ pub trait Operations {
         out_records: &mut [u8],
         out_names: &mut [u8],
         out_identifiers: &mut [u8],
-    ) -> Option<Changed>;
-    fn find_name(&self, records: &[u8], pool: &[u8], name: &[u8]) -> Option<Found>;
-    fn find_id(&self, records: &[u8], pool: &[u8], id: i32) -> Option<Found>;
-    fn find_parent(&self, records: &[u8], pool: &[u8], id: i32) -> Option<Found>;
+    ) -> Changed;
+    fn find_name(&self, records: &[u8], pool: &[u8], name: &[u8]) -> Found;
+    fn find_id(&self, records: &[u8], pool: &[u8], id: i32) -> Found;
+    fn find_parent(&self, records: &[u8], pool: &[u8], id: i32) -> Found;
 }
 
 /// The second judge: 01's text.
@@ -163,8 +162,8 @@ impl Operations for ByJudge {
         request_pool: &[u8],
         out_records: &mut [u8],
         out_names: &mut [u8],
-    ) -> Option<Changed> {
-        Some(judge::update(
+    ) -> Changed {
+        judge::update(
             records,
             pool,
             identifiers,
@@ -175,7 +174,7 @@ impl Operations for ByJudge {
             request_pool,
             out_records,
             out_names,
-        ))
+        )
     }
     fn prune(
         &self,
@@ -185,8 +184,8 @@ impl Operations for ByJudge {
         full: u32,
         out_records: &mut [u8],
         out_names: &mut [u8],
-    ) -> Option<Changed> {
-        Some(judge::prune(records, pool, selected, full, out_records, out_names))
+    ) -> Changed {
+        judge::prune(records, pool, selected, full, out_records, out_names)
     }
     fn renumber(
         &self,
@@ -197,25 +196,17 @@ impl Operations for ByJudge {
         out_records: &mut [u8],
         out_names: &mut [u8],
         out_identifiers: &mut [u8],
-    ) -> Option<Changed> {
-        Some(judge::renumber(
-            records,
-            pool,
-            identifiers,
-            start,
-            out_records,
-            out_names,
-            out_identifiers,
-        ))
+    ) -> Changed {
+        judge::renumber(records, pool, identifiers, start, out_records, out_names, out_identifiers)
     }
-    fn find_name(&self, records: &[u8], pool: &[u8], name: &[u8]) -> Option<Found> {
-        Some(judge::find_name(records, pool, name))
+    fn find_name(&self, records: &[u8], pool: &[u8], name: &[u8]) -> Found {
+        judge::find_name(records, pool, name)
     }
-    fn find_id(&self, records: &[u8], pool: &[u8], id: i32) -> Option<Found> {
-        Some(judge::find_id(records, pool, id))
+    fn find_id(&self, records: &[u8], pool: &[u8], id: i32) -> Found {
+        judge::find_id(records, pool, id)
     }
-    fn find_parent(&self, records: &[u8], pool: &[u8], id: i32) -> Option<Found> {
-        Some(judge::find_parent(records, pool, id))
+    fn find_parent(&self, records: &[u8], pool: &[u8], id: i32) -> Found {
+        judge::find_parent(records, pool, id)
     }
 }
 
@@ -227,8 +218,7 @@ fn filled(bytes: usize) -> Vec<u8> {
     buffer
 }
 
-/// All that an operation leaves on a case; none where it has not landed. The lister is no
-/// operation of the port.
+/// All that an operation leaves on a case; none for the lister, which is no operation of the port.
 pub fn outcome(case: &Case, by: &impl Operations) -> Option<Outcome> {
     let (mut r, mut n, mut i) = (vec![], vec![], vec![]);
     let (records, pool) = (&case.records[..], &case.pool[..]);
@@ -255,20 +245,20 @@ pub fn outcome(case: &Case, by: &impl Operations) -> Option<Outcome> {
                 request_pool,
                 &mut r,
                 &mut n,
-            )?)
+            ))
         }
         Ask::Prune { selected, full, out_records, out_names } => {
             (r, n) = (filled(*out_records), filled(*out_names));
-            Numbers::Changed(by.prune(records, pool, selected, *full, &mut r, &mut n)?)
+            Numbers::Changed(by.prune(records, pool, selected, *full, &mut r, &mut n))
         }
         Ask::Renumber { identifiers, start, out_records, out_names, out_identifiers } => {
             (r, n, i) = (filled(*out_records), filled(*out_names), filled(*out_identifiers));
             let (r, n, i) = (&mut r, &mut n, &mut i);
-            Numbers::Changed(by.renumber(records, pool, identifiers, *start, r, n, i)?)
+            Numbers::Changed(by.renumber(records, pool, identifiers, *start, r, n, i))
         }
-        Ask::Name(name) => Numbers::Found(by.find_name(records, pool, name)?),
-        Ask::Id(id) => Numbers::Found(by.find_id(records, pool, *id)?),
-        Ask::Parent(id) => Numbers::Found(by.find_parent(records, pool, *id)?),
+        Ask::Name(name) => Numbers::Found(by.find_name(records, pool, name)),
+        Ask::Id(id) => Numbers::Found(by.find_id(records, pool, *id)),
+        Ask::Parent(id) => Numbers::Found(by.find_parent(records, pool, *id)),
         Ask::List => return None,
     };
     Some(Outcome { numbers, out_records: r, out_names: n, out_identifiers: i })

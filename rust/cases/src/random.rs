@@ -45,4 +45,13 @@ impl Random {
     pub fn any_id(&mut self) -> i32 {
         self.next_number() as i32
     }
+
+    /// Bytes without any sense for a list whose entries have so many; small values are common,
+    /// and half the lists are whole.
+    pub fn noise(&mut self, unit: usize) -> Vec<u8> {
+        let parts = self.below(6);
+        let loose = if self.chance(1, 2) { self.below(unit) } else { 0 };
+        let most = *self.pick(&[2, 4, 30, 256]);
+        (0..parts * unit + loose).map(|_| self.below(most) as u8).collect()
+    }
 }

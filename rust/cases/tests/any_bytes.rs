@@ -3,36 +3,28 @@
 use cases::{Ask, ByJudge, Case, Generator, Numbers, Random, Sizes, answer, outcome};
 use judge::{ENTRY_BYTES, ID_BYTES, OUT_NAMES, OUT_RECORDS, RECORD_BYTES};
 
-/// Bytes without any sense; small values are common, and half the lists are whole.
-fn noise(random: &mut Random, unit: usize) -> Vec<u8> {
-    let parts = random.below(6);
-    let loose = if random.chance(1, 2) { random.below(unit) } else { 0 };
-    let most = *random.pick(&[2, 4, 30, 256]);
-    (0..parts * unit + loose).map(|_| random.below(most) as u8).collect()
-}
-
 fn any_case(random: &mut Random) -> Case {
-    let (records, pool) = (noise(random, RECORD_BYTES), noise(random, 40));
+    let (records, pool) = (random.noise(RECORD_BYTES), random.noise(40));
     let (out_records, out_names) = (OUT_RECORDS, OUT_NAMES);
     let ask = match random.below(7) {
         0 => Ask::Update {
-            identifiers: noise(random, ID_BYTES),
+            identifiers: random.noise(ID_BYTES),
             last_id: random.any_id(),
-            deletions: noise(random, ENTRY_BYTES),
-            additions: noise(random, ENTRY_BYTES),
-            added_records: noise(random, RECORD_BYTES),
-            request_pool: noise(random, 40),
+            deletions: random.noise(ENTRY_BYTES),
+            additions: random.noise(ENTRY_BYTES),
+            added_records: random.noise(RECORD_BYTES),
+            request_pool: random.noise(40),
             out_records,
             out_names,
         },
-        1 => Ask::Prune { selected: noise(random, ID_BYTES), full: 0, out_records, out_names },
+        1 => Ask::Prune { selected: random.noise(ID_BYTES), full: 0, out_records, out_names },
         2 => {
-            let identifiers = noise(random, ID_BYTES);
+            let identifiers = random.noise(ID_BYTES);
             let out_identifiers = identifiers.len();
             let start = random.any_id();
             Ask::Renumber { identifiers, start, out_records, out_names, out_identifiers }
         }
-        3 => Ask::Name(noise(random, 3)),
+        3 => Ask::Name(random.noise(3)),
         4 => Ask::Id(random.any_id()),
         5 => Ask::Parent(random.any_id()),
         _ => Ask::List,

@@ -55,12 +55,21 @@ pub struct Shown {
 
 /// Puts one case to the judges and the port, or tells how two of them part.
 pub fn check(case: &Case, iceberg: Option<Iceberg>) -> Result<Shown, String> {
-    check_by(case, iceberg, Port)
+    check_by(case, iceberg, linked())
+}
+
+/// The port, where it is there.
+fn linked() -> Option<Port> {
+    port::absent().is_none().then_some(Port)
 }
 
 /// The same with any operations in the port's place. A panic of somebody is told like a
 /// difference, so that its case is shown.
-fn check_by<O: Operations>(case: &Case, iceberg: Option<Iceberg>, by: O) -> Result<Shown, String> {
+fn check_by<O: Operations>(
+    case: &Case,
+    iceberg: Option<Iceberg>,
+    by: Option<O>,
+) -> Result<Shown, String> {
     let checked = catch_unwind(AssertUnwindSafe(|| checked_by(case, iceberg, by)));
     checked.unwrap_or_else(|_| Err("somebody panicked".into()))
 }
@@ -68,7 +77,7 @@ fn check_by<O: Operations>(case: &Case, iceberg: Option<Iceberg>, by: O) -> Resu
 fn checked_by<O: Operations>(
     case: &Case,
     iceberg: Option<Iceberg>,
-    by: O,
+    by: Option<O>,
 ) -> Result<Shown, String> {
     let left = outcome(case, &ByJudge);
     let paper = left.as_ref().map_or_else(|| answer(case), |left| shown(case, left));
@@ -83,7 +92,10 @@ fn checked_by<O: Operations>(
             }
         }
     };
-    let port = left.map_or(Ok(false), |left| beside(case, &left, &Guarded::new(by)))?;
+    let port = match (left, by) {
+        (Some(left), Some(by)) => beside(case, &left, &Guarded::new(by))?,
+        _ => false,
+    };
     Ok(Shown { paper, agreed, port })
 }
 
@@ -108,14 +120,14 @@ impl Run {
 
     /// Puts the cases to the judges and the port.
     pub fn report(&self, iceberg: Option<Iceberg>) -> Result<Report, Box<Failure>> {
-        self.report_by(iceberg, || Port)
+        self.report_by(iceberg, linked)
     }
 
     /// The same with any operations in the port's place.
     pub fn report_by<O: Operations>(
         &self,
         iceberg: Option<Iceberg>,
-        by: impl Fn() -> O + Sync,
+        by: impl Fn() -> Option<O> + Sync,
     ) -> Result<Report, Box<Failure>> {
         let (next, first) = (AtomicU64::new(self.from), AtomicU64::new(u64::MAX));
         let whole = Mutex::new(Report::default());
@@ -154,7 +166,7 @@ impl Run {
         n: u64,
         report: &mut Report,
         iceberg: Option<Iceberg>,
-        by: impl Operations,
+        by: Option<impl Operations>,
     ) -> bool {
         let (case, origin) = self.generator.made(n);
         let Ok(Shown { paper, agreed, port }) = check_by(&case, iceberg, by) else { return false };
@@ -172,7 +184,7 @@ impl Run {
         &self,
         number: u64,
         iceberg: Option<Iceberg>,
-        by: impl Fn() -> O,
+        by: impl Fn() -> Option<O>,
     ) -> Failure {
         let case = self.generator.case(number);
         let why = |case: &Case| check_by(case, iceberg, by()).err();

@@ -24,10 +24,10 @@ impl Operations for Altered {
         request_pool: &[u8],
         r: &mut [u8],
         n: &mut [u8],
-    ) -> Option<Changed> {
+    ) -> Changed {
         let (d, a, t, q) = (deletions, additions, added_records, request_pool);
-        let answer = ByJudge.update(records, pool, identifiers, last_id, d, a, t, q, r, n)?;
-        Some((self.changed)(answer, r, n))
+        let answer = ByJudge.update(records, pool, identifiers, last_id, d, a, t, q, r, n);
+        (self.changed)(answer, r, n)
     }
     fn prune(
         &self,
@@ -37,9 +37,9 @@ impl Operations for Altered {
         full: u32,
         r: &mut [u8],
         n: &mut [u8],
-    ) -> Option<Changed> {
-        let answer = ByJudge.prune(records, pool, selected, full, r, n)?;
-        Some((self.changed)(answer, r, n))
+    ) -> Changed {
+        let answer = ByJudge.prune(records, pool, selected, full, r, n);
+        (self.changed)(answer, r, n)
     }
     fn renumber(
         &self,
@@ -50,18 +50,18 @@ impl Operations for Altered {
         r: &mut [u8],
         n: &mut [u8],
         i: &mut [u8],
-    ) -> Option<Changed> {
-        let answer = ByJudge.renumber(records, pool, identifiers, start, r, n, i)?;
-        Some((self.changed)(answer, r, n))
+    ) -> Changed {
+        let answer = ByJudge.renumber(records, pool, identifiers, start, r, n, i);
+        (self.changed)(answer, r, n)
     }
-    fn find_name(&self, records: &[u8], pool: &[u8], name: &[u8]) -> Option<Found> {
-        ByJudge.find_name(records, pool, name).map(self.found)
+    fn find_name(&self, records: &[u8], pool: &[u8], name: &[u8]) -> Found {
+        (self.found)(ByJudge.find_name(records, pool, name))
     }
-    fn find_id(&self, records: &[u8], pool: &[u8], id: i32) -> Option<Found> {
-        ByJudge.find_id(records, pool, id).map(self.found)
+    fn find_id(&self, records: &[u8], pool: &[u8], id: i32) -> Found {
+        (self.found)(ByJudge.find_id(records, pool, id))
     }
-    fn find_parent(&self, records: &[u8], pool: &[u8], id: i32) -> Option<Found> {
-        ByJudge.find_parent(records, pool, id).map(self.found)
+    fn find_parent(&self, records: &[u8], pool: &[u8], id: i32) -> Found {
+        (self.found)(ByJudge.find_parent(records, pool, id))
     }
 }
 
@@ -148,7 +148,7 @@ fn a_run_shows_the_first_failing_case_whole_and_shrunk() {
     let generator = Generator { seed: 3, sizes: Sizes::Usual };
     let failure = |threads| {
         let run = Run { threads, ..Run::new(generator, 0, 50_000) };
-        run.report_by(iceberg(), wrong).expect_err("a wrong slot is seen")
+        run.report_by(iceberg(), || Some(wrong())).expect_err("a wrong slot is seen")
     };
     let (one, three) = (failure(1), failure(3));
     assert_eq!((one.number, &one.shrunk), (three.number, &three.shrunk));

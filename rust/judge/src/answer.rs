@@ -37,7 +37,6 @@ pub fn refuse(number: u32, list: u32, fault: Option<usize>) -> Result<(), Refusa
 }
 
 /// The answer of update, prune and renumber. On a refusal the last three are 0.
-#[repr(C)]
 #[derive(Clone, Copy, Debug, Default, PartialEq, Eq)]
 pub struct Changed {
     /// 0 where accepted, else 01's number.
@@ -59,7 +58,6 @@ impl From<Refusal> for Changed {
 }
 
 /// The answer of a look-up. Where nothing is found, or on a refusal, id and slot are 0.
-#[repr(C)]
 #[derive(Clone, Copy, Debug, Default, PartialEq, Eq)]
 pub struct Found {
     /// 0 where the tree was accepted, else 01's number.

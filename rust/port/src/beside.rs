@@ -4,7 +4,7 @@ use cases::{ByJudge, Case, Operations, Outcome, outcome};
 
 use crate::guarded::Guarded;
 
-/// Do these operations leave what the paper left? False where the operation has not landed.
+/// Do these operations leave what the paper left? False for the lister, which is none of them.
 pub fn beside<O: Operations>(
     case: &Case,
     paper: &Outcome,
@@ -34,8 +34,7 @@ pub fn beside<O: Operations>(
     }
 }
 
-/// The same, with the second judge asked first. False also for the lister, which is no
-/// operation of the port.
+/// The same, with the second judge asked first.
 pub fn beside_paper<O: Operations>(case: &Case, by: &Guarded<O>) -> Result<bool, String> {
     outcome(case, &ByJudge).map_or(Ok(false), |paper| beside(case, &paper, by))
 }

@@ -95,7 +95,7 @@ impl<O: Operations> Operations for Guarded<O> {
         request_pool: &[u8],
         out_records: &mut [u8],
         out_names: &mut [u8],
-    ) -> Option<Changed> {
+    ) -> Changed {
         let lent = [records, pool, identifiers, deletions, additions, added_records, request_pool];
         self.fenced(&lent, &mut [out_records, out_names], |l, out| {
             let [r, n] = out else { unreachable!("two buffers") };
@@ -111,7 +111,7 @@ impl<O: Operations> Operations for Guarded<O> {
         full: u32,
         out_records: &mut [u8],
         out_names: &mut [u8],
-    ) -> Option<Changed> {
+    ) -> Changed {
         self.fenced(&[records, pool, selected], &mut [out_records, out_names], |l, out| {
             let [r, n] = out else { unreachable!("two buffers") };
             self.by.prune(l[0], l[1], l[2], full, r, n)
@@ -127,7 +127,7 @@ impl<O: Operations> Operations for Guarded<O> {
         out_records: &mut [u8],
         out_names: &mut [u8],
         out_identifiers: &mut [u8],
-    ) -> Option<Changed> {
+    ) -> Changed {
         let out = &mut [out_records, out_names, out_identifiers];
         self.fenced(&[records, pool, identifiers], out, |l, out| {
             let [r, n, i] = out else { unreachable!("three buffers") };
@@ -135,15 +135,15 @@ impl<O: Operations> Operations for Guarded<O> {
         })
     }
 
-    fn find_name(&self, records: &[u8], pool: &[u8], name: &[u8]) -> Option<Found> {
+    fn find_name(&self, records: &[u8], pool: &[u8], name: &[u8]) -> Found {
         self.fenced(&[records, pool, name], &mut [], |l, _| self.by.find_name(l[0], l[1], l[2]))
     }
 
-    fn find_id(&self, records: &[u8], pool: &[u8], id: i32) -> Option<Found> {
+    fn find_id(&self, records: &[u8], pool: &[u8], id: i32) -> Found {
         self.fenced(&[records, pool], &mut [], |l, _| self.by.find_id(l[0], l[1], id))
     }
 
-    fn find_parent(&self, records: &[u8], pool: &[u8], id: i32) -> Option<Found> {
+    fn find_parent(&self, records: &[u8], pool: &[u8], id: i32) -> Found {
         self.fenced(&[records, pool], &mut [], |l, _| self.by.find_parent(l[0], l[1], id))
     }
 }

@@ -1,5 +1,4 @@
-//! The port's C functions, for the comparison and the benchmark. What has not landed in the
-//! archive answers none; nothing here changes when it lands.
+//! The port's C functions, for the comparison and the benchmark: plain, and behind fences.
 
 mod beside;
 mod guarded;
@@ -9,23 +8,7 @@ pub use beside::{beside, beside_paper};
 pub use guarded::Guarded;
 pub use plain::Port;
 
-/// Why no archive is linked, if none is.
+/// Why the port can't be asked, if it can't.
 pub fn absent() -> Option<&'static str> {
-    #[cfg(archive)]
-    return None;
-    #[cfg(not(archive))]
-    return Some(env!("ARCHIVE_ABSENT"));
-}
-
-/// The operations that have landed.
-pub fn landed() -> Vec<&'static str> {
-    let operations = [
-        ("update", cfg!(landed_update)),
-        ("prune", cfg!(landed_prune)),
-        ("renumber", cfg!(landed_renumber)),
-        ("name", cfg!(landed_find_name)),
-        ("id", cfg!(landed_find_id)),
-        ("parent", cfg!(landed_find_parent)),
-    ];
-    operations.iter().filter(|(_, landed)| *landed).map(|(word, _)| *word).collect()
+    if braidhurdle::LINKED { None } else { Some("built without its archive") }
 }

@@ -1,24 +1,12 @@
-//! The frame around the C functions, with and without the archive.
+//! The frame around the C functions, and the functions on damaged bytes.
 
 use std::sync::atomic::{AtomicUsize, Ordering};
 
 use cases::{
-    Ask, ByJudge, Case, Generator, Operations, Sizes, answer, ask_of, lists, outcome, packed, prim,
-    prune_by, renumber_by, strukt, the_tree, update_of,
+    Ask, ByJudge, Case, Generator, Sizes, answer, ask_of, lists, outcome, packed, prim, prune_by,
+    renumber_by, strukt, the_tree, update_of,
 };
-use port::{Guarded, Port, absent, beside_paper, landed};
-
-#[test]
-fn without_an_archive_nothing_has_landed_and_the_reason_is_told() {
-    match absent() {
-        Some(why) => {
-            assert!(why.contains("archive"), "{why}");
-            assert!(landed().is_empty());
-            assert!(Port.find_id(&[], &[], 1).is_none());
-        }
-        None => println!("landed: {}", landed().join(" ")),
-    }
-}
+use port::{Guarded, absent, beside_paper};
 
 #[test]
 fn fences_change_no_answer() {
@@ -51,9 +39,8 @@ fn asked_of_t() -> Vec<Case> {
 
 /// A case with one of its lists damaged is answered as 01's text answers it.
 fn same_on(case: &Case, what: &str) {
-    let landed = landed().contains(&case.ask.word());
     let word = case.ask.word();
-    assert_eq!(beside_paper(case, &Guarded::port()), Ok(landed), "{word}: {what}\n{case:?}");
+    assert_eq!(beside_paper(case, &Guarded::port()), Ok(true), "{word}: {what}\n{case:?}");
 }
 
 /// Each byte of each list through all values, and each list cut after each byte.

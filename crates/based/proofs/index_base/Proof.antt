@@ -22,7 +22,7 @@ index-plan-requires c κs =
 
 -- src/lib.rt:8:1
 returns : tie.Need-returns
-returns c = base-indexed _ _ _ _ _ _ _ _ (c .before .before .before .before .before .before .before .before .before .before .before .before .before .before .before .before .before .before .pre) _ _ _ (c .before .before .before .before .before .before .before .before .before .before .before .take-base .ensures) _ _ _ _ _ _ _ _ (c .index-plan .ensures)
+returns c = search (base-indexed _ _ _ _ _ _ _ _ (c .before .before .before .before .before .before .before .before .before .before .before .before .before .before .before .before .before .before .pre) _ _ _ (c .before .before .before .before .before .before .before .before .before .before .before .take-base .ensures), needs)
 
 pub index-base-spec : {M : Type 1} → statement M
 index-base-spec = tie.close (tie.spec take-base-requires index-plan-requires returns)

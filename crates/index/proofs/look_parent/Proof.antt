@@ -20,7 +20,7 @@ look-parent-spec =
     (λ c. let q = place-within _ _ _ (c .before .find-id .ensures) in let z = c .before .before .pre .0 in let h = c .if1 .left in omega arith)  -- mul-place
     (λ c. let q = place-within _ _ _ (c .before .find-id .ensures) in let z = c .before .before .pre .0 in let h = c .if1 .left in omega arith)  -- element-copy-out-place
     (λ c κs. search needs)  -- place-requires
-    (λ c. record { finds = λ l xs ks p rs. no-parent l xs _ ks _ p _ _ (c .before .before .before .before .find-id .ensures) _ rs _ (c .before .before .before .if1 .left) (place-within _ _ _ (c .before .before .before .before .find-id .ensures)) (c .before .place .ensures) (c .if2 .taken) })  -- returns-2
+    (λ c. record { finds = λ l xs ks p rs. no-parent l xs _ ks _ p _ _ (c .before .before .before .before .find-id .ensures) _ rs _ (c .before .before .before .if1 .left) (place-within _ _ _ (c .before .before .before .before .find-id .ensures)) (search needs) (c .if2 .taken) })  -- returns-2
     (λ c. let h = c .if2 .left in omega arith)  -- sub-t11
     (λ c. let s = up-small _ _ _ _ (c .before .before .before .before .before .pre .1 .1) (place-within _ _ _ (c .before .before .before .before .find-id .ensures)) (c .before .before .before .before .before .pre .0) (c .before .before .before .if1 .left) (c .before .place .ensures) (c .if2 .left) in omega arith)  -- mul-t12
     (λ c. up-small _ _ _ _ (c .before .before .before .before .before .pre .1 .1) (place-within _ _ _ (c .before .before .before .before .find-id .ensures)) (c .before .before .before .before .before .pre .0) (c .before .before .before .if1 .left) (c .before .place .ensures) (c .if2 .left))  -- element-copy-out-t18

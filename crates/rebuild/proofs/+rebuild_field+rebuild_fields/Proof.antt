@@ -112,7 +112,7 @@ pub +rebuild-field+rebuild-fields-spec : {M : Type 1} → statement M
     (λ c κs. inside-reads _ _ _ _ _ _ _ _ _ _ _ _ _ _ _ _ _ _ _ _ (c .before .before .before .loop .inv) (c .before .before .loop-test .taken))  -- rebuild-fields-tree-end-requires
     (λ c. search needs)  -- rebuild-fields-sub-left
     (λ c. search needs)  -- rebuild-fields-loop-less
-    (λ c. rebuild-skips _ _ _ _ _ _ _ _ _ _ _ _ _ _ _ _ _ _ _ _ (c .before .before .before .before .loop .inv) (c .before .before .before .loop-test .taken) _ _ (c .before .before .goes .ensures) (c .before .if1 .taken) (c .tree-end .ensures))  -- rebuild-fields-loop-again
+    (λ c. rebuild-skips _ _ _ _ _ _ _ _ _ _ _ _ _ _ _ _ _ _ _ _ (c .before .before .before .before .loop .inv) (c .before .before .before .loop-test .taken) _ _ (search needs) (c .before .if1 .taken) (c .tree-end .ensures))  -- rebuild-fields-loop-again
     (λ c κs. let u = c .before .before .before .before .before .before .before .before .before .pre in let v = c .before .before .before .before .before .before .loop .inv in (omega (arith, u .0), (inside-reads _ _ _ _ _ _ _ _ _ _ _ _ _ _ _ _ _ _ _ _ (c .before .before .before .before .before .before .loop .inv) (c .before .before .before .before .before .loop-test .taken), u .1 .2, u .1 .3, v .on .room, v .on .few)))  -- rebuild-fields-rebuild-field-requires
     (λ c. search needs)  -- rebuild-fields-enum-known-step
     (λ c. search needs)  -- rebuild-fields-enum-told

@@ -39,7 +39,7 @@ cast-if1 c = search needs
 
 -- src/lib.rt:122:9
 returns-2 : tie.Need-returns-2
-returns-2 c = stop-18 _ _ _ _ _ _ _ _ _ _ refl refl refl _ (c .before .before .before .before .before .before .before .before .before .before .before .before .before .before .before .before .pre) _ _ _ _ _ _ (c .before .before .before .before .index-base .ensures) (c .before .before .enum-told .given .1) _ (c .before .turn .ensures) (c .if1 .taken)
+returns-2 c = stop-18 _ _ _ _ _ _ _ _ _ _ refl refl refl _ (c .before .before .before .before .before .before .before .before .before .before .before .before .before .before .before .before .pre) _ _ _ _ _ _ (c .before .before .before .before .index-base .ensures) (c .before .before .enum-told .given .1) _ (c .before .turn .ensures) (search needs)
 
 -- src/lib.rt:128:5
 finish-requires : tie.Need-finish-requires

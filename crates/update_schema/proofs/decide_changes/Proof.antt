@@ -15,5 +15,5 @@ decide-changes-spec =
     (λ c. search needs)  -- enum-told
     (λ c κs. search needs)  -- gather-requires
     (λ c κs. search needs)  -- place-columns-requires
-    (λ c. changes-go _ _ _ _ _ _ _ _ _ _ _ _ (c .before .before .before .before .before .before .before .before .drop-columns .ensures) _ _ _ _ _ (c .before .before .before .before .before .before .enum-told .given .1) (c .before .before .before .before .gather .ensures) (c .place-columns .ensures))  -- returns-2
+    (λ c. changes-go _ _ _ _ _ _ _ _ _ _ _ _ (c .before .before .before .before .before .before .before .before .drop-columns .ensures) _ _ _ _ _ (c .before .before .before .before .before .before .enum-told .given .1) (search needs) (c .place-columns .ensures))  -- returns-2
     )

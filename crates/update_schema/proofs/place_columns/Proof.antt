@@ -37,5 +37,5 @@ place-columns-spec =
     (λ c. let e = c .before .before .before .before .before .before .before .before .before .before .before .pre .2 .entries in let r = c .before .before .before .before .before .loop .inv in omega (arith, e .few, c .before .before .before .before .loop-test .taken, r .us-room, r .fs-room, r .st-room))  -- add-k
     (λ c. omega (arith, c .before .before .before .before .loop-test .taken))  -- loop-less
     (λ c. place-goes _ _ _ _ _ _ _ _ _ _ _ _ _ _ (c .before .before .before .before .before .loop .inv) (c .before .before .before .before .loop-test .taken) _ _ (c .before .before .before .before .before .before .before .before .before .before .before .pre .2) (c .before .before .before .place-one .ensures) (c .before .one .given .1))  -- loop-again
-    (λ c. place-ends _ _ _ _ _ _ _ _ _ _ _ _ _ _ (c .before .loop .inv) (c .loop-test .left))  -- returns-2
+    (λ c. search (place-ends _ _ _ _ _ _ _ _ _ _ _ _ _ _ (c .before .loop .inv), needs))  -- returns-2
     )

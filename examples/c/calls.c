@@ -1,0 +1,203 @@
+/* Every function of include/braidhurdle.h, called on document 01's tree T. From the top of the checkout:
+ *
+ *     tools/archive
+ *     cc -std=c11 -Wall -Wextra -Werror -Iinclude examples/c/calls.c target/staticlib/libbraidhurdle.a -o target/calls
+ *     target/calls
+ *
+ * It prints each answer, and ends with another status than 0 if one is not what 01 says. */
+#include <stdio.h>
+#include <string.h>
+
+#include "braidhurdle.h"
+
+#define RECORD_BYTES 24
+#define WORD(n) (uint8_t)(n), (uint8_t)((n) >> 8), (uint8_t)((n) >> 16), (uint8_t)((n) >> 24)
+#define RECORD(id, offset, length, kind, flags, children) \
+    WORD(id), WORD(offset), length, kind, flags, 0, children, 0, 0, 0, WORD(0), WORD(0)
+#define PATH(offset, length) WORD(offset), length, 0, 1, 0
+#define ROOT WORD(0), 0, 0, 0, 0
+
+enum { PRIMITIVE, STRUCT, LIST, MAP };
+enum { OPTIONAL, REQUIRED };
+
+/* T: node of button and cost; visits, a list of structs of day; parts, a map from key to structs of price. */
+static const uint8_t t[] = {
+    RECORD(1, 0, 4, STRUCT, OPTIONAL, 2),
+    RECORD(4, 4, 6, PRIMITIVE, OPTIONAL, 0),
+    RECORD(5, 10, 4, PRIMITIVE, OPTIONAL, 0),
+    RECORD(2, 14, 6, LIST, OPTIONAL, 1),
+    RECORD(6, 20, 7, STRUCT, OPTIONAL, 1),
+    RECORD(7, 27, 3, PRIMITIVE, OPTIONAL, 0),
+    RECORD(3, 30, 5, MAP, OPTIONAL, 2),
+    RECORD(8, 35, 3, PRIMITIVE, REQUIRED, 0),
+    RECORD(9, 38, 5, STRUCT, OPTIONAL, 1),
+    RECORD(10, 43, 5, PRIMITIVE, OPTIONAL, 0),
+};
+static const char names[] = "nodebuttoncostvisitselementdaypartskeyvalueprice";
+static const uint8_t *const pool = (const uint8_t *)names;
+#define T t, sizeof t, pool, sizeof names - 1
+
+/* Room for an answer: made once, used for every call. */
+static uint8_t records[BRAIDHURDLE_RECORD_ROOM], out_names[BRAIDHURDLE_NAME_ROOM], identifiers[8];
+#define ROOM records, sizeof records, out_names, sizeof out_names
+#define NOTHING NULL, 0
+#define UNTOUCHED 0xA5
+
+static int failed;
+
+static void held(const char *what, int holds)
+{
+    printf("%-6s %s\n", holds ? "ok" : "WRONG", what);
+    failed |= !holds;
+}
+
+static void fresh(void)
+{
+    memset(records, UNTOUCHED, sizeof records);
+    memset(out_names, UNTOUCHED, sizeof out_names);
+    memset(identifiers, UNTOUCHED, sizeof identifiers);
+}
+
+static int untouched(const uint8_t *from, const uint8_t *end)
+{
+    while (from < end && *from == UNTOUCHED) from++;
+    return from == end;
+}
+
+static int all_untouched(void)
+{
+    return untouched(records, records + sizeof records) && untouched(out_names, out_names + sizeof out_names) &&
+           untouched(identifiers, identifiers + sizeof identifiers);
+}
+
+/* Is the answer this tree, and is every byte beyond it as it was? */
+static int answered(struct braidhurdle_changed a, const uint8_t *tree, size_t bytes, const char *packed)
+{
+    return a.refusal == 0 && a.records * RECORD_BYTES == bytes && a.names == strlen(packed) &&
+           memcmp(records, tree, bytes) == 0 && untouched(records + bytes, records + sizeof records) &&
+           memcmp(out_names, packed, a.names) == 0 && untouched(out_names + a.names, out_names + sizeof out_names);
+}
+
+static int refused(struct braidhurdle_changed a, uint32_t number, uint32_t list, uint32_t place)
+{
+    return a.refusal == number && a.list == list && a.place == place && a.records == 0 && a.names == 0 && a.last_id == 0 &&
+           all_untouched();
+}
+
+static int found(struct braidhurdle_found f, int32_t id, uint32_t slot)
+{
+    return f.refusal == 0 && f.found == 1 && f.id == id && f.slot == slot;
+}
+
+static int nothing(struct braidhurdle_found f)
+{
+    return f.refusal == 0 && f.found == 0 && f.id == 0 && f.slot == 0;
+}
+
+static void look_ups(void)
+{
+    const uint8_t *day = (const uint8_t *)"visits.day";
+    struct braidhurdle_found f = braidhurdle_find_name(t, sizeof t - 1, pool, sizeof names - 1, day, 10);
+    held("find_name: visits.day is id 7 at slot 5 (P3)", found(braidhurdle_find_name(T, day, 10), 7, 5));
+    held("find_name: day is nothing (P3)", nothing(braidhurdle_find_name(T, day + 7, 3)));
+    held("find_name: a list that is not whole is refused with 2", f.refusal == 2 && f.list == 0 && f.place == 0 && !f.found);
+    held("find_id: 10 stands at slot 9", found(braidhurdle_find_id(T, 10), 10, 9));
+    held("find_id: 11 is nothing", nothing(braidhurdle_find_id(T, 11)));
+    held("find_parent: above 7 stands 6 at slot 4", found(braidhurdle_find_parent(T, 7), 6, 4));
+    held("find_parent: above a root stands nothing", nothing(braidhurdle_find_parent(T, 1)));
+}
+
+static void updates(void)
+{
+    /* one pool for paths and new names, which may share bytes in it */
+    const uint8_t *request_pool = (const uint8_t *)"node.costfloor";
+    const uint8_t drop[] = {PATH(0, 9)}, under_node[] = {PATH(0, 4)}, at_root_twice[] = {ROOT, ROOT};
+    const uint8_t cost[] = {RECORD(0, 5, 4, PRIMITIVE, OPTIONAL, 0)};
+    const uint8_t floor_twice[] = {RECORD(0, 9, 5, PRIMITIVE, OPTIONAL, 0), RECORD(0, 9, 5, PRIMITIVE, OPTIONAL, 0)};
+    uint8_t expected[sizeof t];
+    struct braidhurdle_changed a;
+
+    fresh();
+    memcpy(expected, t, sizeof t);
+    expected[2 * RECORD_BYTES] = 11;
+    a = braidhurdle_update(T, NOTHING, 10, drop, sizeof drop, under_node, sizeof under_node, cost, sizeof cost, request_pool, 14,
+                           ROOM);
+    held("update: node.cost dropped and added again has id 11 (P4)", answered(a, expected, sizeof expected, names));
+    held("update: the last id is 11", a.last_id == 11);
+    fresh();
+    a = braidhurdle_update(T, NOTHING, 10, NOTHING, at_root_twice, sizeof at_root_twice, floor_twice, sizeof floor_twice,
+                           request_pool, 14, ROOM);
+    held("update: floor twice is refused with 8 at list 4, place 11, and nothing is written (P7)", refused(a, 8, 4, 11));
+}
+
+static void prunings(void)
+{
+    const uint8_t day[] = {WORD(7)}, visits[] = {WORD(2)};
+    const uint8_t expected[] = {
+        RECORD(2, 0, 6, LIST, OPTIONAL, 1),
+        RECORD(6, 6, 7, STRUCT, OPTIONAL, 1),
+        RECORD(7, 13, 3, PRIMITIVE, OPTIONAL, 0),
+    };
+    fresh();
+    held("prune: 7 keeps 2, 6, 7 (P8)",
+         answered(braidhurdle_prune(T, day, sizeof day, 0, ROOM), expected, sizeof expected, "visitselementday"));
+    fresh();
+    held("prune: 2 is refused with 20 at place 3 (P10)", refused(braidhurdle_prune(T, visits, sizeof visits, 0, ROOM), 20, 0, 3));
+    held("prune: 2 in full mode keeps 2, 6, 7",
+         answered(braidhurdle_prune(T, visits, sizeof visits, 1, ROOM), expected, sizeof expected, "visitselementday"));
+}
+
+static void renumberings(void)
+{
+    const uint8_t given[] = {WORD(7), WORD(1)}, mapped[] = {WORD(106), WORD(100)};
+    uint8_t expected[sizeof t];
+    struct braidhurdle_changed a;
+    size_t slot;
+
+    fresh();
+    held("renumber: from 1 T's ids are as they were (P1)",
+         answered(braidhurdle_renumber(T, NOTHING, 1, ROOM, NOTHING), t, sizeof t, names));
+    fresh();
+    memcpy(expected, t, sizeof t);
+    for (slot = 0; slot < sizeof t / RECORD_BYTES; slot++) expected[slot * RECORD_BYTES] += 99;
+    a = braidhurdle_renumber(T, given, sizeof given, 100, ROOM, identifiers, sizeof identifiers);
+    held("renumber: from 100 every id is 99 more", answered(a, expected, sizeof expected, names));
+    held("renumber: identifiers are mapped in the order given", memcmp(identifiers, mapped, sizeof mapped) == 0);
+    fresh();
+    a = braidhurdle_renumber(T, given, sizeof given, 2147483638, ROOM, identifiers, sizeof identifiers);
+    held("renumber: from 2,147,483,638 is refused with 18 (P2)", refused(a, 18, 0, 0));
+}
+
+/* A list of length 0 may be null; so may a buffer, which is then below its size. */
+static void nulls(void)
+{
+    struct braidhurdle_changed a;
+
+    fresh();
+    a = braidhurdle_update(NOTHING, NOTHING, NOTHING, 10, NOTHING, NOTHING, NOTHING, NOTHING, ROOM);
+    held("null: an update of nothing by nothing gives nothing", answered(a, t, 0, "") && a.last_id == 10);
+    a = braidhurdle_update(T, NOTHING, 10, NOTHING, NOTHING, NOTHING, NOTHING, ROOM);
+    held("null: T updated by nothing is T", answered(a, t, sizeof t, names) && a.last_id == 10);
+    fresh();
+    held("null: nothing pruned", answered(braidhurdle_prune(NOTHING, NOTHING, NOTHING, 1, ROOM), t, 0, ""));
+    held("null: T pruned to nothing (P13)", answered(braidhurdle_prune(T, NOTHING, 0, ROOM), t, 0, ""));
+    held("null: nothing renumbered", answered(braidhurdle_renumber(NOTHING, NOTHING, NOTHING, 1, ROOM, NOTHING), t, 0, ""));
+    held("null: no name", nothing(braidhurdle_find_name(T, NOTHING)));
+    held("null: no column of that name", nothing(braidhurdle_find_name(NOTHING, NOTHING, pool, 4)));
+    held("null: no column of that id", nothing(braidhurdle_find_id(NOTHING, NOTHING, 1)));
+    held("null: no column above it", nothing(braidhurdle_find_parent(NOTHING, NOTHING, 1)));
+    held("null: no room is refused with 1",
+         refused(braidhurdle_update(T, NOTHING, 10, NOTHING, NOTHING, NOTHING, NOTHING, NOTHING, NOTHING), 1, 0, 0) &&
+             refused(braidhurdle_prune(T, NOTHING, 0, NOTHING, NOTHING), 1, 0, 0) &&
+             refused(braidhurdle_renumber(T, NOTHING, 1, NOTHING, NOTHING, NOTHING), 1, 0, 0));
+}
+
+int main(void)
+{
+    look_ups();
+    updates();
+    prunings();
+    renumberings();
+    nulls();
+    return failed;
+}

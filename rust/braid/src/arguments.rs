@@ -1,0 +1,377 @@
+//! The command line: what may be said, and what was said.
+
+use std::ffi::OsString;
+use std::path::PathBuf;
+
+use braidhurdle::{Field, FieldId};
+use clap::builder::{OsStringValueParser, TypedValueParser};
+use clap::error::ErrorKind;
+use clap::{Arg, ArgAction, ArgMatches, Command, value_parser};
+
+const ABOUT: &str = "Schema trees kept as files: STEM.rec holds the records, STEM.names the names";
+
+const STATUS: &str = "\
+Exit status: 0 the answer was given; 1 a look-up found nothing; 2 refused by the
+library, with number, list and place; 3 wrong arguments, files or pictures.
+
+Every subcommand has an example in its own --help. docs/FORMAT.md has the layouts.";
+
+/// A tree to be written.
+pub struct Out {
+    pub stem: PathBuf,
+    pub force: bool,
+}
+
+/// Something to add, with the path of its parent; none is the root.
+pub struct Addition<T> {
+    pub what: T,
+    pub under: Option<Vec<u8>>,
+}
+
+/// What is added: a column, or each root of the tree of a stem.
+pub enum Added {
+    Column(Field),
+    Tree(PathBuf),
+}
+
+/// What is asked for.
+pub enum Ask {
+    Make { picture: PathBuf, out: Out },
+    Of(PathBuf, Of),
+}
+
+/// What is asked of the tree of a stem.
+pub enum Of {
+    List {
+        plain: bool,
+    },
+    Check,
+    FindName(Vec<u8>),
+    FindId(FieldId),
+    Parent(FieldId),
+    Prune {
+        keep: Vec<FieldId>,
+        full: bool,
+        out: Out,
+    },
+    Renumber {
+        from: FieldId,
+        identifiers: Vec<FieldId>,
+        out: Out,
+    },
+    Update {
+        last_id: FieldId,
+        identifiers: Vec<FieldId>,
+        drop: Vec<Vec<u8>>,
+        add: Vec<Addition<Added>>,
+        out: Out,
+    },
+}
+
+/// The arguments of this process, or what is wrong with them (or the help that was asked for).
+pub fn given() -> Result<Ask, clap::Error> {
+    let mut command = command();
+    let matches = command.try_get_matches_from_mut(std::env::args_os())?;
+    let (name, of) = matches.subcommand().expect("clap asks for one");
+    let asked = match name {
+        "list" => Of::List { plain: of.get_flag("plain") },
+        "check" => Of::Check,
+        "find" => match of.get_one("id") {
+            Some(id) => Of::FindId(*id),
+            None => Of::FindName(one(of, "NAME")),
+        },
+        "parent" => Of::Parent(one(of, "ID")),
+        "prune" => Of::Prune { keep: ids(of, "keep"), full: of.get_flag("full"), out: out(of) },
+        "renumber" => Of::Renumber {
+            from: one(of, "from"),
+            identifiers: ids(of, "identifiers"),
+            out: out(of),
+        },
+        "update" => Of::Update {
+            last_id: one(of, "last-id"),
+            identifiers: ids(of, "identifiers"),
+            drop: of.get_many("drop").unwrap_or_default().cloned().collect(),
+            add: additions(of).map_err(|why| {
+                let update = command.find_subcommand_mut("update").expect("it was given");
+                update.error(ErrorKind::ArgumentConflict, why)
+            })?,
+            out: out(of),
+        },
+        _ => return Ok(Ask::Make { picture: one(of, "PICTURE"), out: out(of) }),
+    };
+    Ok(Ask::Of(one(of, "STEM"), asked))
+}
+
+fn command() -> Command {
+    Command::new("braid")
+        .version(env!("CARGO_PKG_VERSION"))
+        .about(ABOUT)
+        .after_help(STATUS)
+        .subcommand_required(true)
+        .arg_required_else_help(true)
+        .disable_help_subcommand(true)
+        .subcommands([list(), check(), find(), parent(), prune(), renumber(), update(), make()])
+}
+
+fn list() -> Command {
+    Command::new("list")
+        .about("Prints a tree as an indented picture, or as the lister's lines")
+        .arg(path("STEM", "The tree to print"))
+        .arg(flag("plain", "Prints slot, id, parent id or -, and full name"))
+        .after_help(
+            "A line of the picture: id, name, kind; then what is set of required, default and\n\
+             attribute. Names with other than printable characters are quoted and escaped; with\n\
+             --plain they stand as they are, except on a terminal. docs/FORMAT.md has the rest.\n\n\
+             Example:\n  braid list examples/T\n  braid list examples/T --plain | cut -d' ' -f4",
+        )
+}
+
+fn check() -> Command {
+    Command::new("check")
+        .about("Says whether the library accepts a tree, and its size")
+        .arg(path("STEM", "The tree to check"))
+        .after_help("Example:\n  braid check examples/T")
+}
+
+fn find() -> Command {
+    Command::new("find")
+        .about("Finds a column by its full or short name, or by its id")
+        .arg(path("STEM", "The tree to look in"))
+        .arg(
+            bytes(Arg::new("NAME"))
+                .help("A full name, or else a short one")
+                .required_unless_present("id"),
+        )
+        .arg(an_id(option("id", "N", "Finds the column of this id")).conflicts_with("NAME"))
+        .after_help(
+            "Prints id, slot and full name. Status 1 where nothing is found. A name that begins\n\
+             with - stands after --.\n\n\
+             Example:\n  braid find examples/T visits.day\n  braid find examples/T --id 7",
+        )
+}
+
+fn parent() -> Command {
+    Command::new("parent")
+        .about("Finds the column above that of an id")
+        .arg(path("STEM", "The tree to look in"))
+        .arg(an_id(Arg::new("ID")).help("The id of the column below").required(true))
+        .after_help(
+            "Prints id, slot and full name. Status 1 for a root, and where no column has the id.\n\n\
+             Example:\n  braid parent examples/T 7",
+        )
+}
+
+fn prune() -> Command {
+    Command::new("prune")
+        .about("Keeps the chosen columns, with what stands above them")
+        .arg(path("STEM", "The tree to prune"))
+        .arg(
+            some_ids(option("keep", "ID,..", "The chosen ids; unknown ones are ignored"))
+                .required(true),
+        )
+        .arg(flag("full", "Keeps a chosen column with all that is inside it"))
+        .args(out_arguments())
+        .after_help(
+            "A chosen list or map is refused (20) without --full: choose columns inside it.\n\
+             Prints how many records were kept.\n\n\
+             Example:\n  braid prune examples/T --keep 5,7 --out report",
+        )
+}
+
+fn renumber() -> Command {
+    Command::new("renumber")
+        .about("Numbers every column anew, level by level")
+        .arg(path("STEM", "The tree to renumber"))
+        .arg(an_id(option("from", "N", "The first number")).required(true))
+        .arg(some_ids(option("identifiers", "ID,..", "Identifier ids, to be mapped in this order")))
+        .args(out_arguments())
+        .after_help(
+            "Prints the last id that was given, and the identifiers' new ids.\n\n\
+             Example:\n  braid renumber examples/T --from 100 --identifiers 4,7 --out fresh",
+        )
+}
+
+fn update() -> Command {
+    Command::new("update")
+        .about("Drops and adds columns")
+        .arg(path("STEM", "The tree to update"))
+        .arg(
+            an_id(option("last-id", "N", "The last id consumed so far, as the update before said"))
+                .required(true),
+        )
+        .arg(some_ids(option("identifiers", "ID,..", "Identifier ids, which no drop may find")))
+        .arg(bytes(many("drop", "PATH", "Drops the column of this name, with all inside it")))
+        .arg(
+            many("add", "NAME:CODE", "Adds an optional primitive of this type code")
+                .value_parser(OsStringValueParser::new().try_map(name_and_code)),
+        )
+        .arg(
+            many("add-tree", "STEM", "Adds each root of this tree; its ids are ignored")
+                .value_parser(value_parser!(PathBuf)),
+        )
+        .arg(bytes(many("under", "PATH", "The parent of the addition before it; else the root")))
+        .arg(mark("required", "Makes the --add before it required"))
+        .arg(mark("default", "Gives the --add before it an initial default"))
+        .arg(
+            many("attribute", "N", "The attribute number of the --add before it")
+                .value_parser(value_parser!(u32)),
+        )
+        .args(out_arguments())
+        .after_help(
+            "The order counts: --under belongs to the --add or --add-tree before it; --required,\n\
+             --default and --attribute to the --add before them. Paths are looked up in the tree\n\
+             as it was. The last id is not the largest id present: a dropped id never returns.\n\
+             Prints the new last id, which the next update needs.\n\n\
+             Example:\n  braid update examples/T --last-id 10 --drop node.cost \\\n    \
+             --add cost:3 --under node --add floor:2 --out U",
+        )
+}
+
+fn make() -> Command {
+    Command::new("make")
+        .about("Makes a tree from a picture, as list prints it")
+        .arg(path("PICTURE", "The picture's file, or - for standard input"))
+        .args(out_arguments())
+        .after_help(
+            "A picture has a line for each column, two spaces deeper for each level:\n\n  \
+             1 visits: list\n    \
+             2 element: struct\n      \
+             3 day: primitive 4 required\n\n\
+             The kind is primitive with its type code, struct, list or map; then stand what is set\n\
+             of required, default and attribute N. Blank lines and lines that begin with # are\n\
+             skipped. docs/FORMAT.md has the rest, names in quotes among it.\n\n\
+             Example:\n  braid make examples/T.picture --out T\n  \
+             braid list T | sed 's/cost/price/' | braid make - --out U",
+        )
+}
+
+fn path(name: &'static str, help: &'static str) -> Arg {
+    Arg::new(name).help(help).value_parser(value_parser!(PathBuf)).required(true)
+}
+
+fn option(name: &'static str, value: &'static str, help: &'static str) -> Arg {
+    Arg::new(name).long(name).value_name(value).help(help)
+}
+
+fn many(name: &'static str, value: &'static str, help: &'static str) -> Arg {
+    option(name, value, help).action(ArgAction::Append)
+}
+
+fn flag(name: &'static str, help: &'static str) -> Arg {
+    Arg::new(name).long(name).help(help).action(ArgAction::SetTrue)
+}
+
+/// A flag whose every occurrence has a place among the arguments, as clap's own flags have not.
+fn mark(name: &'static str, help: &'static str) -> Arg {
+    let mark = many(name, "BOOL", help).value_parser(value_parser!(bool));
+    mark.num_args(0..=1).require_equals(true).default_missing_value("true")
+}
+
+fn out_arguments() -> [Arg; 2] {
+    let out = option("out", "STEM", "Where the answer is written, as STEM.rec and STEM.names");
+    [
+        out.value_parser(value_parser!(PathBuf)).required(true),
+        flag("force", "Overwrites files that are there"),
+    ]
+}
+
+fn bytes(arg: Arg) -> Arg {
+    arg.value_parser(OsStringValueParser::new().map(OsString::into_encoded_bytes))
+}
+
+fn an_id(arg: Arg) -> Arg {
+    arg.value_parser(value_parser!(i32).map(FieldId)).allow_negative_numbers(true)
+}
+
+/// A list of ids. With a hyphen in front it is still a list.
+fn some_ids(arg: Arg) -> Arg {
+    let id = |text: &str| text.parse().map(FieldId).map_err(|_| format!("{text:?} is no id"));
+    let parse = move |text: &str| match text {
+        "" => Ok(vec![]),
+        _ => text.split(',').map(id).collect::<Result<Vec<FieldId>, String>>(),
+    };
+    arg.value_parser(parse).allow_hyphen_values(true)
+}
+
+/// A name and a code; the name may have colons of its own.
+fn name_and_code(given: OsString) -> Result<(Vec<u8>, u32), &'static str> {
+    let given = given.into_encoded_bytes();
+    let colon = given.iter().rposition(|byte| *byte == b':').ok_or("no colon before a code")?;
+    let code = std::str::from_utf8(&given[colon + 1..]).ok().and_then(|code| code.parse().ok());
+    let code = code.ok_or("no code, a number below 2^32, behind the colon")?;
+    Ok((given[..colon].to_vec(), code))
+}
+
+/// The value of an argument that is always there.
+fn one<T: Clone + Send + Sync + 'static>(of: &ArgMatches, name: &str) -> T {
+    of.get_one::<T>(name).expect("clap asks for it").clone()
+}
+
+fn ids(of: &ArgMatches, name: &str) -> Vec<FieldId> {
+    of.get_one::<Vec<FieldId>>(name).cloned().unwrap_or_default()
+}
+
+fn out(of: &ArgMatches) -> Out {
+    Out { stem: one(of, "out"), force: of.get_flag("force") }
+}
+
+/// A word about additions: a new one, or something about the last.
+enum Word {
+    New(Added),
+    Under(Vec<u8>),
+    Of(Setting),
+}
+
+/// A setting of an added column.
+enum Setting {
+    Required(bool),
+    Default(bool),
+    Attribute(u32),
+}
+
+/// The additions in the order given, each with the words behind it.
+fn additions(of: &ArgMatches) -> Result<Vec<Addition<Added>>, &'static str> {
+    let mut additions: Vec<Addition<Added>> = vec![];
+    for word in words(of) {
+        match (word, additions.last_mut()) {
+            (Word::New(what), _) => additions.push(Addition { what, under: None }),
+            (Word::Under(path), Some(Addition { under: under @ None, .. })) => *under = Some(path),
+            (Word::Under(_), _) => {
+                return Err("each --under needs an --add or --add-tree before it");
+            }
+            (Word::Of(setting), Some(Addition { what: Added::Column(field), .. })) => match setting
+            {
+                Setting::Required(yes) => field.required = yes,
+                Setting::Default(yes) => field.default = yes,
+                Setting::Attribute(number) => field.attribute = number,
+            },
+            _ => return Err("--required, --default and --attribute need an --add before them"),
+        }
+    }
+    Ok(additions)
+}
+
+/// The words about additions, in the order given.
+fn words(of: &ArgMatches) -> impl Iterator<Item = Word> {
+    let mut words = vec![];
+    let primitive = |(name, code): (Vec<u8>, u32)| Added::Column(Field::primitive(name, code));
+    gather(of, "add", |given| Word::New(primitive(given)), &mut words);
+    gather(of, "add-tree", |stem| Word::New(Added::Tree(stem)), &mut words);
+    gather(of, "under", Word::Under, &mut words);
+    gather(of, "required", |yes| Word::Of(Setting::Required(yes)), &mut words);
+    gather(of, "default", |yes| Word::Of(Setting::Default(yes)), &mut words);
+    gather(of, "attribute", |number| Word::Of(Setting::Attribute(number)), &mut words);
+    words.sort_by_key(|(place, _)| *place);
+    words.into_iter().map(|(_, word)| word)
+}
+
+/// Every occurrence of an argument, with its place among the arguments.
+fn gather<T: Clone + Send + Sync + 'static>(
+    of: &ArgMatches,
+    name: &str,
+    word: impl Fn(T) -> Word,
+    words: &mut Vec<(usize, Word)>,
+) {
+    let values = of.get_many::<T>(name).unwrap_or_default().cloned().map(word);
+    words.extend(of.indices_of(name).unwrap_or_default().zip(values));
+}

@@ -1,0 +1,171 @@
+//! Every subcommand on good trees.
+
+use crate::folder::Folder;
+use std::ffi::OsStr;
+use std::os::unix::ffi::OsStrExt;
+
+use cases::{packed, prim, strukt};
+
+/// T's picture, as FORMAT.md has it.
+const T: &str = "\
+1 node: struct
+  4 button: primitive 0
+  5 cost: primitive 0
+2 visits: list
+  6 element: struct
+    7 day: primitive 0
+3 parts: map
+  8 key: primitive 0 required
+  9 value: struct
+    10 price: primitive 0
+";
+
+/// The ids of a tree in slot order.
+fn ids(folder: &Folder, stem: &str) -> Vec<i32> {
+    let lines = folder.run(&["list", "--plain", stem]).answer();
+    let id = |line: &str| line.split(' ').nth(1).and_then(|id| id.parse().ok()).expect("an id");
+    lines.lines().map(id).collect()
+}
+
+#[test]
+fn list_prints_the_picture() {
+    assert_eq!(Folder::with_t().braid("list T").answer(), T);
+}
+
+#[test]
+fn plain_lists_the_very_lines_of_the_lister() {
+    let folder = Folder::with_t();
+    let (records, names) = folder.pair("T");
+    let lines = judge::list(&records, &names).expect("T is accepted");
+    assert_eq!(folder.braid("list T --plain").answer().into_bytes(), lines);
+}
+
+#[test]
+fn check_accepts_and_tells_the_size() {
+    let said = Folder::with_t().braid("check T").answer();
+    assert_eq!(said, "accepted: 10 records, 48 name bytes\n");
+}
+
+#[test]
+fn find_goes_by_full_name_short_name_and_id() {
+    let folder = Folder::with_t();
+    let day = "id 7 slot 5 visits.element.day\n";
+    assert_eq!(folder.braid("find T visits.element.day").answer(), day);
+    assert_eq!(folder.braid("find T visits.day").answer(), day);
+    assert_eq!(folder.braid("find T --id 7").answer(), day);
+}
+
+#[test]
+fn a_look_up_that_finds_nothing_ends_with_status_1() {
+    let folder = Folder::with_t();
+    assert_eq!(folder.braid("find T day").complaint(1), "no column is named \"day\"\n");
+    assert_eq!(folder.braid("find T --id 11").complaint(1), "no column has id 11\n");
+    assert_eq!(folder.braid("parent T 11").complaint(1), "no column has id 11\n");
+    assert_eq!(folder.braid("parent T 1").complaint(1), "column 1 is a root\n");
+}
+
+#[test]
+fn parent_is_the_column_above() {
+    let said = Folder::with_t().braid("parent T 7").answer();
+    assert_eq!(said, "id 6 slot 4 visits.element\n");
+}
+
+#[test]
+fn prune_keeps_what_is_chosen() {
+    let folder = Folder::with_t();
+    let said = folder.braid("prune T --keep 7 --out day").answer();
+    assert_eq!(said, "kept 3 of 10 records\n");
+    let lines = "0 2 - visits\n1 6 2 visits.element\n2 7 6 visits.element.day\n";
+    assert_eq!(folder.braid("list day --plain").answer(), lines);
+    folder.braid("prune T --keep 1 --out node").answer();
+    assert_eq!(ids(&folder, "node"), [1]);
+    folder.braid("prune T --keep 1,1,99 --full --out whole").answer();
+    assert_eq!(ids(&folder, "whole"), [1, 4, 5]);
+    let said = folder.run(&["prune", "T", "--keep", "", "--out", "nothing"]).answer();
+    assert_eq!(said, "kept 0 of 10 records\n");
+    assert_eq!(folder.pair("nothing"), (vec![], vec![]));
+    assert_eq!(folder.braid("list nothing").answer(), "");
+}
+
+#[test]
+fn renumber_tells_the_last_id_and_the_new_identifiers() {
+    let folder = Folder::with_t();
+    let said = folder.braid("renumber T --from 100 --identifiers 7,4 --out fresh").answer();
+    assert_eq!(said, "last id 109\nidentifiers 106,103\n");
+    assert_eq!(ids(&folder, "fresh"), [100, 103, 104, 101, 105, 106, 102, 107, 108, 109]);
+}
+
+#[test]
+fn update_drops_adds_and_tells_the_last_id() {
+    let folder = Folder::with_t();
+    let said =
+        folder.braid("update T --last-id 10 --drop node.cost --add cost:0 --under node --out U");
+    assert_eq!(said.answer(), "last id 11\n");
+    assert_eq!(ids(&folder, "U"), [1, 4, 11, 2, 6, 7, 3, 8, 9, 10]);
+    // an id that vanishes with its parent stays consumed
+    let arguments = "update T --last-id 10 --drop visits --add fault:0 --under visits \
+                     --add floor:0 --out V";
+    assert_eq!(folder.braid(arguments).answer(), "last id 12\n");
+    assert_eq!(ids(&folder, "V"), [1, 4, 5, 3, 8, 9, 10, 12]);
+}
+
+#[test]
+fn settings_belong_to_the_addition_before_them() {
+    let folder = Folder::with_t();
+    let arguments = "update T --last-id 10 --add a:1 --required --default --attribute 7 \
+                     --add b:4294967295 --under node --add c:d:3 --default --out U";
+    assert_eq!(folder.braid(arguments).answer(), "last id 13\n");
+    let picture = folder.braid("list U").answer();
+    let added: Vec<&str> = picture.lines().filter(|line| !T.contains(line)).collect();
+    let expected = [
+        "  12 b: primitive 4294967295",
+        "11 a: primitive 1 required default attribute 7",
+        "13 \"c:d\": primitive 3 default",
+    ];
+    assert_eq!(added, expected);
+}
+
+#[test]
+fn a_tree_is_added_root_by_root() {
+    let folder = Folder::with_t();
+    let (records, names) = packed(&[strukt(1, "s", vec![prim(2, "a")]), prim(3, "b")]);
+    folder.put("more", &records, &names);
+    let said =
+        folder.braid("update T --last-id 10 --add-tree more --under visits --add c:0 --out U");
+    assert_eq!(said.answer(), "last id 14\n");
+    assert_eq!(folder.braid("find U visits.s.a").answer(), "id 12 slot 7 visits.element.s.a\n");
+    assert_eq!(folder.braid("find U visits.b").answer(), "id 13 slot 8 visits.element.b\n");
+    assert_eq!(folder.braid("find U c").answer(), "id 14 slot 13 c\n");
+}
+
+#[test]
+fn negative_ids_are_arguments_like_any_other() {
+    let folder = Folder::with_t();
+    let said = folder.braid("renumber T --from -5 --identifiers 1,10 --out low").answer();
+    assert_eq!(said, "last id 4\nidentifiers -5,4\n");
+    assert_eq!(folder.braid("find low --id -1").answer(), "id -1 slot 2 node.cost\n");
+    assert_eq!(folder.braid("parent low -1").answer(), "id -5 slot 0 node\n");
+    folder.braid("prune low --keep -1,-2 --out less").answer();
+    assert_eq!(ids(&folder, "less"), [-5, -2, -1]);
+    let said = folder.braid("update less --last-id -1 --identifiers -5,-2 --add x:0 --out more");
+    assert_eq!(said.answer(), "last id 0\n");
+}
+
+#[test]
+fn names_on_the_command_line_are_bytes() {
+    let folder = Folder::new();
+    folder.piped("make - --out X", b"1 -x: struct\n2 \"\\xff\": struct\n").answer();
+    assert_eq!(folder.braid("find X -- -x").answer(), "id 1 slot 0 -x\n");
+    let mut find = folder.command(&["find", "X"]);
+    let output = find.arg(OsStr::from_bytes(b"\xff")).output().expect("the tool runs");
+    assert_eq!(output.stdout, b"id 2 slot 1 \"\\xff\"\n");
+    folder.braid("update X --last-id 2 --add=-y:1 --under=-x --out Y").answer();
+    assert_eq!(folder.braid("find Y -- -x.-y").answer(), "id 3 slot 1 -x.-y\n");
+}
+
+#[test]
+fn make_reads_back_what_list_prints() {
+    let folder = Folder::with_t();
+    assert_eq!(folder.piped("make - --out again", T.as_bytes()).answer(), "");
+    assert_eq!(folder.pair("again"), folder.pair("T"));
+}

@@ -1,0 +1,125 @@
+//! A folder to run the tool in, and what it said.
+
+use std::fs;
+use std::io::Write;
+use std::path::{Path, PathBuf};
+use std::process::{Command, Output, Stdio};
+use std::sync::atomic::{AtomicUsize, Ordering};
+
+/// The tool.
+pub const BRAID: &str = env!("CARGO_BIN_EXE_braid");
+
+/// What the tool said, and its status.
+#[derive(Debug, PartialEq)]
+pub struct Said {
+    pub status: i32,
+    pub out: Vec<u8>,
+    pub err: String,
+}
+
+impl Said {
+    fn of(output: Output) -> Said {
+        Said {
+            status: output.status.code().expect("no signal ends it"),
+            out: output.stdout,
+            err: String::from_utf8(output.stderr).expect("words are UTF-8"),
+        }
+    }
+
+    /// What it printed, where the answer was given without a complaint.
+    #[track_caller]
+    pub fn answer(self) -> String {
+        assert_eq!((self.status, self.err.as_str()), (0, ""));
+        String::from_utf8(self.out).expect("UTF-8")
+    }
+
+    /// Its complaint, where it ended with this status and printed nothing else.
+    #[track_caller]
+    pub fn complaint(self, status: i32) -> String {
+        assert_eq!((self.status, self.out.as_slice()), (status, &b""[..]), "{}", self.err);
+        self.err
+    }
+}
+
+/// A folder that goes with the test.
+pub struct Folder(PathBuf);
+
+impl Folder {
+    /// An empty folder.
+    pub fn new() -> Folder {
+        static COUNT: AtomicUsize = AtomicUsize::new(0);
+        let count = COUNT.fetch_add(1, Ordering::Relaxed);
+        let name = format!("{}-{count}", std::process::id());
+        let folder = Path::new(env!("CARGO_TARGET_TMPDIR")).join(name);
+        fs::create_dir_all(&folder).expect("a folder for the test");
+        Folder(folder)
+    }
+
+    /// A folder with T in it.
+    pub fn with_t() -> Folder {
+        let folder = Folder::new();
+        let (records, names) = cases::packed(&cases::the_tree());
+        folder.put("T", &records, &names);
+        folder
+    }
+
+    /// A file in it.
+    pub fn file(&self, name: &str) -> PathBuf {
+        self.0.join(name)
+    }
+
+    /// Writes a pair.
+    pub fn put(&self, stem: &str, records: &[u8], names: &[u8]) {
+        fs::write(self.file(&format!("{stem}.rec")), records).expect("written");
+        fs::write(self.file(&format!("{stem}.names")), names).expect("written");
+    }
+
+    /// Reads a pair.
+    pub fn pair(&self, stem: &str) -> (Vec<u8>, Vec<u8>) {
+        let read = |ending: &str| fs::read(self.file(&format!("{stem}.{ending}")));
+        (read("rec").expect("records"), read("names").expect("names"))
+    }
+
+    /// The names of its files, sorted.
+    pub fn files(&self) -> Vec<String> {
+        let entries = fs::read_dir(&self.0).expect("the folder is there");
+        let name = |entry: std::io::Result<fs::DirEntry>| entry.expect("an entry").file_name();
+        let mut files: Vec<String> =
+            entries.map(|entry| name(entry).into_string().expect("UTF-8")).collect();
+        files.sort();
+        files
+    }
+
+    /// The tool in this folder, with these arguments.
+    pub fn command(&self, arguments: &[&str]) -> Command {
+        let mut command = Command::new(BRAID);
+        command.current_dir(&self.0).args(arguments);
+        command
+    }
+
+    /// Runs the tool; the arguments are parted by spaces.
+    pub fn braid(&self, arguments: &str) -> Said {
+        self.run(&arguments.split_whitespace().collect::<Vec<_>>())
+    }
+
+    /// Runs the tool.
+    pub fn run(&self, arguments: &[&str]) -> Said {
+        Said::of(self.command(arguments).output().expect("the tool runs"))
+    }
+
+    /// Runs the tool with this on its standard input.
+    pub fn piped(&self, arguments: &str, input: &[u8]) -> Said {
+        let arguments: Vec<&str> = arguments.split_whitespace().collect();
+        let mut command = self.command(&arguments);
+        command.stdin(Stdio::piped()).stdout(Stdio::piped()).stderr(Stdio::piped());
+        let mut tool = command.spawn().expect("the tool runs");
+        tool.stdin.take().expect("a pipe").write_all(input).expect("it reads");
+        Said::of(tool.wait_with_output().expect("it ends"))
+    }
+}
+
+impl Drop for Folder {
+    fn drop(&mut self) {
+        let _ = fs::remove_dir_all(&self.0);
+    }
+}

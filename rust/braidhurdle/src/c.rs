@@ -1,0 +1,123 @@
+//! The six C functions as they are: slices in, six numbers out, nothing allocated and nothing
+//! kept. What a function writes and what a refusal leaves is told in `include/braidhurdle.h`.
+//! This is the one file with unsafe code.
+//!
+//! The other modules are built on this one. Call it where the bytes come from elsewhere and the
+//! buffers are your own:
+//!
+//! ```
+//! use braidhurdle::c;
+//!
+//! // An empty tree is a tree, and has no column 1.
+//! assert_eq!(c::find_id(&[], &[], 1), c::Found::default());
+//! // A list of 5 bytes is no whole number of records: refusal 2.
+//! assert_eq!(c::find_id(&[0; 5], &[], 1).refusal, 2);
+//! ```
+
+/// The answer of update, prune and renumber. On a refusal the last three are 0.
+#[repr(C)]
+#[derive(Clone, Copy, Debug, Default, PartialEq, Eq)]
+pub struct Changed {
+    /// 0 where accepted, else 01's number.
+    pub refusal: u32,
+    /// The list that a refusal speaks of.
+    pub list: u32,
+    /// The place in that list.
+    pub place: u32,
+    /// Records of the answer.
+    pub records: u32,
+    /// Name bytes of the answer.
+    pub names: u32,
+    /// The last id consumed by an update; 0 for the others.
+    pub last_id: i32,
+}
+
+/// The answer of a look-up. Where nothing is found, or on a refusal, id and slot are 0.
+#[repr(C)]
+#[derive(Clone, Copy, Debug, Default, PartialEq, Eq)]
+pub struct Found {
+    /// 0 where the tree was accepted, else 01's number.
+    pub refusal: u32,
+    /// The list that a refusal speaks of.
+    pub list: u32,
+    /// The place in that list.
+    pub place: u32,
+    /// 0 or 1.
+    pub found: u32,
+    /// The id of the column that was found.
+    pub id: i32,
+    /// Its slot.
+    pub slot: u32,
+}
+
+/// One function of the archive. Its arguments are lists, a number, lists, and buffers to write, in
+/// this order; in C a list or buffer is a pointer and a length, as `include/braidhurdle.h` has it.
+macro_rules! function {
+    (
+        $(#[$doc:meta])*
+        $name:ident is $symbol:ident(
+            $($list:ident)*; $($number:ident: $type:ty)?; $($more:ident)*; $($out:ident)*
+        ) -> $answer:ty
+    ) => {
+        $(#[$doc])*
+        #[allow(clippy::too_many_arguments)] // the C function's own
+        pub fn $name(
+            $($list: &[u8],)* $($number: $type,)? $($more: &[u8],)* $($out: &mut [u8],)*
+        ) -> $answer {
+            #[cfg(archive)]
+            unsafe extern "C" {
+                fn $symbol(
+                    $($list: *const u8, _: usize,)* $($number: $type,)?
+                    $($more: *const u8, _: usize,)* $($out: *mut u8, _: usize,)*
+                ) -> $answer;
+            }
+            #[cfg(not(archive))]
+            #[allow(unused_variables)]
+            unsafe fn $symbol(
+                $($list: *const u8, _: usize,)* $($number: $type,)?
+                $($more: *const u8, _: usize,)* $($out: *mut u8, _: usize,)*
+            ) -> $answer {
+                panic!("braidhurdle was built with BRAIDHURDLE_ARCHIVE=none, so without its code")
+            }
+            // SAFETY: the function asks nothing of its caller but that each pointer and length
+            // are those of bytes that it may read, or write where the pointer says so, and that
+            // what it writes overlaps nothing else. They are a slice's own, borrowed for the call.
+            unsafe {
+                $symbol(
+                    $($list.as_ptr(), $list.len(),)* $($number,)?
+                    $($more.as_ptr(), $more.len(),)* $($out.as_mut_ptr(), $out.len(),)*
+                )
+            }
+        }
+    };
+}
+
+function! {
+    /// Drops and adds columns. Ids are handed out from `last_id` + 1.
+    update is braidhurdle_update(
+        records pool identifiers; last_id: i32; deletions additions added_records request_pool;
+        out_records out_names
+    ) -> Changed
+}
+function! {
+    /// Keeps the selected columns. `full`: not 0 keeps a chosen column's whole type.
+    prune is braidhurdle_prune(records pool selected; full: u32;; out_records out_names) -> Changed
+}
+function! {
+    /// Numbers every column anew from `start` on; identifiers are mapped in the order given.
+    renumber is braidhurdle_renumber(
+        records pool identifiers; start: i32;; out_records out_names out_identifiers
+    ) -> Changed
+}
+function! {
+    /// The column of a full name, or else of a short name.
+    find_name is braidhurdle_find_name(records pool name;;;) -> Found
+}
+function! {
+    /// The column of an id.
+    find_id is braidhurdle_find_id(records pool; id: i32;;) -> Found
+}
+function! {
+    /// The column above that of an id.
+    find_parent is braidhurdle_find_parent(records pool; id: i32;;) -> Found
+}

@@ -1,0 +1,155 @@
+//! A tree read for people, column by column.
+
+use alloc::vec;
+use alloc::vec::Vec;
+
+use crate::layout::{DEFAULT, Kind, MOST_LEVELS, RECORD_BYTES, REQUIRED, Record};
+use crate::{Field, FieldId, Refusal, Slot, Tree, TreeRef};
+
+/// A column as it stands in a tree.
+#[derive(Clone, Copy, Debug, PartialEq, Eq, Hash)]
+pub struct Column<'a> {
+    /// Its place in the list.
+    pub slot: Slot,
+    /// 1 for a root, and at most 16.
+    pub level: usize,
+    /// The column above it; none for a root.
+    pub parent: Option<(FieldId, Slot)>,
+    /// Its id.
+    pub id: FieldId,
+    /// Its own name, the very part of the pool that holds it.
+    pub name: &'a [u8],
+    /// What it is.
+    pub kind: Kind,
+    /// Must it have a value?
+    pub required: bool,
+    /// Has it an initial default?
+    pub default: bool,
+    /// The type code of a primitive; 0 for the others.
+    pub type_code: u32,
+    /// The number by which the host keeps doc and defaults.
+    pub attribute: u32,
+    /// How many columns stand directly below it.
+    pub children: usize,
+    /// The names from its root down to it.
+    names: [&'a [u8]; MOST_LEVELS],
+}
+
+impl Column<'_> {
+    /// The names from its root down to it, joined by dots.
+    pub fn full_name(&self) -> Vec<u8> {
+        self.names[..self.level].join(&b'.')
+    }
+}
+
+/// The columns of an accepted tree, in slot order.
+#[derive(Clone, Debug)]
+pub struct Columns<'a> {
+    tree: TreeRef<'a>,
+    next: usize,
+    /// The columns from a root down to the last one, with the children that they still wait for.
+    above: [(FieldId, Slot, u16); MOST_LEVELS],
+    names: [&'a [u8]; MOST_LEVELS],
+    level: usize,
+}
+
+impl Tree {
+    /// The columns in slot order, or why the tree is refused.
+    ///
+    /// ```
+    /// # use braidhurdle::{Field, FieldId, Tree};
+    /// let day = Field::primitive("day", 4).id(FieldId(2));
+    /// let tree = Tree::build(&[Field::structure("visit", [day]).id(FieldId(1))])?;
+    /// let columns: Vec<_> = tree.columns()?.collect();
+    /// assert_eq!(columns[1].name, b"day");
+    /// assert_eq!(columns[1].full_name(), b"visit.day");
+    /// assert_eq!(columns[1].parent, Some((FieldId(1), columns[0].slot)));
+    /// # Ok::<(), Box<dyn std::error::Error>>(())
+    /// ```
+    pub fn columns(&self) -> Result<Columns<'_>, Refusal> {
+        self.lent().columns()
+    }
+
+    /// The column at a slot, or why the tree is refused. A slot behind the last has none.
+    pub fn column(&self, slot: Slot) -> Result<Option<Column<'_>>, Refusal> {
+        Ok(self.columns()?.nth(slot.0 as usize))
+    }
+
+    /// The roots with all that is inside them, as [`Tree::build`] takes them, or why the tree is
+    /// refused.
+    pub fn fields(&self) -> Result<Vec<Field>, Refusal> {
+        let columns: Vec<Column> = self.columns()?.collect();
+        // from the last column on: when one is met, its children are the last that were made
+        let mut made = vec![];
+        for column in columns.into_iter().rev() {
+            let inside = (0..column.children).map_while(|_| made.pop()).collect();
+            made.push(Field {
+                id: column.id,
+                name: column.name.to_vec(),
+                kind: column.kind,
+                required: column.required,
+                default: column.default,
+                type_code: column.type_code,
+                attribute: column.attribute,
+                inside,
+            });
+        }
+        made.reverse();
+        Ok(made)
+    }
+}
+
+impl<'a> TreeRef<'a> {
+    /// The columns in slot order, or why the tree is refused.
+    pub fn columns(self) -> Result<Columns<'a>, Refusal> {
+        self.check()?;
+        let above = [(FieldId(0), Slot(0), 0); MOST_LEVELS];
+        Ok(Columns { tree: self, next: 0, above, names: [&[]; MOST_LEVELS], level: 0 })
+    }
+}
+
+impl<'a> Iterator for Columns<'a> {
+    type Item = Column<'a>;
+
+    /// Ends at the first record that an accepted tree can't have, so never early.
+    fn next(&mut self) -> Option<Column<'a>> {
+        let bytes = self.tree.records.get(self.next * RECORD_BYTES..)?.first_chunk()?;
+        let record = Record::read(bytes);
+        let name = record.name(self.tree.pool)?;
+        let kind = Kind::from_number(record.kind)?;
+        while self.level > 0 && self.above[self.level - 1].2 == 0 {
+            self.level -= 1;
+            self.names[self.level] = &[];
+        }
+        let parent = self.above[..self.level].last_mut().map(|(id, slot, left)| {
+            *left -= 1;
+            (*id, *slot)
+        });
+        let slot = Slot(self.next as u32);
+        *self.above.get_mut(self.level)? = (record.id, slot, record.children);
+        self.names[self.level] = name;
+        self.level += 1;
+        self.next += 1;
+        Some(Column {
+            slot,
+            level: self.level,
+            parent,
+            id: record.id,
+            name,
+            kind,
+            required: record.flags & REQUIRED != 0,
+            default: record.flags & DEFAULT != 0,
+            type_code: record.type_code,
+            attribute: record.attribute,
+            children: record.children.into(),
+            names: self.names,
+        })
+    }
+
+    fn size_hint(&self) -> (usize, Option<usize>) {
+        let left = (self.tree.records.len() / RECORD_BYTES).saturating_sub(self.next);
+        (left, Some(left))
+    }
+}
+
+impl ExactSizeIterator for Columns<'_> {}

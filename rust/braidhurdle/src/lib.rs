@@ -1,0 +1,121 @@
+//! Columns of a table schema, changed, pruned, renumbered and looked up.
+//!
+//! This crate is a thin, safe layer over a proved library, which it links as an archive. Any bytes
+//! at all get an answer: what is malformed is turned down by a number, a list and a place
+//! ([`Refusal`]), and then nothing is changed. No function has a state, so each may be called from
+//! any thread.
+//!
+//! A schema is a [`Tree`]: 24-byte records in preorder, and a pool that holds their names. Document
+//! 01 (`docs/01-scope.md`) has the layout, the rules and the limits.
+//!
+//! # Change a schema
+//!
+//! ```
+//! use braidhurdle::{Field, FieldId, Request, Tree, Updated};
+//!
+//! // A schema of two columns; the second has one inside. The type codes are your own.
+//! let day = Field::primitive("day", 4).id(FieldId(3));
+//! let element = Field::structure("element", [day]).id(FieldId(4));
+//! let tree = Tree::build(&[
+//!     Field::primitive("button", 1).id(FieldId(1)).required(),
+//!     Field::list("visits", element).id(FieldId(2)),
+//! ])?;
+//!
+//! // Ids are handed out from the last one + 1. Keep the last id beside the tree: the largest id in
+//! // the tree is not enough, since that column may have been dropped.
+//! let request = Request::new(FieldId(4))
+//!     .drop("visits.day")?
+//!     .add_under("visits", Field::primitive("day", 9))?
+//!     .add(Field::primitive("floor", 4))?;
+//! let Updated { tree, last_id } = tree.update(&request)?;
+//! assert_eq!(last_id, FieldId(6));
+//!
+//! // The new `day` is another column than the old one.
+//! assert_eq!(tree.find_name("visits.day")?.map(|(id, _)| id), Some(FieldId(5)));
+//! assert_eq!(tree.find_id(FieldId(3))?, None);
+//! # Ok::<(), Box<dyn std::error::Error>>(())
+//! ```
+//!
+//! # Read one
+//!
+//! Store and send [`Tree::records`] and [`Tree::pool`] as they are. Bytes from elsewhere need no
+//! check: [`Tree::new`] takes any, and whatever is asked of them tests them first.
+//!
+//! ```
+//! # use braidhurdle::{Field, FieldId};
+//! use braidhurdle::{Mode, Refusal, Tree};
+//!
+//! fn print(tree: &Tree) -> Result<(), Refusal> {
+//!     for column in tree.columns()? {
+//!         let name = String::from_utf8_lossy(column.name);
+//!         println!("{}{} {name}", "  ".repeat(column.level - 1), column.id);
+//!     }
+//!     Ok(())
+//! }
+//!
+//! let mut tree = Tree::build(&[Field::primitive("a", 4).id(FieldId(1))])?;
+//! print(&tree)?;
+//!
+//! // A name that lies outside its pool is refused: 4, in the base, at slot 0.
+//! tree.pool.clear();
+//! let refusal = tree.prune(&[FieldId(1)], Mode::Full).unwrap_err();
+//! assert_eq!(refusal, Refusal { number: 4, list: 0, place: 0 });
+//! # Ok::<(), Box<dyn std::error::Error>>(())
+//! ```
+//!
+//! # Without the heap
+//!
+//! [`TreeRef`] and [`RequestRef`] are the same on lent bytes, and a [`Room`] holds the answer. It
+//! is made once and used again and again; no call allocates.
+//!
+//! ```
+//! # use braidhurdle::{Field, FieldId, Tree};
+//! use braidhurdle::{Mode, Room, TreeRef};
+//! # let tree = Tree::build(&[Field::primitive("a", 4).id(FieldId(1))])?;
+//! # let (records, pool) = (&tree.records[..], &tree.pool[..]);
+//!
+//! let mut room = Room::boxed();
+//! let tree = TreeRef::new(records, pool);
+//! let kept: TreeRef = tree.prune_in(&[FieldId(1)], Mode::Plain, &mut room)?;
+//! assert_eq!(kept.columns()?.len(), 1);
+//! # Ok::<(), Box<dyn std::error::Error>>(())
+//! ```
+//!
+//! The module [`c`] has the very calls, on your own buffers. The crate needs no standard library.
+//!
+//! # The archive
+//!
+//! The build takes `libbraidhurdle.a` from the folder that the variable `BRAIDHURDLE_ARCHIVE`
+//! names; else from `target/staticlib` of the checkout that this crate stands in; else it has the
+//! toolchain make it there, which proves the library first and takes minutes. `docs/GUIDE.md` has
+//! the steps.
+#![no_std]
+#![deny(missing_docs)]
+#![deny(unsafe_code)]
+#![deny(unsafe_op_in_unsafe_fn)]
+
+extern crate alloc;
+
+#[allow(unsafe_code)] // the calls themselves; nowhere else
+pub mod c;
+mod columns;
+mod field;
+pub mod layout;
+mod numbers;
+mod refusal;
+mod request;
+mod room;
+mod tree;
+
+pub use columns::{Column, Columns};
+pub use field::{Field, Overlong};
+pub use layout::Kind;
+pub use numbers::{FieldId, Slot};
+pub use refusal::Refusal;
+pub use request::{Request, RequestRef};
+pub use room::Room;
+pub use tree::{Mode, Renumbered, Tree, TreeRef, Updated};
+
+/// Is the archive linked? Only a build with `BRAIDHURDLE_ARCHIVE=none` is without it, for machines
+/// that test the rest; there every call panics.
+pub const LINKED: bool = cfg!(archive);

@@ -1,0 +1,120 @@
+//! What an update is asked to do.
+
+use alloc::vec::Vec;
+
+use crate::field::{end, write};
+use crate::layout::entry;
+use crate::{Field, FieldId, Overlong};
+
+/// What an update is asked to do: the columns to drop and to add, in this order, the last id that
+/// was handed out, and the ids of the identifier fields.
+///
+/// ```
+/// use braidhurdle::{Field, FieldId, Request};
+///
+/// let request = Request::new(FieldId(10))
+///     .drop("node.cost")?
+///     .add_under("node", Field::primitive("cost", 4))?
+///     .add(Field::primitive("floor", 4))?
+///     .identifiers(&[FieldId(1)]);
+/// # Ok::<(), braidhurdle::Overlong>(())
+/// ```
+#[derive(Clone, Debug, Default, PartialEq, Eq, Hash)]
+pub struct Request {
+    /// The last id that was handed out, or consumed: not the largest in the tree, since that one
+    /// may have been dropped.
+    pub last_id: FieldId,
+    /// The ids of the identifier fields, 4 bytes each.
+    pub identifiers: Vec<u8>,
+    /// The paths to drop, 8 bytes an entry.
+    pub deletions: Vec<u8>,
+    /// The paths to add under, 8 bytes an entry.
+    pub additions: Vec<u8>,
+    /// The added columns: the k-th root belongs to the k-th addition.
+    pub added_records: Vec<u8>,
+    /// Paths and new names.
+    pub pool: Vec<u8>,
+}
+
+/// A request whose bytes are lent: what [`Request`] owns, or parts of a message.
+#[derive(Clone, Copy, Debug, Default, PartialEq, Eq, Hash)]
+pub struct RequestRef<'a> {
+    /// The last id that was handed out, or consumed.
+    pub last_id: FieldId,
+    /// The ids of the identifier fields, 4 bytes each.
+    pub identifiers: &'a [u8],
+    /// The paths to drop, 8 bytes an entry.
+    pub deletions: &'a [u8],
+    /// The paths to add under, 8 bytes an entry.
+    pub additions: &'a [u8],
+    /// The added columns: the k-th root belongs to the k-th addition.
+    pub added_records: &'a [u8],
+    /// Paths and new names.
+    pub pool: &'a [u8],
+}
+
+impl Request {
+    /// A request that asks for nothing yet. Ids will be handed out from `last_id` + 1.
+    pub fn new(last_id: FieldId) -> Request {
+        Request { last_id, ..Request::default() }
+    }
+
+    /// Also drops the column of this name, with all that is inside it.
+    pub fn drop(mut self, path: impl AsRef<[u8]>) -> Result<Request, Overlong> {
+        let entry = path_entry(path.as_ref(), &mut self.pool)?;
+        self.deletions.extend(entry);
+        Ok(self)
+    }
+
+    /// Also adds this column at the root.
+    #[allow(clippy::should_implement_trait)] // 01's word; nothing is summed
+    pub fn add(mut self, column: Field) -> Result<Request, Overlong> {
+        write(&[column], &mut self.added_records, &mut self.pool)?;
+        self.additions.extend(entry(0, 0, false));
+        Ok(self)
+    }
+
+    /// Also adds this column under a struct, or under a list or map of structs.
+    pub fn add_under(
+        mut self,
+        parent: impl AsRef<[u8]>,
+        column: Field,
+    ) -> Result<Request, Overlong> {
+        let entry = path_entry(parent.as_ref(), &mut self.pool)?;
+        write(&[column], &mut self.added_records, &mut self.pool)?;
+        self.additions.extend(entry);
+        Ok(self)
+    }
+
+    /// The same request with these identifier fields. They can't be dropped.
+    pub fn identifiers(mut self, ids: &[FieldId]) -> Request {
+        self.identifiers = ids.iter().flat_map(|id| id.0.to_le_bytes()).collect();
+        self
+    }
+
+    /// The same request, lent.
+    pub fn lent(&self) -> RequestRef<'_> {
+        RequestRef {
+            last_id: self.last_id,
+            identifiers: &self.identifiers,
+            deletions: &self.deletions,
+            additions: &self.additions,
+            added_records: &self.added_records,
+            pool: &self.pool,
+        }
+    }
+}
+
+impl<'a> From<&'a Request> for RequestRef<'a> {
+    fn from(request: &'a Request) -> RequestRef<'a> {
+        request.lent()
+    }
+}
+
+/// The entry of a path; the path goes to the end of the pool.
+fn path_entry(path: &[u8], pool: &mut Vec<u8>) -> Result<[u8; 8], Overlong> {
+    let length = u16::try_from(path.len()).map_err(|_| Overlong::Path(path.len()))?;
+    let entry = entry(end(pool)?, length, true);
+    pool.extend_from_slice(path);
+    Ok(entry)
+}

@@ -1,0 +1,237 @@
+//! Trees, lent and owned, and what can be asked of them.
+
+use alloc::vec::Vec;
+
+use crate::layout::{ID_BYTES, MOST_IDENTIFIERS, MOST_SELECTED, RECORD_BYTES};
+use crate::{FieldId, Refusal, Request, RequestRef, Room, Slot, c};
+
+/// A tree of columns: 24-byte records in preorder, and the pool that holds their names. Any bytes
+/// may stand in it: what is malformed is refused when something is asked.
+#[derive(Clone, Debug, Default, PartialEq, Eq, Hash)]
+pub struct Tree {
+    /// The records, 24 bytes each.
+    pub records: Vec<u8>,
+    /// The names.
+    pub pool: Vec<u8>,
+}
+
+/// A tree whose bytes are lent: what [`Tree`] owns, or a part of a file or a [`Room`]. No look-up
+/// and no change of it allocates.
+#[derive(Clone, Copy, Debug, Default, PartialEq, Eq, Hash)]
+pub struct TreeRef<'a> {
+    /// The records, 24 bytes each.
+    pub records: &'a [u8],
+    /// The names.
+    pub pool: &'a [u8],
+}
+
+/// What an accepted update gives.
+#[derive(Clone, Copy, Debug, Default, PartialEq, Eq, Hash)]
+pub struct Updated<T = Tree> {
+    /// The tree after the update.
+    pub tree: T,
+    /// The last id that was consumed: keep it, and give it to the next request.
+    pub last_id: FieldId,
+}
+
+/// What an accepted renumbering gives.
+#[derive(Clone, Copy, Debug, Default, PartialEq, Eq, Hash)]
+pub struct Renumbered<T = Tree, I = Vec<FieldId>> {
+    /// The tree with its new ids.
+    pub tree: T,
+    /// The identifiers' new ids, in the order given.
+    pub identifiers: I,
+}
+
+/// What pruning keeps of a column that is chosen.
+#[derive(Clone, Copy, Debug, Default, PartialEq, Eq, Hash)]
+pub enum Mode {
+    /// The column, with those columns inside it that are chosen too. A list or map can't be chosen
+    /// so: refusal 20.
+    #[default]
+    Plain,
+    /// The column with all that is inside it.
+    Full,
+}
+
+impl Tree {
+    /// The tree of these bytes.
+    pub fn new(records: Vec<u8>, pool: Vec<u8>) -> Tree {
+        Tree { records, pool }
+    }
+
+    /// The same tree, lent.
+    pub fn lent(&self) -> TreeRef<'_> {
+        TreeRef { records: &self.records, pool: &self.pool }
+    }
+
+    /// Drops and adds columns. New ones come behind those that stay, in the order of the request.
+    /// Refusals 2 to 19.
+    pub fn update(&self, request: &Request) -> Result<Updated, Refusal> {
+        let mut room = Room::boxed();
+        let Updated { tree, last_id } = self.lent().update_in(request.lent(), &mut room)?;
+        Ok(Updated { tree: tree.to_tree(), last_id })
+    }
+
+    /// Keeps the chosen columns and what stands above them. Ids that the tree has not are ignored.
+    /// Refusals 2 to 8 and 20.
+    pub fn prune(&self, chosen: &[FieldId], mode: Mode) -> Result<Tree, Refusal> {
+        let mut room = Room::boxed();
+        Ok(self.lent().prune_in(chosen, mode, &mut room)?.to_tree())
+    }
+
+    /// Numbers every column anew from `start` on, and maps the identifiers in the order given. The
+    /// old ids then mean nothing: no data file that carries them fits the new tree. Refusals 2 to 9
+    /// and 18.
+    pub fn renumber(&self, start: FieldId, identifiers: &[FieldId]) -> Result<Renumbered, Refusal> {
+        let mut room = Room::boxed();
+        let renumbered = self.lent().renumber_in(start, identifiers, &mut room)?;
+        Ok(Renumbered {
+            tree: renumbered.tree.to_tree(),
+            identifiers: renumbered.identifiers.to_vec(),
+        })
+    }
+
+    /// The column of a full name, or else of a short name, which leaves out the structs that are a
+    /// list's element or a map's value: `visits.day` finds `visits.element.day`. Any bytes are a
+    /// name. Refusals 2 to 8.
+    pub fn find_name(&self, name: impl AsRef<[u8]>) -> Result<Option<(FieldId, Slot)>, Refusal> {
+        self.lent().find_name(name)
+    }
+
+    /// The slot of an id. Refusals 2 to 8.
+    pub fn find_id(&self, id: FieldId) -> Result<Option<Slot>, Refusal> {
+        self.lent().find_id(id)
+    }
+
+    /// The column above that of an id. A root and an unknown id have none. Refusals 2 to 8.
+    pub fn find_parent(&self, id: FieldId) -> Result<Option<(FieldId, Slot)>, Refusal> {
+        self.lent().find_parent(id)
+    }
+
+    /// Would the tree be accepted as a base? Refusals 2 to 8.
+    pub fn check(&self) -> Result<(), Refusal> {
+        self.lent().check()
+    }
+}
+
+impl<'a> TreeRef<'a> {
+    /// The tree of these bytes.
+    pub fn new(records: &'a [u8], pool: &'a [u8]) -> TreeRef<'a> {
+        TreeRef { records, pool }
+    }
+
+    /// A copy that owns its bytes.
+    pub fn to_tree(self) -> Tree {
+        Tree::new(self.records.to_vec(), self.pool.to_vec())
+    }
+
+    /// Drops and adds columns; the answer stands in the room.
+    pub fn update_in<'r>(
+        self,
+        request: RequestRef<'_>,
+        room: &'r mut Room,
+    ) -> Result<Updated<TreeRef<'r>>, Refusal> {
+        let numbers = c::update(
+            self.records,
+            self.pool,
+            request.identifiers,
+            request.last_id.0,
+            request.deletions,
+            request.additions,
+            request.added_records,
+            request.pool,
+            &mut room.records,
+            &mut room.names,
+        );
+        let numbers = numbers.accepted()?;
+        Ok(Updated { tree: answered(numbers, room), last_id: FieldId(numbers.last_id) })
+    }
+
+    /// Keeps the chosen columns; the answer stands in the room.
+    pub fn prune_in<'r>(
+        self,
+        chosen: &[FieldId],
+        mode: Mode,
+        room: &'r mut Room,
+    ) -> Result<TreeRef<'r>, Refusal> {
+        let mut bytes = [0; ID_BYTES * (MOST_SELECTED + 1)];
+        let chosen = id_bytes(chosen, &mut bytes);
+        let full = u32::from(mode == Mode::Full);
+        let (records, names) = (&mut room.records, &mut room.names);
+        let numbers = c::prune(self.records, self.pool, chosen, full, records, names);
+        Ok(answered(numbers.accepted()?, room))
+    }
+
+    /// Numbers every column anew from `start` on; the answer stands in the room.
+    pub fn renumber_in<'r>(
+        self,
+        start: FieldId,
+        identifiers: &[FieldId],
+        room: &'r mut Room,
+    ) -> Result<Renumbered<TreeRef<'r>, &'r [FieldId]>, Refusal> {
+        let mut bytes = [0; ID_BYTES * (MOST_IDENTIFIERS + 1)];
+        let given = id_bytes(identifiers, &mut bytes);
+        let mut bytes = [0; ID_BYTES * (MOST_IDENTIFIERS + 1)];
+        let mapped = &mut bytes[..given.len()];
+        let (records, names) = (&mut room.records, &mut room.names);
+        let (tree, start) = (self, start.0);
+        let numbers = c::renumber(tree.records, tree.pool, given, start, records, names, mapped);
+        let numbers = numbers.accepted()?;
+        for (id, bytes) in room.identifiers.iter_mut().zip(mapped.chunks_exact(ID_BYTES)) {
+            *id = FieldId(i32::from_le_bytes([bytes[0], bytes[1], bytes[2], bytes[3]]));
+        }
+        let room: &'r Room = room;
+        let identifiers = &room.identifiers[..identifiers.len()];
+        Ok(Renumbered { tree: answered(numbers, room), identifiers })
+    }
+
+    /// The column of a full name, or else of a short name.
+    pub fn find_name(self, name: impl AsRef<[u8]>) -> Result<Option<(FieldId, Slot)>, Refusal> {
+        found(c::find_name(self.records, self.pool, name.as_ref()))
+    }
+
+    /// The slot of an id.
+    pub fn find_id(self, id: FieldId) -> Result<Option<Slot>, Refusal> {
+        let found = found(c::find_id(self.records, self.pool, id.0))?;
+        Ok(found.map(|(_, slot)| slot))
+    }
+
+    /// The column above that of an id. A root and an unknown id have none.
+    pub fn find_parent(self, id: FieldId) -> Result<Option<(FieldId, Slot)>, Refusal> {
+        found(c::find_parent(self.records, self.pool, id.0))
+    }
+
+    /// Would the tree be accepted as a base? Refusals 2 to 8.
+    pub fn check(self) -> Result<(), Refusal> {
+        // every look-up tests 2 to 8 of the whole tree before it looks
+        self.find_id(FieldId(0)).map(|_| ())
+    }
+}
+
+impl<'a> From<&'a Tree> for TreeRef<'a> {
+    fn from(tree: &'a Tree) -> TreeRef<'a> {
+        tree.lent()
+    }
+}
+
+/// The tree that an accepted answer left in the room.
+fn answered(numbers: c::Changed, room: &Room) -> TreeRef<'_> {
+    let (records, names) = (numbers.records as usize * RECORD_BYTES, numbers.names as usize);
+    TreeRef { records: &room.records[..records], pool: &room.names[..names] }
+}
+
+/// Ids as bytes. Of more ids than fit only those that fit are kept: there is room for one id above
+/// the limit, and past the limit the answer is refusal 2 whatever the ids.
+fn id_bytes<'b>(ids: &[FieldId], room: &'b mut [u8]) -> &'b [u8] {
+    let bytes = room.len().min(ids.len().saturating_mul(ID_BYTES));
+    for (to, id) in room.chunks_exact_mut(ID_BYTES).zip(ids) {
+        to.copy_from_slice(&id.0.to_le_bytes());
+    }
+    &room[..bytes]
+}
+
+fn found(numbers: c::Found) -> Result<Option<(FieldId, Slot)>, Refusal> {
+    let numbers = numbers.accepted()?;
+    Ok((numbers.found != 0).then_some((FieldId(numbers.id), Slot(numbers.slot))))
+}

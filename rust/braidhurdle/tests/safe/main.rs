@@ -1,0 +1,9 @@
+//! The crate as its users see it.
+
+mod any_bytes;
+mod building;
+mod reading;
+mod refusals;
+mod t;
+mod text;
+mod worked;

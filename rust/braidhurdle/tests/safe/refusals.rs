@@ -1,0 +1,165 @@
+//! Every refusal: its words, and an input that meets it through the safe functions.
+
+use crate::t::{primitive, roots, t};
+use braidhurdle::layout::{MOST_IDENTIFIERS, MOST_SELECTED};
+use braidhurdle::{Field, FieldId, Mode, Refusal, Request, Tree, c};
+
+const SCOPE: &str = include_str!("../../../../docs/01-scope.md");
+
+fn refused(number: u32, list: u32, place: u32) -> Refusal {
+    Refusal { number, list, place }
+}
+
+/// What an update of T after last id 10 is refused with.
+fn update_refusal(request: Request) -> Refusal {
+    t().update(&request).expect_err("a refusal")
+}
+
+fn request() -> Request {
+    Request::new(FieldId(10))
+}
+
+fn floor() -> Field {
+    Field::primitive("floor", 0)
+}
+
+#[test]
+fn every_number_has_the_words_of_01s_table() {
+    for number in 1..=20 {
+        let meaning = refused(number, 0, 0).meaning();
+        assert!(SCOPE.contains(&format!("| {number} | {meaning}")), "{number}: {meaning}");
+    }
+}
+
+#[test]
+fn every_list_has_01s_name() {
+    for list in 0..=5 {
+        let name = refused(3, list, 0).list_name();
+        assert!(SCOPE.contains(&format!("{list} {name}")), "{list}: {name}");
+    }
+}
+
+#[test]
+fn a_refusal_says_number_list_and_place_in_words() {
+    assert_eq!(
+        refused(8, 4, 6).to_string(),
+        "refused 8 at 4 6: a full name equals an earlier one (rebuilt tree, place 6)"
+    );
+}
+
+#[test]
+fn numbers_that_01_does_not_have_are_shown_all_the_same() {
+    assert_eq!(
+        refused(0, 6, u32::MAX).to_string(),
+        "refused 0 at 6 4294967295: a number that 01 does not have (a list that 01 does not have, \
+         place 4294967295)"
+    );
+    assert_eq!(refused(21, 0, 0).meaning(), "a number that 01 does not have");
+}
+
+#[test]
+fn refusal_1_is_met_by_own_buffers_alone() {
+    let numbers = c::prune(&[], &[], &[], 0, &mut [0; 24_575], &mut [0; 32_768]);
+    assert_eq!(numbers.accepted(), Err(refused(1, 0, 0)));
+}
+
+#[test]
+fn refusals_2_to_6_are_met_by_a_tree_alone() {
+    let broken = |at: usize, byte: u8| {
+        let mut tree = t();
+        tree.records[at] = byte;
+        tree.check()
+    };
+    assert_eq!(Tree::new(vec![0; 23], vec![]).check(), Err(refused(2, 0, 0)));
+    assert_eq!(broken(24 + 11, 1), Err(refused(3, 0, 1)));
+    assert_eq!(broken(9 * 24 + 4, 44), Err(refused(4, 0, 9)));
+    assert_eq!(Tree::new(t().records[..9 * 24].to_vec(), t().pool).check(), Err(refused(5, 0, 9)));
+    assert_eq!(broken(4 * 24 + 8, 6), Err(refused(6, 0, 4)));
+}
+
+#[test]
+fn level_17_is_refusal_5() {
+    let chain = (1..=17).fold(Field::primitive("x", 0).id(FieldId(0)), |inside, id| {
+        Field::structure("x", [inside]).id(FieldId(id))
+    });
+    let tree = Tree::build(&[chain.inside[0].clone()]).expect("it fits the layout");
+    assert_eq!(tree.check(), Err(refused(5, 0, 16)));
+    let tree = Tree::build(&chain.inside[0].inside).expect("it fits the layout");
+    assert_eq!(tree.check(), Ok(()));
+}
+
+#[test]
+fn refusals_7_and_8_are_met_by_equal_ids_and_names() {
+    let with = |column: Field| {
+        let [node, visits, parts] = roots();
+        Tree::build(&[node, visits, parts, column]).expect("it fits the layout").check()
+    };
+    assert_eq!(with(primitive(10, "floor")), Err(refused(7, 0, 10)));
+    assert_eq!(with(primitive(11, "visits.element.day")), Err(refused(8, 0, 10)));
+}
+
+#[test]
+fn refusals_9_to_12_are_met_by_identifiers_and_deletions() -> Result<(), braidhurdle::Overlong> {
+    let unknown = request().identifiers(&[FieldId(5), FieldId(99)]);
+    assert_eq!(update_refusal(unknown), refused(9, 5, 1));
+    let mut two = request().add(floor())?;
+    two.added_records.extend(two.added_records.clone());
+    assert_eq!(update_refusal(two), refused(10, 3, 0));
+    assert_eq!(update_refusal(request().drop("node")?.drop("nothing")?), refused(11, 2, 1));
+    let cost = request().identifiers(&[FieldId(5)]).drop("node.cost")?;
+    assert_eq!(update_refusal(cost), refused(12, 2, 0));
+    Ok(())
+}
+
+#[test]
+fn refusals_13_to_18_are_met_by_additions() -> Result<(), braidhurdle::Overlong> {
+    let second = |column: Field| Ok(update_refusal(request().add(floor())?.add(column)?));
+    assert_eq!(second(Field::primitive("a.b", 0))?, refused(13, 3, 1));
+    assert_eq!(second(Field::primitive("a", 0).required())?, refused(14, 3, 1));
+    assert_eq!(update_refusal(request().add_under("nothing", floor())?), refused(15, 3, 0));
+    assert_eq!(update_refusal(request().add_under("node.cost", floor())?), refused(16, 3, 0));
+    assert_eq!(second(Field::structure("node", []))?, refused(17, 3, 1));
+    let last = Request::new(FieldId(i32::MAX)).add(floor())?;
+    assert_eq!(update_refusal(last), refused(18, 3, 0));
+    Ok(())
+}
+
+#[test]
+fn a_required_column_with_a_default_is_accepted() -> Result<(), Box<dyn std::error::Error>> {
+    let request = request().add(floor().required().default())?;
+    assert_eq!(t().update(&request)?.last_id, FieldId(11));
+    Ok(())
+}
+
+#[test]
+fn refusal_19_is_met_by_a_tree_that_grows_past_a_limit() -> Result<(), Box<dyn std::error::Error>> {
+    let columns: Vec<Field> = (1..=1_024).map(|id| primitive(id, &format!("c{id}"))).collect();
+    let tree = Tree::build(&columns)?;
+    let request = Request::new(FieldId(1_024)).add(floor())?;
+    assert_eq!(tree.update(&request), Err(refused(19, 4, 0)));
+    assert_eq!(tree.update(&request.drop("c7")?)?.last_id, FieldId(1_025));
+    Ok(())
+}
+
+#[test]
+fn refusal_20_is_met_by_a_chosen_map() {
+    let parts = [FieldId(3)];
+    assert_eq!(t().prune(&parts, Mode::Plain), Err(refused(20, 0, 6)));
+    assert!(t().prune(&parts, Mode::Full).is_ok());
+}
+
+#[test]
+fn ids_are_counted_up_to_their_limit_and_not_a_byte_is_lost() {
+    let ids = |count: usize| vec![FieldId(7); count];
+    let pruned =
+        |count: usize| t().prune(&ids(count), Mode::Plain).map(|tree| crate::t::ids(&tree));
+    assert_eq!(pruned(MOST_SELECTED), Ok(vec![2, 6, 7]));
+    for count in [MOST_SELECTED + 1, MOST_SELECTED + 2, 9_999] {
+        assert_eq!(pruned(count), Err(refused(2, 0, 0)));
+    }
+    let renumbered = |count: usize| t().renumber(FieldId(3), &ids(count)).map(|r| r.identifiers);
+    assert_eq!(renumbered(MOST_IDENTIFIERS), Ok(vec![FieldId(9); MOST_IDENTIFIERS]));
+    for count in [MOST_IDENTIFIERS + 1, MOST_IDENTIFIERS + 2, 9_999] {
+        assert_eq!(renumbered(count), Err(refused(2, 0, 0)));
+    }
+}
