@@ -9,7 +9,7 @@ use oracle::Iceberg;
 use port::Port;
 
 fn main() {
-    println!("microseconds of one call, best of 20 rounds; {}", machine());
+    println!("microseconds of processor time of one call, best of 20 rounds; {}", machine());
     if cfg!(debug_assertions) {
         println!(
             "this is no release build, so its times say nothing: cargo run --profile bench -p bench"
@@ -66,7 +66,10 @@ fn figures(row: &Row, iceberg: Option<Iceberg>) -> String {
     let copy = time(|| room.copy(&row.case));
     let shown =
         |time: Option<f64>| time.map_or(format!("{:>12}", "-"), |t| format!("{:>12.3}", t / 1e3));
-    let ratio = ours.zip(theirs).map_or("-".into(), |(o, t)| format!("{:.1}", t / o));
+    let ratio = ours.zip(theirs).map_or("-".into(), |(o, t)| match t / o {
+        less if less < 1.0 => format!("{less:.3}"),
+        more => format!("{more:.1}"),
+    });
     format!("{}{}{ratio:>9}{:>9.3}", shown(ours), shown(theirs), copy / 1e3)
 }
 

@@ -188,10 +188,12 @@ impl Run {
     ) -> Failure {
         let case = self.generator.case(number);
         let why = |case: &Case| check_by(case, iceberg, by()).err();
+        let parted = why(&case).expect("it parted before");
+        let parted = format!("seed {}, case {number}\n{parted}", self.generator.seed);
+        eprintln!("{parted}\nit is being shrunk");
         let least = shrink(&case, &|case| why(case).is_some());
-        let why = why(&case).expect("it parted before");
-        let why = format!("seed {}, case {number}\n{why}", self.generator.seed);
-        Failure { number, why, line: line(case, iceberg).0, shrunk: line(least, iceberg).0 }
+        let (line, shrunk) = (line(case, iceberg).0, line(least, iceberg).0);
+        Failure { number, why: parted, line, shrunk }
     }
 }
 
