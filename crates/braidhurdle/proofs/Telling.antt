@@ -1,23 +1,17 @@
 -- The numbers that the code lays out are the paper's: a found slot is below 1,024, so its 32 bits are the slot.
-use Prim.Native.Nat.{ℕ, _%_, _<_, _≤_}
-use mathlib.Core.Path.{_≡_, refl, sym, ap, subst, _∙_}
-use mathlib.Core.Bool.{Bool, true, false, not}
+use Prim.Native.Nat.{ℕ, _%_, _<_}
+use mathlib.Core.Path.{_≡_, refl, ap, _∙_}
+use mathlib.Core.Bool.{Bool}
 use mathlib.Core.List.{List}
 use mathlib.Core.Option.{Option, none, some}
 use native.Mathlib.Omega.{arith}
-use Rattle.paper.specs.Answer.{Answer, ok, refused, _>>=_, fault-if}
-use Rattle.paper.specs.Forest.{Forest, size}
-use Rattle.paper.specs.Field.{Field}
-use Rattle.paper.specs.Rows.{Row, look-name, look-id, look-parent}
-use Rattle.paper.specs.Bytes.{turned, slots}
-use Rattle.paper.specs.Decode.{decode}
-use Rattle.paper.specs.Limits.{sized}
+use Rattle.paper.specs.Answer.{Answer, ok, refused}
+use Rattle.paper.specs.Rows.{Row}
+use Rattle.paper.specs.Bytes.{slots}
 use lib.ListN.{length}
-use Rattle.paper.specs.Entries.{Result, read, find-name, find-id, find-parent, prune-entry, renumber-entry}
+use Rattle.paper.specs.Entries.{Result, find-name, find-id, find-parent, prune-entry, renumber-entry}
 use Rattle.paper.specs.Outcome.{found, changed}
-use Rattle.laws.proofs.Basics.{unbind, ok-is, refused≢ok}
 use Rattle.laws.proofs.Fitting.{sized-slots}
-use Rattle.laws.proofs.Whole.{decode-size}
 use Rattle.record.specs.declared.Refusal.{Refusal}
 use Rattle.record.specs.declared.FieldId.{FieldId}
 use Rattle.record.specs.declared.Slot.{Slot}
@@ -29,25 +23,18 @@ use Rattle.record.specs.declared.Sizes.{Sizes}
 use Rattle.record.specs.declared.Changed.{Changed}
 use Rattle.record.specs.declared.Changed.the-variants as changing
 use Rattle.record.specs.Says.{found-row, looked, changes}
+use Rattle.index.specs.Shown.{FoundIn, by-name, by-id, by-parent}
+use Rattle.index.proofs.Showing.{row-here}
 use Rattle.prune.specs.Pruning.{Prunes}
 use Rattle.rebuilt.specs.Ending.{Answers}
 use Rattle.renumber.specs.Renumbering.{Renumbers}
 use Rattle.braidhurdle.specs.declared.ChangedNumbers.{ChangedNumbers}
 use Rattle.braidhurdle.specs.declared.FoundNumbers.{FoundNumbers}
 use Rattle.braidhurdle.specs.Numbers.{found-in, found-numbers, sought-numbers, changed-in, changed-numbers, Left, LeftThree}
-use Rattle.braidhurdle.proofs.Slots.{name-within, id-within, parent-within}
 
-passed : (b : Bool) {u : Unit {0}} → fault-if 2 0 0 (not b) ≡ ok u → b ≡ true
-passed true e = refl
-passed false e = absurd (refused≢ok e)
-
-read-small : (s pool : List ℕ) (t : Forest Field) → read s pool ≡ ok t → size t ≤ 1024
-unfolding read
-read-small s pool t e =
-    unbind _ _ e λ _ e₁ a₁. unbind _ _ a₁ λ u e₂ a₂. unbind _ _ a₂ λ _ e₃ a₃.
-    let d = decode-size 0 s pool u e₂ in
-    let z = sized-slots s pool (passed (sized s pool) e₁) in
-    subst (λ (v : Forest Field). size v ≤ 1024) (ok-is a₃) (omega (arith, z .0))
+-- A row that a look-up finds stands in the first 1,024 slots.
+found-small : (s pool : List ℕ) (r : Row) → FoundIn s pool r → r .slot < 1024
+found-small s pool r f = let h = row-here s pool r f in let a = h .there in let b = sized-slots s pool (h .limits) .0 in omega arith
 
 -- Numbers of a look-up whose row, if there is one, stands in the first 1,024 slots.
 told : (a : Answer (Option Row)) → ((r : Row) → a ≡ ok (some r) → r .slot < 1024) → sought-numbers (looked a) ≡ found-in (found a)
@@ -57,20 +44,14 @@ told (ok (some r)) f = let l = f r refl in let e : r .slot % 4294967296 ≡ r .s
 told (refused n l p) f = refl
 
 module _ (s pool : List ℕ) where
-  looked-up : (g : Forest Field → Option Row) → ((t : Forest Field) (r : Row) → g t ≡ some r → r .slot < size t) → (r : Row) → (read s pool >>= λ t. ok (g t)) ≡ ok (some r) → r .slot < 1024
-  looked-up g w r e = unbind _ _ e λ t e₁ a₁. let l = read-small s pool t e₁ in let k = w t r (ok-is a₁) in omega arith
+  name-told : (x : List ℕ) → sought-numbers (looked (find-name s pool x)) ≡ found-in (found (find-name s pool x))
+  name-told x = told (find-name s pool x) (λ r e. found-small s pool r (by-name x e))
 
-  pub name-told : (x : List ℕ) → sought-numbers (looked (find-name s pool x)) ≡ found-in (found (find-name s pool x))
-  unfolding find-name
-  name-told x = told (read s pool >>= λ t. ok (look-name t x)) (looked-up (λ t. look-name t x) (λ t r e. name-within t r x e))
+  id-told : (i : ℕ) → sought-numbers (looked (find-id s pool i)) ≡ found-in (found (find-id s pool i))
+  id-told i = told (find-id s pool i) (λ r e. found-small s pool r (by-id i e))
 
-  pub id-told : (i : ℕ) → sought-numbers (looked (find-id s pool i)) ≡ found-in (found (find-id s pool i))
-  unfolding find-id
-  id-told i = told (read s pool >>= λ t. ok (look-id t (turned i))) (looked-up (λ t. look-id t (turned i)) (λ t r e. id-within t r (turned i) e))
-
-  pub parent-told : (i : ℕ) → sought-numbers (looked (find-parent s pool i)) ≡ found-in (found (find-parent s pool i))
-  unfolding find-parent
-  parent-told i = told (read s pool >>= λ t. ok (look-parent t (turned i))) (looked-up (λ t. look-parent t (turned i)) (λ t r e. parent-within t r (turned i) e))
+  parent-told : (i : ℕ) → sought-numbers (looked (find-parent s pool i)) ≡ found-in (found (find-parent s pool i))
+  parent-told i = told (find-parent s pool i) (λ r e. found-small s pool r (by-parent i e))
 
   module _ (w : Sought) (r : FoundNumbers) (e : r ≡ sought-numbers w) where
     pub tells-name : (x : List ℕ) → w ≡ looked (find-name s pool x) → r ≡ found-in (found (find-name s pool x))

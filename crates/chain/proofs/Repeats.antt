@@ -10,6 +10,7 @@ use lib.Dec.{eqb}
 use borrow.Author.Tests.{ne-eqb}
 use Rattle.paper.specs.Answer.{any, lowest, or-else, place-of, repeated}
 use Rattle.paper.specs.Bytes.{from}
+use Rattle.laws.proofs.Basics.{or-else-none}
 use Rattle.chain.specs.Chain.{pick, lowest-below, new-at}
 use Rattle.chain.proofs.Chains.{below-zero, below-suc}
 
@@ -68,10 +69,6 @@ module _ {A : Type 0} (t : A → Bool) (f : ℕ → A) where
   or-assoc none y z = refl
   or-assoc (some a) y z = refl
 
-  or-none : (x : Option ℕ) → or-else x none ≡ x
-  or-none none = refl
-  or-none (some a) = refl
-
   below-place : (best k : ℕ) → slot-at (lowest-below (λ j. t (f j)) best k) ≡ or-else (place-of t 0 (from f 0 k)) (slot-at best)
   unfolding from
   below-place best zero = rw (below-zero (λ j. t (f j)) best)
@@ -84,7 +81,7 @@ module _ {A : Type 0} (t : A → Bool) (f : ℕ → A) where
       go false = refl
 
   pub found-below : (k : ℕ) → slot-at (lowest-below (λ j. t (f j)) 0 k) ≡ place-of t 0 (from f 0 k)
-  found-below k = below-place 0 k ∙ or-none (place-of t 0 (from f 0 k))
+  found-below k = below-place 0 k ∙ or-else-none (place-of t 0 (from f 0 k))
 
   -- some slot passes the test, or none does
   any-place : (k m : ℕ) → any t (from f k m) ≡ elim (place-of t k (from f k m)) [ none ↦ false | some j ↦ true ]

@@ -1,9 +1,8 @@
 -- A loop over siblings: what is left to number gives the whole. `search numbering`.
 use mathlib.Core.Path.{_≡_, refl, sym, ap, _∙_}
 use mathlib.Core.Bool.{Bool, true, false, cond}
-use mathlib.Core.Logic.{⊎-elim}
-use mathlib.Core.List.{List, [], _∷_, _++_, map, map-append}
-use Prim.Native.Nat.{ℕ, zero, suc, _+_, _-_, _*_, _<_, _≤_}
+use mathlib.Core.List.{List, [], _∷_, _++_, map-append}
+use Prim.Native.Nat.{ℕ, suc, _+_, _-_, _<_, _≤_}
 use native.Mathlib.Numerals.{add-one}
 use native.Mathlib.Omega.{arith}
 use lib.ListN.{length, set, length-append}
@@ -16,16 +15,14 @@ use Rattle.paper.specs.Layout.{Part, before}
 use Rattle.paper.specs.Renumber.{inside-first, level}
 use Rattle.laws.proofs.Written.{siblings-size}
 use Rattle.laws.proofs.Runs.{sets-append}
-use Rattle.plan.specs.Plan.{Source, bits-of}
-use Rattle.tree.specs.Read.{part, reads}
-use Rattle.tree.proofs.Filled.{Full, lt-or-le}
-use Rattle.tree.proofs.Steps.{part-none, part-in, part-full, no-deep, no-past, reads-inner, reads-rest}
+use Rattle.plan.specs.Plan.{bits-of}
+use Rattle.tree.proofs.Filled.{Full}
+use Rattle.tree.proofs.Steps.{part-none}
+use Rattle.walk.specs.There.{row-of, There}
+use Rattle.walk.proofs.Standing as standing
+use Rattle.walk.proofs.Standing.{none-there, there-full, inner-there, rest-there}
 use Rattle.id_reassigner.specs.declared.Reassigned.{Reassigned}
-use Rattle.id_reassigner.specs.Numbers.{numbered-source, new-ids, row-of, Room, Given}
-
-above-zero : (i : ℕ) → (i ≡ 0 → ⊥) → 0 < i
-above-zero zero q = absurd (q refl)
-above-zero (suc i) q = omega arith
+use Rattle.id_reassigner.specs.Numbers.{numbered-source, new-ids, Room, Given}
 
 -- ---- the new ids of a row
 
@@ -58,9 +55,7 @@ Counted false own next left z total = (next + z ≡ total + left) × (own + left
 Counted true own next left z total = (own + z ≡ total) × (next ≡ own + 1)
 
 pub record Left (s : List ℕ) (m? : Bool) (lv c k : ℕ) (ids : List ℕ) (first left at own next : ℕ) (ids′ : List ℕ) : Type 0 where
-  pub few : slots s ≤ 1024
-  pub within : at ≤ slots s
-  pub read : reads 0 (kids-at s) (slots s) lv left at ≡ true
+  pub there : There s lv left at
   pub fits : first + size (row-of s lv c k .trees) < 4294967296
   pub counts : Counted m? own next left (size (row-of s lv left at .trees)) (first + size (row-of s lv c k .trees))
   pub end : row-of s lv left at .next ≡ row-of s lv c k .next
@@ -68,33 +63,27 @@ pub record Left (s : List ℕ) (m? : Bool) (lv c k : ℕ) (ids : List ℕ) (firs
       ≡ sets ids k (new-ids (kind-at s) m? first (inside-first m? first (row-of s lv c k .trees)) (row-of s lv c k .trees))
 
 module _ (s : List ℕ) (lv c k : ℕ) (ids : List ℕ) (first : ℕ) (h : Room s lv c k ids first) where
-  rowed : Full (kids-at s) (slots s) c k (row-of s lv c k)
-  rowed = part-full 0 (kids-at s) (slots s) lv c k (h .read)
-
   pub members-fit : first + c < 4294967296
-  members-fit = let a = siblings-size (row-of s lv c k .trees) in let b = rowed .trees in let d = h .numbers in omega arith
+  members-fit = let a = siblings-size (row-of s lv c k .trees) in let b = there-full s lv c k (h .there) .trees in let d = h .numbers in omega arith
 
   pub members-start : Left s false lv c k ids first c k first (first + c) ids
   members-start =
       record {
-        few = h .few;
-        within = h .within;
-        read = h .read;
+        there = h .there;
         fits = h .numbers;
         counts = (omega arith, omega arith);
         end = refl;
-        given = rw (rowed .trees);
+        given = rw (there-full s lv c k (h .there) .trees);
       }
 
   pub pair-start : Left s true lv c k ids first c k first (first + 1) ids
-  pair-start = record { few = h .few; within = h .within; read = h .read; fits = h .numbers; counts = (refl, refl); end = refl; given = rw (add-one first) }
+  pair-start = record { there = h .there; fits = h .numbers; counts = (refl, refl); end = refl; given = rw (add-one first) }
 
 module _ (s : List ℕ) (m? : Bool) (lv c k : ℕ) (ids : List ℕ) (first left at own next : ℕ) (ids′ : List ℕ) (h : Left s m? lv c k ids first left at own next ids′) where
   -- ---- nothing is left
   pub all-given : (r : Reassigned) → left ≤ 0 → r .next ≡ at → r .«next_field_id» ≡ first + size (row-of s lv c k .trees) → Given s m? lv c k ids first r ids′
   all-given r l e q =
-      let z : left ≡ 0 = omega arith in
-      let g = part-none 0 (kids-at s) (slots s) lv left at z in
+      let g = none-there s lv left at l in
       record {
         next = e ∙ sym (ap (λ (p : Part). p .next) g) ∙ h .end;
         counter = q;
@@ -103,17 +92,14 @@ module _ (s : List ℕ) (m? : Bool) (lv c k : ℕ) (ids : List ℕ) (first left 
 
   -- ---- one sibling more
   module _ (l : 0 < left) where
-    some-left : left ≡ 0 → ⊥
-    some-left e = omega arith
-
     pub level-left : 0 < lv
-    level-left = above-zero lv (no-deep 0 (kids-at s) (slots s) lv left at (h .read) some-left)
+    level-left = standing.level-left s lv left at (h .there) l
 
     pub record-left : at < slots s
-    record-left = ⊎-elim (λ q. q) (λ q. absurd (no-past 0 (kids-at s) (slots s) lv left at (h .read) some-left q)) (lt-or-le at (slots s))
+    record-left = standing.record-left s lv left at (h .there) l
 
     pub place-left : at < 1024
-    place-left = let a = record-left in let b = h .few in omega arith
+    place-left = standing.place-left s lv left at (h .there) l
 
     inner : Part
     inner = row-of s (lv - 1) (kids-at s at) (at + 1)
@@ -123,22 +109,22 @@ module _ (s : List ℕ) (m? : Bool) (lv c k : ℕ) (ids : List ℕ) (first left 
 
     split : row-of s lv left at ≡ before at inner rest
     unfolding inner rest
-    split = part-in 0 (kids-at s) (slots s) lv left at (h .read) (kids-at s at) some-left refl
+    split = standing.split s lv left at (h .there) l (kids-at s at) refl
 
-    inner-read : reads 0 (kids-at s) (slots s) (lv - 1) (kids-at s at) (at + 1) ≡ true
-    inner-read = reads-inner 0 (kids-at s) (slots s) lv left at (h .read) (kids-at s at) some-left refl
-
-    rest-read : reads 0 (kids-at s) (slots s) lv (left - 1) (inner .next) ≡ true
-    unfolding inner
-    rest-read = reads-rest 0 (kids-at s) (slots s) lv left at (h .read) (kids-at s at) some-left refl (inner .next) refl
+    inner-in : There s (lv - 1) (kids-at s at) (at + 1)
+    inner-in = inner-there s lv left at (h .there) l (kids-at s at) refl
 
     inner-full : Full (kids-at s) (slots s) (kids-at s at) (at + 1) inner
     unfolding inner
-    inner-full = part-full 0 (kids-at s) (slots s) (lv - 1) (kids-at s at) (at + 1) inner-read
+    inner-full = there-full s (lv - 1) (kids-at s at) (at + 1) inner-in
+
+    rest-in : There s lv (left - 1) (inner .next)
+    unfolding inner
+    rest-in = rest-there s lv left at (h .there) l (kids-at s at) refl (inner .next) refl
 
     rest-full : Full (kids-at s) (slots s) (left - 1) (inner .next) rest
     unfolding rest
-    rest-full = part-full 0 (kids-at s) (slots s) lv (left - 1) (inner .next) rest-read
+    rest-full = there-full s lv (left - 1) (inner .next) rest-in
 
     sizes : size (row-of s lv left at .trees) ≡ suc (size (inner .trees) + size (rest .trees))
     unfolding size
@@ -162,9 +148,7 @@ module _ (s : List ℕ) (m? : Bool) (lv c k : ℕ) (ids : List ℕ) (first left 
 
     asked : (x : ℕ) → next + size (inner .trees) < 4294967296 → Room s (lv - 1) (kids-at s at) (at + 1) (set ids′ at x) next
     unfolding inner
-    asked x f =
-        let w = record-left in
-        record { few = h .few; within = omega arith; read = inner-read; numbers = f }
+    asked x f = record { there = inner-in; numbers = f }
 
     -- what follows a sibling, but for the counter
     module _ (x : ℕ) (ex : x ≡ turned own) (r : Reassigned) (ids″ : List ℕ) (g : Given s (is-map (kind-at s at)) (lv - 1) (kids-at s at) (at + 1) (set ids′ at x) next r ids″) where
@@ -172,13 +156,10 @@ module _ (s : List ℕ) (m? : Bool) (lv c k : ℕ) (ids : List ℕ) (first left 
           → Counted m? own′ next′ (left - 1) (size (rest .trees)) (first + size (row-of s lv c k .trees)) → Left s m? lv c k ids first (left - 1) (r .next) own′ next′ ids″
       unfolding inner rest
       goes own′ next′ e₁ e₂ q =
-          let w = record-left in
           let e : r .next ≡ inner .next = g .next in
           let i = run x ids″ ex (g .given) in
           record {
-            few = h .few;
-            within = rw e (inner-full .most (omega arith));
-            read = rw e rest-read;
+            there = rw e rest-in;
             fits = h .fits;
             counts = rw e q;
             end = rw e (sym (ap (λ (p : Part). p .next) split) ∙ h .end);
@@ -191,8 +172,7 @@ module _ (s : List ℕ) (lv c k : ℕ) (ids : List ℕ) (first left at own next 
   pub members-done : left ≤ 0 → Given s false lv c k ids first (record { next = at; «next_field_id» = next }) ids′
   unfolding size
   members-done l =
-      let z : left ≡ 0 = omega arith in
-      let g = ap (λ (p : Part). size (p .trees)) (part-none 0 (kids-at s) (slots s) lv left at z) in
+      let g = ap (λ (p : Part). size (p .trees)) (none-there s lv left at l) in
       let q = h .counts .0 in
       all-given s false lv c k ids first left at own next ids′ h _ l refl (omega arith)
 
@@ -230,8 +210,7 @@ module _ (s : List ℕ) (lv c k : ℕ) (ids : List ℕ) (first left at own : ℕ
   pub pair-done : left ≤ 0 → Given s true lv c k ids first (record { next = at; «next_field_id» = own }) ids′
   unfolding size
   pair-done l =
-      let z : left ≡ 0 = omega arith in
-      let g = ap (λ (p : Part). size (p .trees)) (part-none 0 (kids-at s) (slots s) lv left at z) in
+      let g = ap (λ (p : Part). size (p .trees)) (none-there s lv left at l) in
       let q = h .counts .0 in
       all-given s true lv c k ids first left at own (own + 1) ids′ h _ l refl (omega arith)
 

@@ -1,17 +1,15 @@
 -- What renumbering leaves in a plan's ids: place k holds the new number of the record at slot k, as 32 bits.
-use Prim.Native.Nat.{ℕ, _+_, _*_, _≤_, _<_}
+use Prim.Native.Nat.{ℕ, _+_, _<_}
 use mathlib.Core.Path.{_≡_}
-use mathlib.Core.Bool.{Bool, true}
+use mathlib.Core.Bool.{Bool}
 use mathlib.Core.List.{List, map}
-use lib.ListN.{length}
 use lib.Seq.{sets}
 use Rattle.paper.specs.declared.Kind.{Kind}
 use Rattle.paper.specs.Forest.{Forest, size, preorder}
-use Rattle.paper.specs.Bytes.{turned, kind-at, kids-at, slots}
-use Rattle.paper.specs.Layout.{Part}
+use Rattle.paper.specs.Bytes.{turned, kind-at}
 use Rattle.paper.specs.Renumber.{inside-first, level}
 use Rattle.plan.specs.Plan.{Source, bits-of}
-use Rattle.tree.specs.Read.{part, reads}
+use Rattle.walk.specs.There.{row-of, There}
 use Rattle.id_reassigner.specs.declared.Reassigned.{Reassigned}
 
 -- The record at slot k with the number i, as a plan has it.
@@ -22,15 +20,9 @@ numbered-source i k = record { slot = k; id = turned i }
 unfoldable pub new-ids : (ℕ → Kind) → Bool → (own next : ℕ) → Forest ℕ → List ℕ
 new-ids kind m? own next t = map bits-of (preorder (level numbered-source kind m? own next t))
 
--- c trees from slot k on.
-abbrev pub row-of : List ℕ → (lv c k : ℕ) → Part
-row-of s lv c k = part 0 (kids-at s) (slots s) lv c k
-
 -- The trees stand there, and there are numbers for their records.
 pub record Room (s : List ℕ) (lv c k : ℕ) (ids : List ℕ) (first : ℕ) : Type 0 where
-  pub few : slots s ≤ 1024
-  pub within : k ≤ slots s
-  pub read : reads 0 (kids-at s) (slots s) lv c k ≡ true
+  pub there : There s lv c k
   pub numbers : first + size (row-of s lv c k .trees) < 4294967296
 
 -- The trees, siblings of a map or not, got the numbers from `first` on, and no other place changed.

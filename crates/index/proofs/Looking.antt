@@ -1,23 +1,22 @@
 -- A chain finds the lowest slot that has the id or the full name, and the rows' slots are in that order: so the look-ups of the code are
 -- the paper's.
 use mathlib.Core.Path.{_≡_, refl, sym, ap, subst, _∙_}
-use mathlib.Core.Bool.{Bool, true, false, not, cond}
+use mathlib.Core.Bool.{Bool, true, false, not}
 use mathlib.Core.List.{List, [], _∷_}
 use mathlib.Core.Option.{Option, none, some}
 use Prim.Native.Nat.{ℕ, zero, suc, _+_, _-_, _<_, _≤_}
-use native.Mathlib.Nat.{zero-add}
 use native.Mathlib.Numerals.{add-one, sub-one}
 use native.Mathlib.Omega.{arith}
-use borrow.Author.Tests.{eqb-true, eq-eqb, ne-eqb, not-true, not-false}
+use borrow.Author.Tests.{not-true}
 use lib.Dec.{eqb}
 use mir.Syntax.{w64}
 use mir.Val.{Fits}
-use lib.ListN.{length, getD}
+use lib.ListN.{getD}
 use Rattle.paper.specs.declared.Kind.{Kind}
 use Rattle.paper.specs.declared.Role.the-variants.{Member}
 use Rattle.paper.specs.Answer.{find, or-else, place-of, same, among}
 use Rattle.paper.specs.Bytes.{turned, from}
-use Rattle.paper.specs.Forest.{Forest, size, mapped}
+use Rattle.paper.specs.Forest.{Forest, mapped}
 use Rattle.paper.specs.Field.{Field}
 use Rattle.paper.specs.Rows.{Row, top, rows, entered, look-id, look-name, look-parent, look-some, parent-of}
 use Rattle.paper.specs.Sound.{names, ids}
@@ -25,15 +24,17 @@ use Rattle.record.specs.declared.Found.{Found}
 use Rattle.record.specs.declared.Found.the-variants.{At, Nothing}
 use Rattle.record.specs.Says.{found-row}
 use Rattle.laws.proofs.Words.{turned-twice}
+use Rattle.laws.proofs.Finding.{eqb-flip}
 use Rattle.plan.specs.Plan.{Lent, kids-in, planned-field, plan-fields, Plan}
+use Rattle.plan.proofs.Standing.{field-in}
 use Rattle.chain.specs.Chain.{pick, lowest-below}
 use Rattle.chain.specs.Ids.{id-in, is-id}
-use Rattle.chain.proofs.Chains.{below-zero, below-suc, eqb-cases}
+use Rattle.chain.proofs.Chains.{below-zero, below-suc}
 use Rattle.chain.proofs.Repeats.{slot-at, found-below}
 use Rattle.names.specs.Walk.{walk, trees-of}
 use Rattle.names.specs.Full.{fulls, ups, full-at}
-use Rattle.names.specs.Told.{name-in, kind-in, is-full, Spelt}
-use Rattle.names.proofs.Walks.{Numbered, all-there, all-numbered}
+use Rattle.names.specs.Told.{name-in, kind-in, is-full}
+use Rattle.names.proofs.Walks.{all-there, all-numbered}
 use Rattle.names.proofs.Telling.{fulls-are}
 use Rattle.lookup.specs.declared.Sighting.{Sighting}
 use Rattle.lookup.specs.declared.Sighting.the-variants as sighted
@@ -42,8 +43,8 @@ use Rattle.lookup.proofs.Fitting.{left-in}
 use Rattle.lookup.proofs.Seeking.{past-is, found-is}
 use Rattle.lookup.proofs.Entered as short
 use Rattle.lookup.proofs.Entered.{short-rel, dotless, found-in}
-use Rattle.index.specs.Index.{Raised, Falling, Index, at-slot, found-slot, short-slot, ById, ByParent}
-use Rattle.index.proofs.Rows.{field-of, field-id, field-name, field-kind, plan-is, ids-are, names-are, Rel, none-found, found-at, parent-at, id-rel, full-rel}
+use Rattle.index.specs.Index.{Raised, Falling, at-slot, found-slot, short-slot}
+use Rattle.index.proofs.Rows.{field-id, field-name, plan-is, ids-are, names-are, Rel, none-found, found-at, parent-at, id-rel, full-rel}
 
 -- ---- places
 
@@ -91,24 +92,17 @@ place-ext : {A : Type 0} (t u : A → Bool) (k : ℕ) (xs : List A) → ((a : A)
 place-ext t u k [] h = refl
 place-ext t u k (x ∷ xs) h = rw (h x, place-ext t u (suc k) xs h)
 
-eqb-sym : (a b : ℕ) → eqb a b ≡ eqb b a
-eqb-sym a b = go (eqb b a) refl
-  where
-    go : (t : Bool) → eqb b a ≡ t → eqb a b ≡ eqb b a
-    go true e = eq-eqb a b (sym (eqb-true b a e)) ∙ sym e
-    go false e = ne-eqb a b (λ z. let q : _≡_ {A = Bool} true false = sym (eq-eqb b a (sym z)) ∙ e in let w : _≡_ {A = ℕ} 0 1 = cc in omega arith) ∙ sym e
-
 module _ (l : Lent) (xs is ks : List ℕ) (m : ℕ) (p : Plan l xs is ks m) where
   abbrev fld : ℕ → Field
-  fld k = field-of l xs is k
+  fld k = field-in l xs is k
 
   abbrev places : Forest ℕ
   places = trees-of (kids-in ks) m
 
-  pub ids-in-order : ids (mapped (field-of l xs is) (trees-of (kids-in ks) m)) ≡ from (id-in is) 0 m
+  pub ids-in-order : ids (mapped (field-in l xs is) (trees-of (kids-in ks) m)) ≡ from (id-in is) 0 m
   ids-in-order = ids-are fld (id-in is) places 0 (field-id l xs is) (all-numbered (kids-in ks) m) ∙ ap (from (id-in is) 0) (all-there (kids-in ks) m)
 
-  pub names-in-order : names [] (mapped (field-of l xs is) (trees-of (kids-in ks) m)) ≡ fulls (name-in l xs) [] (trees-of (kids-in ks) m)
+  pub names-in-order : names [] (mapped (field-in l xs is) (trees-of (kids-in ks) m)) ≡ fulls (name-in l xs) [] (trees-of (kids-in ks) m)
   names-in-order = names-are fld (name-in l xs) places [] (field-name l xs is)
 
   rel-slot : {us : List ℕ} {O : Option Row} {o : Option ℕ} → Rel fld 0 us O o → found-row O ≡ found-slot is o
@@ -123,7 +117,7 @@ module _ (l : Lent) (xs is ks : List ℕ) (m : ℕ) (p : Plan l xs is ks m) wher
     unfolding look-id
     id-found =
         let q : place-of (λ a. eqb a i) 0 (ids (mapped fld places)) ≡ slot-at at =
-        ap (place-of (λ a. eqb a i) 0) ids-in-order ∙ place-ext (λ a. eqb a i) (eqb i) 0 (from (id-in is) 0 m) (λ a. eqb-sym a i) ∙ sym (found-below (eqb i) (id-in is) m) ∙ ap slot-at (sym e) in
+        ap (place-of (λ a. eqb a i) 0) ids-in-order ∙ place-ext (λ a. eqb a i) (eqb i) 0 (from (id-in is) 0 m) (λ a. eqb-flip a i) ∙ sym (found-below (eqb i) (id-in is) m) ∙ ap slot-at (sym e) in
         rw (plan-is l xs is ks m p, ← q) (id-rel fld places (all-numbered (kids-in ks) m) (λ a. eqb a i))
 
     pub by-id : found-row (look-id (plan-fields l xs is ks m) i) ≡ found-slot is (seen at)

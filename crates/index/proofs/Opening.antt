@@ -1,40 +1,39 @@
 -- Lent bytes as a base: `read` of the paper is 2 to 6, then 7 and 8 with no identifiers; the base plans the tree that it holds.
-use mathlib.Core.Path.{_≡_, refl, sym, ap, _∙_}
-use mathlib.Core.Bool.{Bool, true, false, not}
+use mathlib.Core.Path.{_≡_, refl, sym, _∙_}
+use mathlib.Core.Bool.{Bool, true, false}
 use mathlib.Core.List.{List, []}
-use mathlib.Core.Option.{Option, none, some}
 use Prim.Native.Nat.{ℕ, _*_, _/_, _≤_}
 use native.Mathlib.Omega.{arith}
 use lib.ListN.{length}
-use Rattle.paper.specs.Answer.{Answer, ok, refused, _>>=_, _>>_}
-use Rattle.paper.specs.Bytes.{turned, slots, from}
+use Rattle.paper.specs.Answer.{Answer, ok, refused, _>>=_}
+use Rattle.paper.specs.Bytes.{from}
 use Rattle.paper.specs.Decode.{decode}
 use Rattle.paper.specs.Entries.{read, find-name, find-id, find-parent}
 use Rattle.paper.specs.Field.{Field}
-use Rattle.paper.specs.Forest.{Forest, siblings}
+use Rattle.paper.specs.Forest.{Forest}
 use Rattle.paper.specs.Limits.{sized}
 use Rattle.paper.specs.Lists.{id-list}
 use Rattle.paper.specs.Refusals.{limited}
-use Rattle.paper.specs.Rows.{Row, look-name, look-id, look-parent}
+use Rattle.paper.specs.Rows.{look-name}
 use Rattle.paper.specs.Sound.{sound}
 use Rattle.record.specs.declared.Refusal.{Refusal}
 use Rattle.record.specs.declared.Check.{Check}
 use Rattle.record.specs.declared.Check.the-variants as check
 use Rattle.record.specs.declared.Found.{Found}
-use Rattle.record.specs.declared.Sought.{Sought}
 use Rattle.record.specs.declared.Sought.the-variants as sought
 use Rattle.record.specs.Says.{checked, found-row, looked}
 use Rattle.record.proofs.Testing.{refused-as, checked-ok}
-use Rattle.laws.proofs.Basics.{unbind, rebind, ok-is, refused≢ok}
+use Rattle.laws.proofs.Basics.{rebind, refused≢ok, bind-not}
 use Rattle.laws.proofs.Fitting.{sized-slots}
 use Rattle.tree.specs.declared.Shaped.{Shaped}
 use Rattle.tree.specs.declared.Shaped.the-variants as shaped
 use Rattle.tree.specs.Says.{decoded}
 use Rattle.tree.specs.Only.{only-read}
+use Rattle.tree.proofs.Deciding.{decode-refused, decode-ok}
 use Rattle.plan.specs.Plan.{Lent, lent, plan-fields, Plan}
 use Rattle.plan.specs.Sources.{Taken}
 use Rattle.plan.proofs.Taking.{Based, base-plan}
-use Rattle.index.specs.Index.{Rooms, Index, Indexing, Opened, ById, ByParent}
+use Rattle.index.specs.Index.{Indexing, Opened, ById, ByParent}
 
 -- ---- 2 to 6
 
@@ -45,16 +44,6 @@ read-is s pool = go (limited (sized s pool))
     go : (x : Answer (Unit {0})) → (x >>= λ _. decode 0 s pool >>= λ t. sound 0 t [] >>= λ _. ok t) ≡ ((x >>= λ _. decode 0 s pool) >>= λ t. sound 0 t [] >>= λ _. ok t)
     go (ok u) = refl
     go (refused n l p) = refl
-
-was-refused : {A : Type 0} (y : Answer (Forest Field)) (f : Forest Field → Answer A) (w : Shaped) (x : Refusal) → w ≡ decoded y → w ≡ shaped.Refused x → (y >>= f) ≡ refused-as x
-unfolding decoded _>>=_
-was-refused (ok t) f w x e d = let z : _≡_ {A = ℕ} 0 1 = cc in absurd (omega arith)
-was-refused (refused n l p) f w x e d = cc
-
-was-read : {P : Type 0} (y : Answer (Forest Field)) (w : Shaped) (c : ℕ) → w ≡ decoded y → w ≡ shaped.Roots c → ((t : Forest Field) → y ≡ ok t → P) → P
-unfolding decoded
-was-read (ok t) w c e d f = f t refl
-was-read (refused n l p) w c e d f = let z : _≡_ {A = ℕ} 0 1 = cc in absurd (omega arith)
 
 -- what 2 and 3 to 6 told
 sized-then : {P : Type 0} (s pool : List ℕ) (t : Forest Field) → only-read s pool ≡ ok t → (sized s pool ≡ true → decode 0 s pool ≡ ok t → P) → P
@@ -78,7 +67,7 @@ module _ (s pool : List ℕ) (w : Shaped) (ew : w ≡ decoded (only-read s pool)
   pub open-refused : (xs is ks : List ℕ) (m : ℕ) (a b c d e f g : List ℕ) (x : Refusal) → w ≡ shaped.Refused x → Opened s pool (check.Refused x) xs is ks m a b c d e f g
   open-refused xs is ks m a b c d e f g x h =
       record {
-        refusal = λ y q. let z : x ≡ y = cc in rw (← z) (read-is s pool ∙ was-refused (only-read s pool) _ w x ew h);
+        refusal = λ y q. let z : x ≡ y = cc in rw (← z) (read-is s pool ∙ bind-not (only-read s pool) _ _ _ _ (decode-refused (only-read s pool) w x ew h));
         tree = λ q. absurd (let z : _≡_ {A = ℕ} 0 1 = cc in omega arith);
         plan = λ q. absurd (let z : _≡_ {A = ℕ} 0 1 = cc in omega arith);
         index = λ q. absurd (let z : _≡_ {A = ℕ} 0 1 = cc in omega arith);
@@ -86,11 +75,11 @@ module _ (s pool : List ℕ) (w : Shaped) (ew : w ≡ decoded (only-read s pool)
 
   module _ (n : ℕ) (ed : w ≡ shaped.Roots n) where
     pub open-few : (length s / 24 * 24 ≤ length s) × (length s / 24 ≤ 1024)
-    open-few = was-read (only-read s pool) w n ew ed λ t e. sized-then s pool t e λ z d. (omega arith, sized-slots s pool z .0)
+    open-few = decode-ok _ (only-read s pool) w n ew ed λ t e _. sized-then s pool t e λ z d. (omega arith, sized-slots s pool z .0)
 
     module _ (xs is ks xs′ is′ ks′ : List ℕ) (lx : length xs ≡ 1024) (li : length is ≡ 1024) (lk : length ks ≡ 1024) (h : Taken s (length s / 24) xs is ks xs′ is′ ks′) where
       based : (P : Type 0) → ((t : Forest Field) → only-read s pool ≡ ok t → Based (lent pool s pool s) t xs′ is′ ks′ (length s / 24) → P) → P
-      based P f = was-read (only-read s pool) w n ew ed λ t e. sized-then s pool t e λ z d. f t e (base-plan 0 pool s pool s t (length s / 24) xs is ks xs′ is′ ks′ z d refl lx li lk h)
+      based P f = decode-ok _ (only-read s pool) w n ew ed λ t e _. sized-then s pool t e λ z d. f t e (base-plan 0 pool s pool s t (length s / 24) xs is ks xs′ is′ ks′ z d refl lx li lk h)
 
       pub open-plan : Plan (lent pool s pool s) xs′ is′ ks′ (length s / 24)
       open-plan = based _ λ t e b. b .plan

@@ -4,19 +4,20 @@ use mathlib.Core.Path.{_≡_, refl, sym, ap, subst, _∙_}
 use mathlib.Core.Bool.{Bool, true, false, cond}
 use mathlib.Core.List.{List, [], _∷_, _++_, map}
 use mathlib.Core.Option.{Option, none, some}
-use Prim.Native.Nat.{ℕ, zero, suc, _+_, _<_, _≤_}
-use native.Mathlib.Nat.{add-zero, zero-add}
+use Prim.Native.Nat.{ℕ, zero, suc, _+_}
+use native.Mathlib.Nat.{add-zero}
 use native.Mathlib.Omega.{arith}
 use lib.ListN.{length, getD, length-append}
 use Rattle.paper.specs.Answer.{find, place-of}
-use Rattle.paper.specs.Bytes.{turned, from}
+use Rattle.paper.specs.Bytes.{from}
 use Rattle.paper.specs.Forest.{Forest, empty, node, size, mapped}
 use Rattle.paper.specs.Field.{Field}
-use Rattle.paper.specs.Rows.{Row, Start, top, row, below, beside, rows, dotted}
+use Rattle.paper.specs.Rows.{Row, Start, top, below, beside, rows, dotted}
 use Rattle.paper.specs.Sound.{names, ids}
 use Rattle.laws.proofs.Preorder.{size-mapped, mapped-mapped}
 use Rattle.laws.proofs.Runs.{from-append, map-append}
 use Rattle.plan.specs.Plan.{Lent, planned-field, source-in, kids-in, plan-slots, plan-tree, plan-fields, Plan}
+use Rattle.plan.proofs.Standing.{field-in}
 use Rattle.chain.specs.Ids.{id-in}
 use Rattle.names.specs.Walk.{trees-of}
 use Rattle.names.specs.Full.{fulls, ups}
@@ -25,25 +26,22 @@ use Rattle.names.proofs.Walks.{Numbered, roots-are}
 
 -- ---- the fields of the slots
 
-abbrev pub field-of : Lent → (xs is : List ℕ) → ℕ → Field
-field-of l xs is k = planned-field l (source-in xs is k)
-
 module _ (l : Lent) (xs is : List ℕ) where
-  pub field-id : (k : ℕ) → field-of l xs is k .id ≡ id-in is k
+  pub field-id : (k : ℕ) → field-in l xs is k .id ≡ id-in is k
   unfolding planned-field
   field-id k = refl
 
-  pub field-name : (k : ℕ) → field-of l xs is k .name ≡ name-in l xs k
+  pub field-name : (k : ℕ) → field-in l xs is k .name ≡ name-in l xs k
   unfolding planned-field name-in
   field-name k = refl
 
-  pub field-kind : (k : ℕ) → field-of l xs is k .kind ≡ kind-in l xs k
+  pub field-kind : (k : ℕ) → field-in l xs is k .kind ≡ kind-in l xs k
   unfolding planned-field kind-in
   field-kind k = refl
 
-pub plan-is : (l : Lent) (xs is ks : List ℕ) (m : ℕ) → Plan l xs is ks m → plan-fields l xs is ks m ≡ mapped (field-of l xs is) (trees-of (kids-in ks) m)
+pub plan-is : (l : Lent) (xs is ks : List ℕ) (m : ℕ) → Plan l xs is ks m → plan-fields l xs is ks m ≡ mapped (field-in l xs is) (trees-of (kids-in ks) m)
 unfolding plan-fields plan-tree plan-slots
-plan-is l xs is ks m p = mapped-mapped (source-in xs is) (planned-field l) _ ∙ ap (mapped (field-of l xs is)) (roots-are 4 (kids-in ks) m (p .shaped))
+plan-is l xs is ks m p = mapped-mapped (source-in xs is) (planned-field l) _ ∙ ap (mapped (field-in l xs is)) (roots-are 4 (kids-in ks) m (p .shaped))
 
 pub plan-sources : (l : Lent) (xs is ks : List ℕ) (m : ℕ) → Plan l xs is ks m → Sources l xs m
 plan-sources l xs is ks m p = record { few = p .few; sits = p .sits }

@@ -21,11 +21,9 @@ use record::name_ok;
 use tree::Shaped;
 use tree::read_tree;
 ghost use mathlib.Core.Path.{_≡_};
-ghost use mathlib.Core.Bool.{true, false};
-ghost use mathlib.Core.List.{[]};
-ghost use Prim.Native.Nat.{_+_, _/_, _<_, _≤_};
+ghost use Prim.Native.Nat.{_/_, _≤_};
 ghost use lib.ListN.{length};
-ghost use Rattle.paper.specs.Bytes.{turned, in-pool, name-of, rec-at};
+ghost use Rattle.paper.specs.Bytes.{turned};
 ghost use Rattle.paper.specs.Entries.{find-name, find-id, find-parent};
 ghost use Rattle.paper.specs.Rows.{look-name};
 ghost use Rattle.record.specs.Says.{found-row, looked};
@@ -34,6 +32,7 @@ ghost use Rattle.chain.specs.Chain.{Chained};
 ghost use Rattle.chain.specs.Ids.{id-bucket, Indexed};
 ghost use Rattle.names.specs.Told.{Sources};
 ghost use Rattle.lookup.specs.Seek.{seen};
+ghost use Rattle.index.specs.Shown.{Shown};
 ghost use Rattle.index.specs.Index.{Rooms, Falling, Index, NamesIndexed, Indexing, at-slot, found-slot, short-slot, ById, ByParent, Opened};
 
 // Refusal 7, and the index of ids.
@@ -460,7 +459,7 @@ pub fn find_parent(records: &[u8], pool: &[u8], id: FieldId) -> Sought
 
 // A found record's name: the very part of the lent pool that holds it. No bytes where the slot has no name in the pool.
 pub fn found_name<'a>(records: &[u8], pool: &'a [u8], slot: Slot) -> &'a [u8]
-    ensures { λ r. ⌜ (slot .0 < length (now (records .entry)) / 24 → in-pool (length (now (pool .entry))) (now (records .entry)) (slot .0) ≡ true → (now r ≡ name-of (now (pool .entry)) (now (records .entry)) (slot .0)) × (r .ptr .0 ≡ pool .entry .ptr .0) × (r .ptr .1 ≡ pool .entry .ptr .1 + rec-at (now (records .entry)) (slot .0) .name-at)) × (length (now (records .entry)) / 24 ≤ slot .0 → now r ≡ []) × (in-pool (length (now (pool .entry))) (now (records .entry)) (slot .0) ≡ false → now r ≡ []) ⌝ }
+    ensures { λ r. ⌜ Shown (now (records .entry)) (now (pool .entry)) (pool .entry .ptr) (slot .0) (now r) (r .ptr) ⌝ }
 {
     let k = slot.0;
     let none = 0;

@@ -15,3 +15,4 @@ pub mod Natural
 pub mod Pointwise
 pub mod Same
 pub mod Finding
+pub mod Rows

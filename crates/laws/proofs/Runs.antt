@@ -53,6 +53,11 @@ module _ {A : Type 0} where
   map-from f g k (suc m) = ap (λ l. f (g k) ∷ l) (map-from f g (suc k) m)
 
   -- The first of the places that are left, and the others.
+  pub from-same : (f g : ℕ → A) (k m : ℕ) → ((j : ℕ) → j < k + m → f j ≡ g j) → from f k m ≡ from g k m
+  unfolding from
+  from-same f g k zero h = refl
+  from-same f g k (suc m) h = rw (h k (omega arith), from-same f g (suc k) m (λ j l. h j (omega arith)))
+
   pub from-step : (g : ℕ → A) (i n : ℕ) → i < n → from g i (n - i) ≡ g i ∷ from g (i + 1) (n - (i + 1))
   unfolding from
   from-step g i n l = let d : n - i ≡ suc (n - (i + 1)) = omega arith in let e : i + 1 ≡ suc i = omega arith in rw (d, e)

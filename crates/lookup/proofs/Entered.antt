@@ -1,13 +1,12 @@
 -- The walk finds what the paper's look-up of a short name finds: it meets the records in the order of entry, and what is left of the
 -- asked name behind the names above tells whether a short name is it.
-use mathlib.Core.Path.{_≡_, refl, sym, ap, subst, _∙_}
+use mathlib.Core.Path.{_≡_, refl, sym, subst, _∙_}
 use mathlib.Core.Logic.{_⊎_, inl, inr, ⊎-elim}
-use mathlib.Core.Bool.{Bool, true, false, _&&_, _||_, cond, true≢false}
+use mathlib.Core.Bool.{Bool, true, false, _&&_, cond}
 use mathlib.Core.List.{List, [], _∷_, _++_}
 use mathlib.Core.Option.{Option, none, some}
-use Prim.Native.Nat.{ℕ, zero, suc, _+_, _<_, _≤_}
+use Prim.Native.Nat.{ℕ, suc, _+_, _<_, _≤_}
 use native.Mathlib.Omega.{arith}
-use borrow.Author.Tests.{eqb-true}
 use lib.Dec.{eqb}
 use Rattle.paper.specs.declared.Kind.{Kind}
 use Rattle.paper.specs.declared.Role.{Role}
@@ -15,12 +14,11 @@ use Rattle.paper.specs.declared.Role.the-variants.{Member}
 use Rattle.paper.specs.Answer.{find, or-else, same, among}
 use Rattle.paper.specs.Forest.{Forest, empty, node, size, mapped}
 use Rattle.paper.specs.Field.{Field, first, after}
-use Rattle.paper.specs.Rows.{Row, Start, top, row, below, beside, rows, entered, skipped, late, dotted}
-use Rattle.laws.proofs.Basics.{none≢some, some-is, neither}
+use Rattle.paper.specs.Rows.{Row, Start, row, below, beside, rows, entered, skipped, late, dotted}
+use Rattle.laws.proofs.Basics.{none≢some, some-is, neither, or-none, cond-none}
 use Rattle.laws.proofs.Preorder.{size-mapped}
 use Rattle.names.proofs.Walks.{Numbered}
 use Rattle.lookup.specs.Seek.{strip, then-strip, left-is, inside, own, seek-in}
-use Rattle.lookup.proofs.Fitting.{under-is}
 use Rattle.lookup.proofs.Seeking.{seek-nothing}
 
 -- ---- lists that are searched
@@ -119,21 +117,13 @@ module _ (fld : ℕ → Field) where
         go true h = h
         go false h = refl
 
-    or-none-parts : {A : Type 0} (u v : Option A) → or-else u v ≡ none → (u ≡ none) × (v ≡ none)
-    or-none-parts none v e = (refl, e)
-    or-none-parts (some a) v e = absurd (none≢some (sym e))
-
-    cond-none-parts : {A : Type 0} (b : Bool) (a : A) (o : Option A) → cond b (some a) o ≡ none → (b ≡ false) × (o ≡ none)
-    cond-none-parts false a o e = (refl, e)
-    cond-none-parts true a o e = absurd (none≢some (sym e))
-
     pub dotless : (f : Forest ℕ) (s : Start) → among 46 x ≡ false → s .full ≡ [] → find (λ r. same (r .full) x) (rows s (mapped fld f)) ≡ none → seek-in (λ k. fld k .name) (λ k. fld k .kind) Member (some x) none f ≡ none
     unfolding rows mapped seek-in
     dotless empty s d e h = refl
     dotless (node k f g) s d e h =
         let deeper = rows (below s (fld k)) (mapped fld f) ++ rows (beside s (mapped fld f)) (mapped fld g) in
-        let c = cond-none-parts (same (s .full ++ fld k .name) x) (row s (fld k) (mapped fld f)) (find (λ r. same (r .full) x) deeper) h in
-        let o = or-none-parts (find (λ r. same (r .full) x) (rows (below s (fld k)) (mapped fld f))) (find (λ r. same (r .full) x) (rows (beside s (mapped fld f)) (mapped fld g))) (sym (find-append (λ r. same (r .full) x) (rows (below s (fld k)) (mapped fld f)) (rows (beside s (mapped fld f)) (mapped fld g))) ∙ c .1) in
+        let c = cond-none (same (s .full ++ fld k .name) x) (row s (fld k) (mapped fld f)) (find (λ r. same (r .full) x) deeper) h in
+        let o = or-none (find (λ r. same (r .full) x) (rows (below s (fld k)) (mapped fld f))) (find (λ r. same (r .full) x) (rows (beside s (mapped fld f)) (mapped fld g))) (sym (find-append (λ r. same (r .full) x) (rows (below s (fld k)) (mapped fld f)) (rows (beside s (mapped fld f)) (mapped fld g))) ∙ c .1) in
         let own-not : same (fld k .name) x ≡ false = rw e at (c .0) in
         rw (undotted (fld k .name) x d, seek-nothing (λ k. fld k .name) (λ k. fld k .kind) f (first (fld k .kind)) none, own-not)
         (dotless g (beside s (mapped fld f)) d e (o .1))

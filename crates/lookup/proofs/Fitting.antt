@@ -1,20 +1,20 @@
 -- A name against what is left of the asked name: it is that, or it and a dot begin it. `search fitting`, `search small`.
-use mathlib.Core.Path.{_≡_, refl, sym, ap, _∙_}
-use mathlib.Core.Bool.{Bool, true, false, _&&_, not, cond}
+use mathlib.Core.Path.{_≡_, refl, sym, _∙_}
+use mathlib.Core.Bool.{Bool, true, false, _&&_, cond}
 use mathlib.Core.List.{List, [], _∷_, _++_}
-use mathlib.Core.Option.{Option, none, some}
+use mathlib.Core.Option.{none, some}
 use Prim.Native.Nat.{ℕ, zero, suc, _+_, _-_, _<_, _≤_}
 use native.Mathlib.Numerals.{add-one, sub-one}
 use native.Mathlib.Omega.{arith}
-use borrow.Author.Tests.{eqb-true, eq-eqb, ne-eqb, lt-ltb, le-ltb}
-use lib.Dec.{eqb, ltb}
+use borrow.Author.Tests.{eq-eqb, ne-eqb, lt-ltb, le-ltb}
+use lib.Dec.{eqb}
 use lib.ListN.{length, getD, drop, length-drop, drop-of-length-le}
 use lib.Seq.{drop-cons, drop-drop}
 use Rattle.paper.specs.Answer.{same, or-else}
+use Rattle.laws.proofs.Finding.{eqb-flip}
 use Rattle.chain.specs.Chain.{pick}
-use Rattle.lookup.specs.declared.Sighting.{Sighting}
 use Rattle.lookup.specs.declared.Sighting.the-variants.{Found, Past}
-use Rattle.lookup.specs.Seek.{strip, then-strip, left-is, left-at, fits, inside, own, seen, outcome}
+use Rattle.lookup.specs.Seek.{strip, left-at, fits, inside, own, seen, outcome}
 
 -- ---- the loop: i bytes of the name and of x from pos on are equal
 
@@ -49,13 +49,6 @@ module _ (nm x : List ℕ) (pos : ℕ) where
 
 -- ---- what it says
 
-pub eqb-sym : (a b : ℕ) → eqb a b ≡ eqb b a
-eqb-sym a b = go (eqb b a) refl
-  where
-    go : (t : Bool) → eqb b a ≡ t → eqb a b ≡ eqb b a
-    go true e = eq-eqb a b (sym (eqb-true b a e)) ∙ sym e
-    go false e = ne-eqb a b (λ z. let q : _≡_ {A = Bool} true false = sym (eq-eqb b a (sym z)) ∙ e in let w : _≡_ {A = ℕ} 0 1 = cc in omega arith) ∙ sym e
-
 pub whole-is : (p y : List ℕ) → same p y ≡ eqb (fits p y) 1
 unfolding fits
 whole-is [] [] = refl
@@ -74,7 +67,7 @@ whole-is (a ∷ p) (b ∷ y) = go (eqb a b) (whole-is p y)
 pub under-is : (p y : List ℕ) → strip (p ++ (46 ∷ [])) y ≡ cond (eqb (fits p y) 2) (some (drop (suc (length p)) y)) none
 unfolding fits
 under-is [] [] = refl
-under-is [] (b ∷ y) = rw (eqb-sym 46 b) (go (eqb b 46))
+under-is [] (b ∷ y) = rw (eqb-flip 46 b) (go (eqb b 46))
   where
     go : (t : Bool) → cond t (some y) none ≡ cond (eqb (cond t 2 0) 2) (some y) none
     go true = refl

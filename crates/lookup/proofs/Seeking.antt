@@ -1,9 +1,9 @@
 -- The walk that looks for a short name: each turn of the loop over siblings leaves what is to be answered to the rest of the row.
 use mathlib.Core.Path.{_≡_, refl, sym, ap, _∙_}
 use mathlib.Core.Bool.{Bool, true, false, not, _&&_, cond}
-use mathlib.Core.List.{List, [], _∷_}
+use mathlib.Core.List.{List}
 use mathlib.Core.Option.{Option, none, some}
-use Prim.Native.Nat.{ℕ, zero, suc, _+_, _-_, _<_, _≤_}
+use Prim.Native.Nat.{ℕ, _+_, _-_, _<_, _≤_}
 use native.Mathlib.Numerals.{add-one}
 use native.Mathlib.Omega.{arith}
 use borrow.Author.Tests.{ltb-true, ltb-false}
@@ -16,6 +16,7 @@ use Rattle.paper.specs.Forest.{Forest, empty, node}
 use Rattle.paper.specs.Field.{first, after}
 use Rattle.paper.specs.Layout.{Part, nothing, before}
 use Rattle.paper.specs.Rows.{skipped, late}
+use Rattle.laws.proofs.Basics.{or-else-none}
 use Rattle.chain.specs.Chain.{pick}
 use Rattle.names.specs.Walk.{walk}
 use Rattle.names.proofs.Walks.{walk-none, walk-deep, walk-past, walk-in}
@@ -23,10 +24,6 @@ use Rattle.lookup.specs.declared.Sighting.{Sighting}
 use Rattle.lookup.specs.declared.Sighting.the-variants.{Found, Past}
 use Rattle.lookup.specs.Seek.{left-at, inside, fits, own, seek-in, seen, outcome, sighting}
 use Rattle.lookup.proofs.Fitting.{own-is, left-out}
-
-or-none : {A : Type 0} (o : Option A) → or-else o none ≡ o
-or-none none = refl
-or-none (some a) = refl
 
 pub past-is : (o : Option ℕ) (m j : ℕ) → Past j ≡ outcome o m → (o ≡ none) × (j ≡ m)
 unfolding outcome
@@ -44,7 +41,7 @@ module _ (name : ℕ → List ℕ) (kind : ℕ → Kind) where
   unfolding seek-in
   seek-nothing empty role wait = refl
   seek-nothing (node k f g) role wait =
-      rw (in-nothing (skipped role (kind k)), seek-nothing f (first (kind k)) none, or-none wait, seek-nothing g (after role) wait) (both (late role))
+      rw (in-nothing (skipped role (kind k)), seek-nothing f (first (kind k)) none, or-else-none wait, seek-nothing g (after role) wait) (both (late role))
     where
       in-nothing : (b : Bool) → inside b none (name k) ≡ none
       in-nothing true = refl
@@ -165,6 +162,3 @@ module _ (name : ℕ → List ℕ) (kind : ℕ → Kind) (kids : ℕ → ℕ) (x
           go : (b : Bool) → b ≡ late role → (not b && ltb 0 me) ≡ false → seen v ≡ cond b (or-else (seen wait) (seen me)) (seen wait) → W ≡ sighting name kind nr (left-at x pos) (seen v) (walk kids n lv (c - 1) j)
           go true f h y = eW ∙ sym (seek-waits j v nr e (sym f) en y)
           go false f h y = eW ∙ sym (ap (λ o. sighting name kind nr (left-at x pos) o (walk kids n lv (c - 1) j)) y ∙ seek-on j nr e (sym f) (ltb-false 0 me h) en)
-
-pub level-falls : (lv t : ℕ) → lv ≡ t → (lv ≡ 0 → ⊥) → lv - 1 < t
-level-falls lv t e h = omega arith

@@ -3,11 +3,10 @@ use mathlib.Core.Path.{_≡_, refl, sym, ap, _∙_}
 use mathlib.Core.Bool.{true}
 use mathlib.Core.Logic.{⊎-elim}
 use Prim.Native.Nat.{ℕ, zero, suc, _+_, _-_, _<_, _≤_}
-use native.Mathlib.Nat.{add-zero}
 use native.Mathlib.Numerals.{add-one, sub-one}
 use native.Mathlib.Omega.{arith}
 use borrow.Author.Tests.{lt-ltb, le-ltb}
-use Rattle.paper.specs.Answer.{Answer, ok, refused}
+use Rattle.paper.specs.Answer.{ok}
 use Rattle.paper.specs.Forest.{Forest, empty, node, size}
 use Rattle.paper.specs.Layout.{Part, nothing, before, row, roots}
 use Rattle.tree.specs.Read.{got, fine}
@@ -15,6 +14,7 @@ use Rattle.tree.proofs.Reading.{row-none, row-deep}
 use Rattle.laws.proofs.Basics.{refused≢ok, unbind, ok-is}
 use Rattle.tree.proofs.Filled.{lt-or-le, row-parts, full}
 use Rattle.tree.proofs.Roots.{roots-past, roots-in}
+use Rattle.tree.proofs.Steps.{fine-got}
 use Rattle.names.specs.Walk.{walk-with, walk, trees-of}
 
 module _ (kids : ℕ → ℕ) (n : ℕ) where
@@ -132,10 +132,6 @@ module _ (li : ℕ) (kids : ℕ → ℕ) (n : ℕ) where
       walk-in kids n 16 c k (kids k) (λ z. omega arith) (λ z. omega arith) l refl ∙ rw (wa, wb) (ok-is e₂))
       (λ l. walk-past kids n 16 c k l ∙ ok-is (sym (roots-past li kids n (suc f) k l) ∙ e))
       (lt-or-le k n)
-
-  fine-got : (x : Answer Part) → fine x ≡ true → x ≡ ok (got x)
-  fine-got (ok p) e = refl
-  fine-got (refused a b c) e = absurd (let z : _≡_ {A = ℕ} 0 1 = cc in omega arith)
 
   -- The roots that are read are all that is walked.
   pub roots-are : fine (roots li kids n n 0) ≡ true → got (roots li kids n n 0) .trees ≡ trees-of kids n

@@ -1,11 +1,11 @@
 -- The records of a plan that reads, in its order: they stand at the places 0, 1, 2 and so on.
 use Prim.Native.Nat.{ℕ, zero, suc, _+_, _<_, _≤_}
 use mathlib.Core.Path.{_≡_, refl, sym, ap, _∙_}
-use mathlib.Core.Bool.{true, true≢false}
+use mathlib.Core.Bool.{true}
 use mathlib.Core.List.{List, map}
 use native.Mathlib.Omega.{arith}
 use lib.ListN.{length, getD, length-append}
-use Rattle.paper.specs.Answer.{Answer, ok, refused}
+use Rattle.paper.specs.Answer.{ok}
 use Rattle.paper.specs.Forest.{size, siblings, levels, preorder, counts, mapped}
 use Rattle.paper.specs.Field.{Field}
 use Rattle.paper.specs.Sound.{name-bytes}
@@ -21,6 +21,7 @@ use Rattle.laws.proofs.Preorder.{preorder-mapped, counts-mapped}
 use Rattle.tree.specs.Read.{got, fine, itself}
 use Rattle.tree.proofs.Filled.{Full, full}
 use Rattle.tree.proofs.Roots.{roots-row}
+use Rattle.tree.proofs.Steps.{fine-got}
 use Rattle.plan.specs.Plan.{Lent, Source, planned-field, source-field, source-in, kids-in, plan-slots, plan-tree, plan-fields}
 use Rattle.plan.specs.Sources.{source-len}
 use Rattle.plan.specs.Draft.{Draft}
@@ -33,17 +34,13 @@ field-in l xs is i = planned-field l (source-in xs is i)
 abbrev pub len-in : (base added slots : List ℕ) → ℕ → ℕ
 len-in base added xs i = source-len base added (getD xs i 0)
 
-fine-ok : (x : Answer Part) → fine x ≡ true → x ≡ ok (got x)
-fine-ok (ok p) e = refl
-fine-ok (refused n l k) e = absurd (true≢false (sym e))
-
 module _ (ks : List ℕ) (m : ℕ) (h : fine (roots 4 (kids-in ks) m m 0) ≡ true) where
   p : Part
   p = got (roots 4 (kids-in ks) m m 0)
 
   read : roots 4 (kids-in ks) m m 0 ≡ ok p
   unfolding p
-  read = fine-ok (roots 4 (kids-in ks) m m 0) h
+  read = fine-got (roots 4 (kids-in ks) m m 0) h
 
   end : p .next ≡ m
   end = roots-row 4 (kids-in ks) m m 0 p (omega arith) (omega arith) read .1

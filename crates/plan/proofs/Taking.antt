@@ -54,7 +54,7 @@ pub ruleset taking = (take-starts, take-goes, take-ends)
 
 -- ---- sources that decoded
 
-decoded-named : (list : ℕ) (s pool : List ℕ) (t : Forest Field) → decode list s pool ≡ ok t → (j : ℕ) → j < slots s → in-pool (length pool) s j ≡ true
+pub decoded-named : (list : ℕ) (s pool : List ℕ) (t : Forest Field) → decode list s pool ≡ ok t → (j : ℕ) → j < slots s → in-pool (length pool) s j ≡ true
 unfolding decode
 decoded-named list s pool t e j b =
     unbind _ _ e λ _ e₁ a₁. unbind _ _ a₁ λ _ e₂ a₂.

@@ -10,8 +10,8 @@ use lib.Seq.{sets, length-sets, drop-cons, drop-length}
 use Rattle.paper.specs.Forest.{size, preorder, counts}
 use Rattle.paper.specs.Field.{Field}
 use Rattle.paper.specs.Bytes.{from}
-use Rattle.paper.specs.Encode.{row24, rec-bytes, encode-records, encode-names, record-bytes, pool-bytes}
-use Rattle.laws.proofs.Written.{length-records}
+use Rattle.paper.specs.Encode.{rec-bytes, encode-records, encode-names, record-bytes, pool-bytes}
+use Rattle.laws.proofs.Written.{length-records, row-length}
 use Rattle.laws.proofs.Runs.{sets-append, sets-front, from-step, from-done, from-all}
 use Rattle.plan.specs.Plan.{Lent, source-field, source-in, kids-in, plan-fields, Sits, Plan}
 use Rattle.plan.specs.Sources.{source-row, In, Written}
@@ -40,10 +40,6 @@ record-step f c at i n l = rw (from-step f i n l, from-step c i n l)
 name-step : (f : ℕ → Field) (i n : ℕ) → i < n → encode-names (from f i (n - i)) ≡ f i .name ++ encode-names (from f (i + 1) (n - (i + 1)))
 unfolding encode-names
 name-step f i n l = rw (from-step f i n l)
-
-row-length : (at : ℕ) (f : Field) (c : ℕ) → length (rec-bytes at f c) ≡ 24
-unfolding row24
-row-length at f c = refl
 
 -- What is left from place i on, with its names from offset `at` on, gives the whole.
 pub record Going (f : ℕ → Field) (c : ℕ → ℕ) (m : ℕ) (out₀ names₀ : List ℕ) (i at : ℕ) (out names : List ℕ) : Type 0 where

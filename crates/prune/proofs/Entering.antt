@@ -1,13 +1,12 @@
 -- The entry is 1 to 6, then 7 and 8, then the pruning: each step's answer is the paper's. `search entering`.
 use mathlib.Core.Path.{_≡_, refl, sym, ap, _∙_}
-use mathlib.Core.Bool.{Bool, true, false, not, _&&_, true≢false}
-use mathlib.Core.List.{List, [], _∷_}
-use mathlib.Core.Option.{Option, none, some}
-use Prim.Native.Nat.{ℕ, zero, suc, _+_, _*_, _/_, _≤_, _<_}
+use mathlib.Core.Bool.{Bool, true, false, not}
+use mathlib.Core.List.{List, []}
+use Prim.Native.Nat.{ℕ, zero, suc, _+_, _≤_, _<_}
 use native.Mathlib.Nat.{zero-add}
 use native.Mathlib.Omega.{arith}
-use borrow.Author.Tests.{not-true, not-false, leb-true}
-use lib.Dec.{eqb, leb}
+use borrow.Author.Tests.{not-true, not-false}
+use lib.Dec.{eqb}
 use lib.ListN.{length, getD, replicate, length-replicate}
 use lib.Seq.{sets, length-sets}
 use Rattle.record.specs.declared.Refusal.{Refusal}
@@ -16,65 +15,38 @@ use Rattle.record.specs.declared.Check.the-variants as check
 use Rattle.record.specs.declared.Changed.{Changed}
 use Rattle.record.specs.declared.Changed.the-variants as changed
 use Rattle.record.specs.Says.{refusal-of, checked, changes}
-use Rattle.paper.specs.declared.Role.the-variants.{Member}
-use Rattle.paper.specs.Answer.{Answer, ok, refused, _>>=_, fault, among, repeated}
+use Rattle.record.proofs.Testing.{checked-ok, checked-refused, refused-as}
+use Rattle.paper.specs.Answer.{Answer, ok, _>>=_, repeated}
 use Rattle.paper.specs.Refusals.{roomy, limited}
 use Rattle.paper.specs.Forest.{Forest}
-use Rattle.paper.specs.Field.{Field, kind-of}
-use Rattle.paper.specs.Bytes.{turned, field-at, slots, from}
+use Rattle.paper.specs.Field.{Field}
+use Rattle.paper.specs.Bytes.{field-at, slots, from}
 use Rattle.paper.specs.Lists.{id-list}
 use Rattle.paper.specs.Decode.{decode}
 use Rattle.paper.specs.Limits.{room, sized, sized-ids}
-use Rattle.paper.specs.Limits as limits
-use Rattle.paper.specs.Prune.{is-chosen, pruned, prune}
+use Rattle.paper.specs.Prune.{is-chosen, prune}
 use Rattle.paper.specs.Sound.{ids, sound}
 use Rattle.paper.specs.Entries.{Result, prune-entry}
 use Rattle.paper.specs.Outcome.{out-records, out-names, leaves}
-use Rattle.laws.proofs.Basics.{unbind, fault-ok}
-use Rattle.laws.proofs.RoundTrip.{both}
-use Rattle.laws.proofs.Fitting.{sized-slots}
+use Rattle.laws.proofs.Basics.{unbind, fault-ok, bind-assoc, bind-not}
+use Rattle.laws.proofs.Fitting.{sized-slots, ids-sized, rooms-of}
 use Rattle.laws.proofs.Runs.{getD-sets, length-from}
 use Rattle.limits.proofs.Within.{ids-tree}
 use Rattle.tree.specs.declared.Shaped.{Shaped}
 use Rattle.tree.specs.declared.Shaped.the-variants as shaped
-use Rattle.tree.specs.Read.{fine}
 use Rattle.tree.specs.Says.{decoded}
-use Rattle.plan.specs.Sources.{id-bits, Taken}
-use Rattle.chain.specs.Chain.{Chained}
-use Rattle.chain.specs.Ids.{id-in, ids-in, id-bucket}
+use Rattle.tree.proofs.Deciding.{decode-ok, decode-refused}
+use Rattle.plan.specs.Sources.{id-bits}
 use Rattle.prune_columns.specs.Projected.{marked}
-use Rattle.chosen.specs.Marks.{Unmarked, Distinct-ids, Marks}
+use Rattle.chosen.specs.Marks.{Unmarked, Marks}
 use Rattle.pruned.specs.Pruned as whole
-use Rattle.pruned.specs.Pruned.{Ready, the-result, pruning, Agrees}
+use Rattle.pruned.specs.Pruned.{the-result, pruning, Agrees}
 use Rattle.based.specs.Based.{Readable, BaseIndexed}
 use Rattle.prune.specs.Pruning.{entered, Entered, Choosable, Chosen, Prunes}
 
 -- An array of zeros.
 abbrev zeroed : ℕ → List ℕ
 zeroed n = replicate {A = ℕ} n 0
-
-bind-assoc : {A B C : Type 0} (x : Answer A) (f : A → Answer B) (g : B → Answer C) → ((x >>= f) >>= g) ≡ (x >>= λ a. f a >>= g)
-unfolding _>>=_
-bind-assoc (ok a) f g = refl
-bind-assoc (refused n l q) f g = refl
-
-refused-checked : (P : Type 0) (x : Answer (Unit {0})) (r : Check) (y : Refusal) → r ≡ checked x → r ≡ check.Refused y → ((n l q : ℕ) → x ≡ refused n l q → y ≡ refusal-of n l q → P) → P
-unfolding checked
-refused-checked P (ok u) r y e d f = let z : _≡_ {A = ℕ} 0 1 = cc in absurd (omega arith)
-refused-checked P (refused n l q) r y e d f = f n l q refl cc
-
-fine-checked : (P : Type 0) (x : Answer (Unit {0})) (r : Check) → r ≡ checked x → r ≡ check.Fine → (x ≡ ok tt → P) → P
-unfolding checked
-fine-checked P (ok u) r e d f = f refl
-fine-checked P (refused n l q) r e d f = let z : _≡_ {A = ℕ} 0 1 = cc in absurd (omega arith)
-
-ids-sized : (most : ℕ) (s p i : List ℕ) → sized-ids most s p i ≡ true → sized s p ≡ true
-unfolding sized-ids
-ids-sized most s p i e = both (sized s p) (limits.whole 4 most i) e .0
-
-rooms-of : (lr ln : ℕ) → room lr ln ≡ true → (24576 ≤ lr) × (32768 ≤ ln)
-unfolding room
-rooms-of lr ln e = let a = both (leb 24576 lr) (leb 32768 ln) e in (leb-true 24576 lr (a .0), leb-true 32768 ln (a .1))
 
 getD-from : (g : ℕ → ℕ) (k m j : ℕ) → j < m → getD (from g k m) j 0 ≡ g (k + j)
 unfolding from
@@ -126,21 +98,11 @@ module _ (s p sel : List ℕ) (lr ln : ℕ) where
       go true false ea eb = absurd (no (rw (ea, eb) at (h .roots)))
       go true true ea eb = record { rooms = ea; limits = eb; roots = rw (ea, eb) at (h .roots) }
 
-  was-ok : (P : Type 0) (x : Answer (Forest Field)) (c : ℕ) → shaped.Roots c ≡ decoded x → ((t : Forest Field) → x ≡ ok t → P) → P
-  unfolding decoded
-  was-ok P (ok t) c e f = f t refl
-  was-ok P (refused n l q) c e f = let z : _≡_ {A = ℕ} 0 1 = cc in absurd (omega arith)
-
-  was-refused : (P : Type 0) (x : Answer (Forest Field)) (w : Shaped) (y : Refusal) → w ≡ decoded x → w ≡ shaped.Refused y → ((n l q : ℕ) → x ≡ refused n l q → y ≡ refusal-of n l q → P) → P
-  unfolding decoded
-  was-refused P (ok t) w y e d f = let z : _≡_ {A = ℕ} 0 1 = cc in absurd (omega arith)
-  was-refused P (refused n l q) w y e d f = f n l q refl cc
-
   pub base-readable : (c : ℕ) → Entered s p sel c lr ln → (k : ℕ) (zs : List ℕ) → zs ≡ [] → length (zeroed k) ≡ 1024 → Readable s p zs (zeroed k) (zeroed k) (zeroed k) (zeroed k) (zeroed k)
   base-readable c h k zs ez ek =
       record {
         limits = ids-sized 1024 s p sel (passed c h .limits);
-        decodes = was-ok _ (decode 0 s p) c (passed c h .roots) λ t e. rw e;
+        decodes = decode-ok _ (decode 0 s p) (shaped.Roots c) c (passed c h .roots) refl λ t e _. rw e;
         few = rw ez (omega arith);
         slots-room = ek;
         ids-room = ek;
@@ -166,23 +128,22 @@ module _ (s p sel : List ℕ) (lr ln : ℕ) where
       answers : (x : Answer Result) (r : Changed) (out′ text′ : List ℕ) → prune-entry s p sel full lr ln ≡ x → r ≡ changes x → out′ ≡ leaves out-records x out → text′ ≡ leaves out-names x text → Prunes s p sel full out text r out′ text′
       answers x r out′ text′ e a b c = record { answer = rw (← el, ← en, e) a; records = rw (← el, ← en, e) b; names = rw (← el, ← en, e) c }
 
-      refuses : (n l q : ℕ) (y : Refusal) → prune-entry s p sel full lr ln ≡ refused n l q → y ≡ refusal-of n l q → Prunes s p sel full out text (changed.Refused y) out text
+      refuses : (y : Refusal) → prune-entry s p sel full lr ln ≡ refused-as y → Prunes s p sel full out text (changed.Refused y) out text
       unfolding changes leaves
-      refuses n l q y e d = answers (refused n l q) (changed.Refused y) out text e (rw d) refl refl
+      refuses y e = answers (refused-as y) (changed.Refused y) out text e refl refl refl
 
       pub go-6 : (c : ℕ) (w : Shaped) → w ≡ decoded (entered s p sel lr ln) → w ≡ shaped.Roots c → Entered s p sel c (length out) (length text)
       go-6 c w e d = rw (← el, ← en) (record { roots = sym d ∙ e })
 
       pub stop-6 : (w : Shaped) (y : Refusal) → w ≡ decoded (entered s p sel lr ln) → w ≡ shaped.Refused y → Prunes s p sel full out text (changed.Refused y) out text
-      unfolding _>>=_
-      stop-6 w y e d = was-refused _ (entered s p sel lr ln) w y e d λ n l q eq ey. refuses n l q y (entry-is ∙ rw eq) ey
+      stop-6 w y e d = refuses y (entry-is ∙ bind-not (entered s p sel lr ln) after-6 _ _ _ (decode-refused (entered s p sel lr ln) w y e d))
 
       module _ (c : ℕ) (h : Entered s p sel c lr ln) where
         tree-of : (P : Type 0) → ((t : Forest Field) → decode 0 s p ≡ ok t → prune-entry s p sel full lr ln ≡ after-6 t → P) → P
         unfolding entered _>>=_
         tree-of P f =
             let a = passed c h in
-            was-ok P (decode 0 s p) c (a .roots) λ t e. f t e (entry-is ∙ rw (a .rooms, a .limits, e))
+            decode-ok P (decode 0 s p) (shaped.Roots c) c (a .roots) refl λ t e _. f t e (entry-is ∙ rw (a .rooms, a .limits, e))
 
         base-limits : sized s p ≡ true
         base-limits = ids-sized 1024 s p sel (passed c h .limits)
@@ -197,7 +158,7 @@ module _ (s p sel : List ℕ) (lr ln : ℕ) where
 
           pub stop-8 : (y : Refusal) → r ≡ check.Refused y → Prunes s p sel full out text (changed.Refused y) out text
           unfolding after-6 prune _>>=_
-          stop-8 y d = tree-of _ λ t e q. refused-checked _ (sound 0 t []) r y (sound-is t e) d λ n l j eq ey. refuses n l j y (q ∙ rw eq) ey
+          stop-8 y d = tree-of _ λ t e q. refuses y (q ∙ rw (checked-refused (sound 0 t []) r y (sound-is t e) d))
 
           sound-pruning : (t : Forest Field) → decode 0 s p ≡ ok t → sound 0 t [] ≡ ok tt → after-6 t ≡ pruning s p (is-chosen (id-list sel)) full
           unfolding after-6 prune pruning _>>=_
@@ -223,7 +184,7 @@ module _ (s p sel : List ℕ) (lr ln : ℕ) where
                     names-room = omega arith;
                   };
                   chained = b .chained d;
-                  distinct = tree-of _ λ t e _. fine-checked _ (sound 0 t []) r (sound-is t e) d λ f. unbind _ _ f λ _ e₁ _. record { tested = rw (← (b .order t e)) (fault-ok 7 0 (repeated eqb [] 0 (ids t)) e₁) };
+                  distinct = tree-of _ λ t e _. unbind _ _ (checked-ok (sound 0 t []) r (sound-is t e) d) λ _ e₁ _. record { tested = rw (← (b .order t e)) (fault-ok 7 0 (repeated eqb [] 0 (ids t)) e₁) };
                   own-ids = λ j l. own-at s is is′ j (k .ids) li (sized-slots s p base-limits .0) l;
                 }
 
@@ -231,7 +192,7 @@ module _ (s p sel : List ℕ) (lr ln : ℕ) where
             all-chosen x out′ text′ v = answers (pruning s p (is-chosen (id-list sel)) full) x out′ text′ same (v .answer) (v .records) (v .names)
               where
                 same : prune-entry s p sel full lr ln ≡ pruning s p (is-chosen (id-list sel)) full
-                same = tree-of _ λ t e q. fine-checked _ (sound 0 t []) r (sound-is t e) d λ f. q ∙ sound-pruning t e f
+                same = tree-of _ λ t e q. q ∙ sound-pruning t e (checked-ok (sound 0 t []) r (sound-is t e) d)
 
 pub ruleset entering = (stop-1, stop-2, go-on, tree-asks, go-6, stop-6)
 

@@ -1,19 +1,14 @@
 -- A row that is read with some levels left is read the same with any number of them that it does not pass.
 use mathlib.Core.Path.{_≡_, refl, sym, ap, _∙_}
-use Prim.Native.Nat.{ℕ, zero, suc, _+_, _-_, _<_, _≤_, max}
-use native.Mathlib.Numerals.{add-one, sub-one}
+use Prim.Native.Nat.{ℕ, zero, suc, _+_, _-_, _<_, _≤_}
+use native.Mathlib.Numerals.{sub-one}
 use native.Mathlib.Omega.{arith}
-use Rattle.paper.specs.Answer.{Answer, ok, refused, _>>=_}
-use Rattle.paper.specs.Forest.{Forest, empty, node, levels}
+use Rattle.paper.specs.Answer.{ok}
+use Rattle.paper.specs.Forest.{node, levels}
 use Rattle.paper.specs.Layout.{Part, nothing, before, row}
-use Rattle.laws.proofs.Basics.{refused≢ok, ok-is}
+use Rattle.laws.proofs.Basics.{refused≢ok, ok-is, bind-is}
 use Rattle.tree.proofs.Reading.{row-none, row-deep, row-in}
 use Rattle.tree.proofs.Filled.{row-parts}
-
-bind-is : {A B : Type 0} (x : Answer A) (f : A → Answer B) (a : A) → x ≡ ok a → (x >>= f) ≡ f a
-unfolding _>>=_
-bind-is (ok b) f a e = ap f (ok-is e)
-bind-is (refused n l p) f a e = absurd (refused≢ok e)
 
 low-nothing : (lv k : ℕ) (p : Part) → nothing k ≡ p → levels (p .trees) ≤ lv
 unfolding levels

@@ -3,7 +3,7 @@ use mathlib.Core.Path.{_≡_}
 use mathlib.Core.List.{List}
 use Prim.Native.Nat.{ℕ, _<_}
 use native.Mathlib.Omega.{arith}
-use Rattle.paper.specs.Answer.{Answer, ok, refused, _>>=_}
+use Rattle.paper.specs.Answer.{Answer, refused, _>>=_}
 use Rattle.paper.specs.Sound.{sound}
 use Rattle.paper.specs.Lists.{id-list}
 use Rattle.paper.specs.Entries.{Result}
@@ -12,8 +12,8 @@ use Rattle.record.specs.declared.Refusal.{Refusal}
 use Rattle.record.specs.declared.Check.{Check}
 use Rattle.record.specs.declared.Check.the-variants as check
 use Rattle.record.specs.declared.Changed.the-variants as changed
-use Rattle.record.specs.Says.{refusal-of, checked, changes}
-use Rattle.record.proofs.Testing.{checked-ok}
+use Rattle.record.specs.Says.{changes}
+use Rattle.record.proofs.Testing.{checked-ok, checked-refused}
 use Rattle.laws.proofs.RoundTrip.{length-pool}
 use Rattle.plan.specs.Plan.{Lent, plan-fields, Plan}
 use Rattle.plan.specs.Sources.{Written}
@@ -26,16 +26,11 @@ pub refuses : (x : Answer Result) (y : Refusal) (out text : List ℕ) → x ≡ 
 unfolding changes leaves
 refuses x y out text e = record { answer = rw e; records = rw e; names = rw e }
 
-pub check-refused : (x : Answer (Unit {0})) (w : Check) (f : Refusal) → w ≡ checked x → w ≡ check.Refused f → x ≡ refused (f .number) (f .list) (f .place)
-unfolding checked
-check-refused (ok t) w f e q = cc
-check-refused (refused n l p) w f e q = let z : f ≡ refusal-of n l p = cc in rw z
-
 module _ (l : Lent) (xs is ks : List ℕ) (m : ℕ) (i : List ℕ) (last : ℕ) (out text : List ℕ) (p : Plan l xs is ks m) where
   module _ (c : Check) (h n us ls hs nh nn : List ℕ) (x : Indexing l xs is ks m 4 i c h n us ls hs nh nn) where
     pub sound-stops : (y : Refusal) → c ≡ check.Refused y → Answers (sounded (plan-fields l xs is ks m) (id-list i) last) out text (changed.Refused y) out text
     unfolding sounded _>>=_
-    sound-stops y d = refuses _ y out text (rw (check-refused (sound 4 (plan-fields l xs is ks m) (id-list i)) c y (x .answer) d))
+    sound-stops y d = refuses _ y out text (rw (checked-refused (sound 4 (plan-fields l xs is ks m) (id-list i)) c y (x .answer) d))
 
     module _ (used : ℕ) (out′ text′ : List ℕ) (w : Written (plan-fields l xs is ks m) out text used out′ text′) where
       pub sound-written : c ≡ check.Fine → Answers (sounded (plan-fields l xs is ks m) (id-list i) last) out text (changed.Done (record { records = m; names = used; «last_id» = last })) out′ text′

@@ -35,3 +35,8 @@ pub checked-ok : (x : Answer (Unit {0})) (a : Check) → a ≡ checked x → a �
 unfolding checked
 checked-ok (ok tt) a e d = refl
 checked-ok (refused n l p) a e d = let z : _≡_ {A = ℕ} 0 1 = cc in absurd (omega arith)
+
+pub checked-refused : (x : Answer (Unit {0})) (a : Check) (r : Refusal) → a ≡ checked x → a ≡ Refused r → x ≡ refused-as r
+unfolding checked
+checked-refused (ok u) a r e d = let z : _≡_ {A = ℕ} 0 1 = cc in absurd (omega arith)
+checked-refused (refused n l p) a r e d = cc

@@ -1,80 +1,54 @@
 -- The entry is 1 to 6, then 7 to 9, then 18, then the numbering: each step's answer is the paper's. `search entering`.
 use mathlib.Core.Path.{_≡_, refl, sym, ap, _∙_}
-use mathlib.Core.Bool.{Bool, true, false, not, _&&_, true≢false}
-use mathlib.Core.List.{List, [], _∷_, _++_, map}
-use mathlib.Core.Option.{Option, none, some}
-use Prim.Native.Nat.{ℕ, zero, suc, _+_, _-_, _*_, _/_, _%_, _≤_, _<_}
+use mathlib.Core.Bool.{Bool, true, false, not, _&&_}
+use mathlib.Core.List.{List, [], _∷_, map}
+use Prim.Native.Nat.{ℕ, _+_, _-_, _*_, _/_, _%_, _≤_, _<_}
 use native.Mathlib.Omega.{arith}
 use borrow.Author.Tests.{not-true, not-false, leb-true, lt-ltb, le-ltb}
 use lib.Dec.{eqb, leb, ltb}
-use lib.ListN.{length, drop, length-replicate, length-map}
-use lib.Seq.{sets}
+use lib.ListN.{length, length-replicate, length-map}
 use Rattle.record.specs.declared.Refusal.{Refusal}
 use Rattle.record.specs.declared.Check.{Check}
 use Rattle.record.specs.declared.Check.the-variants as check
 use Rattle.record.specs.declared.Changed.{Changed}
 use Rattle.record.specs.declared.Changed.the-variants as changed
-use Rattle.record.specs.Says.{refusal-of, checked, changes}
-use Rattle.paper.specs.Answer.{Answer, ok, refused, _>>=_, fault, among, place-of, repeated}
+use Rattle.record.specs.Says.{refusal-of, changes}
+use Rattle.record.proofs.Testing.{checked-ok, checked-refused, refused-as}
+use Rattle.paper.specs.Answer.{Answer, ok, _>>=_, among, place-of}
 use Rattle.paper.specs.Refusals.{roomy, limited}
 use Rattle.paper.specs.Forest.{Forest, size}
 use Rattle.paper.specs.Field.{Field, kind-of, with-id, highest}
-use Rattle.paper.specs.Bytes.{turned, field-at, slots, from}
+use Rattle.paper.specs.Bytes.{turned, field-at, slots}
 use Rattle.paper.specs.Lists.{id-at, id-list}
 use Rattle.paper.specs.Decode.{fields, decode}
 use Rattle.paper.specs.Encode.{id-bytes}
 use Rattle.paper.specs.Limits.{room, sized, sized-ids}
 use Rattle.paper.specs.Limits as limits
-use Rattle.paper.specs.Renumber.{numbered, renamed, renumber, Renumbered}
+use Rattle.paper.specs.Renumber.{numbered, renamed, renumber}
 use Rattle.paper.specs.Sound.{ids, sound}
 use Rattle.paper.specs.Entries.{Result, renumber-entry}
 use Rattle.paper.specs.Outcome.{out-records, out-names, out-identifiers, leaves}
-use Rattle.laws.proofs.Basics.{unbind, ok-is, fault-ok}
+use Rattle.laws.proofs.Basics.{unbind, ok-is, fault-ok, bind-assoc, bind-not}
 use Rattle.laws.proofs.RoundTrip.{both, length-pool}
-use Rattle.laws.proofs.Fitting.{sized-slots, size-mapped}
+use Rattle.laws.proofs.Fitting.{sized-slots, size-mapped, ids-sized, rooms-of}
 use Rattle.laws.proofs.Runs.{sets-front, length-from}
 use Rattle.limits.proofs.Within.{ids-tree}
 use Rattle.tree.specs.declared.Shaped.{Shaped}
 use Rattle.tree.specs.declared.Shaped.the-variants as shaped
-use Rattle.tree.specs.Read.{fine}
 use Rattle.tree.specs.Says.{decoded}
-use Rattle.plan.specs.Plan.{lent, plan-fields, Plan}
-use Rattle.plan.specs.Sources.{Taken, Written}
+use Rattle.tree.proofs.Deciding.{decode-ok, decode-refused}
+use Rattle.plan.specs.Plan.{lent}
 use Rattle.plan.proofs.Standing.{fields-size}
-use Rattle.chain.specs.Chain.{Chained}
-use Rattle.chain.specs.Ids.{id-in, ids-in, id-bucket}
+use Rattle.chain.specs.Ids.{ids-in}
 use Rattle.index.proofs.Rows.{plan-is}
 use Rattle.index.proofs.Looking.{ids-in-order}
 use Rattle.walk.specs.There.{row-of}
 use Rattle.walk.proofs.Opening.{Opened, opened}
 use Rattle.renumbered.specs.Renumbered as whole
-use Rattle.renumbered.specs.Renumbered.{zeroed, Ready, new-tree}
-use Rattle.identifiers.specs.Mapped.{Mappable, Mapped}
+use Rattle.renumbered.specs.Renumbered.{zeroed, new-tree}
+use Rattle.identifiers.specs.Mapped.{Mapped}
 use Rattle.based.specs.Based.{Readable, BaseIndexed}
 use Rattle.renumber.specs.Renumbering.{entered, Entered, Numberable, numbering, Numbered, Renumbers}
-
-bind-assoc : {A B C : Type 0} (x : Answer A) (f : A → Answer B) (g : B → Answer C) → ((x >>= f) >>= g) ≡ (x >>= λ a. f a >>= g)
-unfolding _>>=_
-bind-assoc (ok a) f g = refl
-bind-assoc (refused n l q) f g = refl
-
-refused-checked : (P : Type 0) (x : Answer (Unit {0})) (r : Check) (y : Refusal) → r ≡ checked x → r ≡ check.Refused y → ((n l q : ℕ) → x ≡ refused n l q → y ≡ refusal-of n l q → P) → P
-unfolding checked
-refused-checked P (ok u) r y e d f = let z : _≡_ {A = ℕ} 0 1 = cc in absurd (omega arith)
-refused-checked P (refused n l q) r y e d f = f n l q refl cc
-
-fine-checked : (P : Type 0) (x : Answer (Unit {0})) (r : Check) → r ≡ checked x → r ≡ check.Fine → (x ≡ ok tt → P) → P
-unfolding checked
-fine-checked P (ok u) r e d f = f refl
-fine-checked P (refused n l q) r e d f = let z : _≡_ {A = ℕ} 0 1 = cc in absurd (omega arith)
-
-ids-sized : (most : ℕ) (s p i : List ℕ) → sized-ids most s p i ≡ true → sized s p ≡ true
-unfolding sized-ids
-ids-sized most s p i e = both (sized s p) (limits.whole 4 most i) e .0
-
-rooms-of : (lr ln : ℕ) → room lr ln ≡ true → (24576 ≤ lr) × (32768 ≤ ln)
-unfolding room
-rooms-of lr ln e = let a = both (leb 24576 lr) (leb 32768 ln) e in (leb-true 24576 lr (a .0), leb-true 32768 ln (a .1))
 
 few-ids : (most : ℕ) (s p i : List ℕ) → sized-ids most s p i ≡ true → length i ≤ 4 * most
 unfolding sized-ids limits.whole
@@ -126,22 +100,12 @@ module _ (s p i : List ℕ) (lr ln li : ℕ) where
       go true false ea eb = absurd (no (rw (ea, eb) at (h .roots)))
       go true true ea eb = record { rooms = ea; limits = eb; roots = rw (ea, eb) at (h .roots) }
 
-  was-ok : (P : Type 0) (x : Answer (Forest Field)) (c : ℕ) → shaped.Roots c ≡ decoded x → ((t : Forest Field) → x ≡ ok t → P) → P
-  unfolding decoded
-  was-ok P (ok t) c e f = f t refl
-  was-ok P (refused n l q) c e f = let z : _≡_ {A = ℕ} 0 1 = cc in absurd (omega arith)
-
-  was-refused : (P : Type 0) (x : Answer (Forest Field)) (w : Shaped) (y : Refusal) → w ≡ decoded x → w ≡ shaped.Refused y → ((n l q : ℕ) → x ≡ refused n l q → y ≡ refusal-of n l q → P) → P
-  unfolding decoded
-  was-refused P (ok t) w y e d f = let z : _≡_ {A = ℕ} 0 1 = cc in absurd (omega arith)
-  was-refused P (refused n l q) w y e d f = f n l q refl cc
-
   pub base-readable : (c : ℕ) → Entered s p i c lr ln li → Readable s p i zeroed zeroed zeroed zeroed zeroed
   base-readable c h =
       let ek = length-replicate {A = ℕ} 1024 0 in
       record {
         limits = ids-sized 64 s p i (passed c h .limits);
-        decodes = was-ok _ (decode 0 s p) c (passed c h .roots) λ t e. rw e;
+        decodes = decode-ok _ (decode 0 s p) (shaped.Roots c) c (passed c h .roots) refl λ t e _. rw e;
         few = few-ids 64 s p i (passed c h .limits);
         slots-room = ek;
         ids-room = ek;
@@ -169,23 +133,22 @@ module _ (s p i : List ℕ) (lr ln li : ℕ) where
       answers : (x : Answer Result) (r : Changed) (out′ text′ numbers′ : List ℕ) → renumber-entry s p i start lr ln li ≡ x → r ≡ changes x → out′ ≡ leaves out-records x out → text′ ≡ leaves out-names x text → numbers′ ≡ leaves out-identifiers x numbers → Renumbers s p i start out text numbers r out′ text′ numbers′
       answers x r out′ text′ numbers′ e a b c d = record { answer = rw (← el, ← en, ← ei, e) a; records = rw (← el, ← en, ← ei, e) b; names = rw (← el, ← en, ← ei, e) c; identifiers = rw (← el, ← en, ← ei, e) d }
 
-      refuses : (n l q : ℕ) (y : Refusal) → renumber-entry s p i start lr ln li ≡ refused n l q → y ≡ refusal-of n l q → Renumbers s p i start out text numbers (changed.Refused y) out text numbers
+      refuses : (y : Refusal) → renumber-entry s p i start lr ln li ≡ refused-as y → Renumbers s p i start out text numbers (changed.Refused y) out text numbers
       unfolding changes leaves
-      refuses n l q y e d = answers (refused n l q) (changed.Refused y) out text numbers e (rw d) refl refl refl
+      refuses y e = answers (refused-as y) (changed.Refused y) out text numbers e refl refl refl refl
 
       pub go-6 : (c : ℕ) (w : Shaped) → w ≡ decoded (entered s p i lr ln li) → w ≡ shaped.Roots c → Entered s p i c (length out) (length text) (length numbers)
       go-6 c w e d = rw (← el, ← en, ← ei) (record { roots = sym d ∙ e })
 
       pub stop-6 : (w : Shaped) (y : Refusal) → w ≡ decoded (entered s p i lr ln li) → w ≡ shaped.Refused y → Renumbers s p i start out text numbers (changed.Refused y) out text numbers
-      unfolding _>>=_
-      stop-6 w y e d = was-refused _ (entered s p i lr ln li) w y e d λ n l q eq ey. refuses n l q y (entry-is ∙ rw eq) ey
+      stop-6 w y e d = refuses y (entry-is ∙ bind-not (entered s p i lr ln li) after-6 _ _ _ (decode-refused (entered s p i lr ln li) w y e d))
 
       module _ (c : ℕ) (h : Entered s p i c lr ln li) where
         tree-of : (P : Type 0) → ((t : Forest Field) → decode 0 s p ≡ ok t → renumber-entry s p i start lr ln li ≡ after-6 t → P) → P
         unfolding entered _>>=_
         tree-of P f =
             let a = passed c h in
-            was-ok P (decode 0 s p) c (a .roots) λ t e. f t e (entry-is ∙ rw (a .rooms, a .limits, e))
+            decode-ok P (decode 0 s p) (shaped.Roots c) c (a .roots) refl λ t e _. f t e (entry-is ∙ rw (a .rooms, a .limits, e))
 
         base-limits : sized s p ≡ true
         base-limits = ids-sized 64 s p i (passed c h .limits)
@@ -200,17 +163,18 @@ module _ (s p i : List ℕ) (lr ln li : ℕ) where
         module _ (r : Check) (xs is ks heads next : List ℕ) (b : BaseIndexed s p i zeroed zeroed zeroed r xs is ks heads next) where
           pub stop-9 : (y : Refusal) → r ≡ check.Refused y → Renumbers s p i start out text numbers (changed.Refused y) out text numbers
           unfolding after-6 renumber _>>=_
-          stop-9 y d = tree-of _ λ t e q. refused-checked _ (sound 0 t (id-list i)) r y (b .answer t e) d λ n l j eq ey. refuses n l j y (q ∙ rw eq) ey
+          stop-9 y d = tree-of _ λ t e q. refuses y (q ∙ rw (checked-refused (sound 0 t (id-list i)) r y (b .answer t e) d))
 
           module _ (d : r ≡ check.Fine) (first : ℕ) (ef : first ≡ turned start) where
             pub stop-18 : 4294967295 - slots s < first → Renumbers s p i start out text numbers (changed.Refused (refusal-of 18 0 0)) out text numbers
             unfolding after-6 renumber _>>=_
             stop-18 l =
                 let few = sized-slots s p base-limits .0 in
-                tree-of _ λ t e q. fine-checked _ (sound 0 t (id-list i)) r (b .answer t e) d λ f.
+                tree-of _ λ t e q.
+                let f = checked-ok (sound 0 t (id-list i)) r (b .answer t e) d in
                 let z = tree-size t e in
                 let w : ltb highest (turned start + size t) ≡ true = lt-ltb highest (turned start + size t) (omega arith) in
-                refuses 18 0 0 (refusal-of 18 0 0) (q ∙ rw (f, w)) refl
+                refuses (refusal-of 18 0 0) (q ∙ rw (f, w))
 
             module _ (l : first ≤ 4294967295 - slots s) where
               pub finish-asks : Numberable s p i c first xs is ks heads next out text numbers
@@ -228,7 +192,7 @@ module _ (s p i : List ℕ) (lr ln li : ℕ) where
                     mappable = record {
                       few = few;
                       chained = b .chained d;
-                      known = tree-of _ λ t e _. fine-checked _ (sound 0 t (id-list i)) r (b .answer t e) d λ f. unbind _ _ f λ _ e₁ a₁. unbind _ _ a₁ λ _ e₂ a₂. rw (← (b .order t e)) (fault-ok 9 5 (place-of (λ j. not (among j (ids t))) 0 (id-list i)) a₂);
+                      known = tree-of _ λ t e _. unbind _ _ (checked-ok (sound 0 t (id-list i)) r (b .answer t e) d) λ _ e₁ a₁. unbind _ _ a₁ λ _ e₂ a₂. rw (← (b .order t e)) (fault-ok 9 5 (place-of (λ j. not (among j (ids t))) 0 (id-list i)) a₂);
                       room = omega arith;
                     };
                     order = b .order;
@@ -239,7 +203,8 @@ module _ (s p i : List ℕ) (lr ln li : ℕ) where
               all-numbered x out′ text′ numbers′ v =
                   let few = sized-slots s p base-limits .0 in
                   let same : renumber-entry s p i start lr ln li ≡ numbering s p i first
-                  = tree-of _ λ t e q. fine-checked _ (sound 0 t (id-list i)) r (b .answer t e) d λ f.
+                  = tree-of _ λ t e q.
+                  let f = checked-ok (sound 0 t (id-list i)) r (b .answer t e) d in
                   let z = tree-size t e in
                   let w : ltb highest (turned start + size t) ≡ false = le-ltb highest (turned start + size t) (omega arith) in
                   q ∙ rw (f, w, e, ef) in

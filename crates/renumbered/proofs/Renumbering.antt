@@ -1,19 +1,18 @@
 -- The new ids, read back through the plan, are the paper's numbers: a plan of the same shape with other ids. `search renumbering`.
 use mathlib.Core.Path.{_≡_, refl, sym, ap, _∙_}
 use mathlib.Core.Bool.{Bool, true, false, cond}
-use mathlib.Core.List.{List, [], _∷_, _++_, map}
-use Prim.Native.Nat.{ℕ, zero, suc, _+_, _-_, _*_, _≤_, _<_, max}
-use native.Mathlib.Nat.{zero-add}
+use mathlib.Core.List.{List, map}
+use Prim.Native.Nat.{ℕ, suc, _+_, _≤_, _<_}
 use native.Mathlib.Omega.{arith}
 use borrow.Author.Tests.{lt-ltb}
-use lib.ListN.{length, replicate, length-replicate}
+use lib.ListN.{length-replicate}
 use lib.Seq.{sets}
 use Rattle.paper.specs.declared.Kind.{Kind}
 use Rattle.paper.specs.Forest.{Forest, empty, node, size, siblings, levels, mapped, preorder, counts}
 use Rattle.paper.specs.Field.{Field, kind-of, with-id, is-map}
 use Rattle.paper.specs.Sound.{name-bytes}
-use Rattle.paper.specs.Bytes.{turned, field-at, kind-at, kids-at, slots, from}
-use Rattle.paper.specs.Decode.{fields, decode}
+use Rattle.paper.specs.Bytes.{field-at, kind-at, kids-at, slots, from}
+use Rattle.paper.specs.Decode.{fields}
 use Rattle.paper.specs.Renumber.{inside-first, level, numbered}
 use Rattle.laws.proofs.Fitting.{size-mapped, siblings-mapped}
 use Rattle.laws.proofs.Runs.{map-append}
@@ -21,13 +20,12 @@ use Rattle.laws.proofs.Taken as taken
 use Rattle.laws.proofs.Words.{turned-twice}
 use Rattle.laws.proofs.Written.{siblings-size}
 use Rattle.tree.specs.Read.{itself}
-use Rattle.tree.proofs.Filled.{Full}
-use Rattle.plan.specs.Plan.{Lent, lent, Source, slot-of, bits-of, planned-field, source-field, plan-fields, Sits, Plan, Laid}
+use Rattle.plan.specs.Plan.{Lent, lent, Source, slot-of, planned-field, source-field, plan-fields, Sits, Plan, Laid}
 use Rattle.plan.specs.Draft.{Drawn}
 use Rattle.plan.specs.Sources.{Written}
 use Rattle.plan.proofs.Laying.{laid-fields, laid-draft, draft-plan}
 use Rattle.plan.proofs.Taking.{base-sits}
-use Rattle.walk.specs.There.{row-of, There}
+use Rattle.walk.specs.There.{row-of}
 use Rattle.walk.proofs.Standing.{there-full}
 use Rattle.walk.proofs.Opening.{Opened, opened}
 use Rattle.id_reassigner.specs.declared.Reassigned.{Reassigned}
@@ -134,7 +132,7 @@ module _ (s p : List ℕ) (c first : ℕ) (xs is ks out text : List ℕ) (h : Re
       let o = open-tree in
       let a = o .all in
       let n = h .numbers in
-      record { few = o .there .few; within = omega arith; read = o .there .read; numbers = omega arith }
+      record { there = o .there; numbers = omega arith }
 
   module _ (r : Reassigned) (is′ : List ℕ) (g : Given s false 16 c 0 is first r is′) where
     laid : Laid planned 0 zeroed is zeroed xs is′ ks

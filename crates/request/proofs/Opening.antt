@@ -4,55 +4,27 @@ use mathlib.Core.Path.{_≡_, refl, sym, ap, _∙_}
 use mathlib.Core.Bool.{Bool, true, false, not}
 use mathlib.Core.List.{List}
 use native.Mathlib.Omega.{arith}
-use lib.ListN.{length}
 use Rattle.paper.specs.Answer.{Answer, ok, refused, _>>=_}
-use Rattle.paper.specs.Forest.{Forest, siblings}
+use Rattle.paper.specs.Forest.{Forest}
 use Rattle.paper.specs.Field.{Field}
 use Rattle.paper.specs.Lists.{ok-deletion, ok-addition, entries-ok}
 use Rattle.paper.specs.Decode.{decode}
 use Rattle.paper.specs.Limits.{room, sized-update}
+use Rattle.laws.proofs.Basics.{bind-is, bind-not}
 use Rattle.record.specs.declared.Check.{Check}
 use Rattle.record.specs.declared.Check.the-variants as check
 use Rattle.record.specs.declared.Refusal.{Refusal}
 use Rattle.record.specs.Says.{refusal-of, checked}
+use Rattle.record.proofs.Testing.{checked-refused, checked-ok}
 use Rattle.tree.specs.Says.{decoded}
 use Rattle.tree.specs.declared.Shaped.{Shaped}
 use Rattle.tree.specs.declared.Shaped.the-variants as shaped
+use Rattle.tree.proofs.Deciding.{decode-refused, decode-ok}
 use Rattle.request.specs.declared.Opened.{Opened}
 use Rattle.request.specs.declared.Opened.the-variants as it
 use Rattle.request.specs.Opened.{Trees, both-trees, trees, listed, readable, opening, opened}
 
--- ---- chains
-
-bind-is : {A B : Type 0} (x : Answer A) (f : A → Answer B) (a : A) → x ≡ ok a → (x >>= f) ≡ f a
-unfolding _>>=_
-bind-is x f a e = rw e
-
-bind-not : {A B : Type 0} (x : Answer A) (f : A → Answer B) (n l k : ℕ) → x ≡ refused n l k → (x >>= f) ≡ refused n l k
-unfolding _>>=_
-bind-not x f n l k e = rw e
-
 -- ---- what an answer of the code says of the paper's
-
-decode-refused : (x : Answer (Forest Field)) (w : Shaped) (f : Refusal) → w ≡ decoded x → w ≡ shaped.Refused f → x ≡ refused (f .number) (f .list) (f .place)
-unfolding decoded
-decode-refused (ok t) w f e q = cc
-decode-refused (refused n l p) w f e q = let z : f ≡ refusal-of n l p = cc in rw z
-
-decode-ok : (P : Type 0) (x : Answer (Forest Field)) (w : Shaped) (c : ℕ) → w ≡ decoded x → w ≡ shaped.Roots c → ((t : Forest Field) → x ≡ ok t → c ≡ siblings t → P) → P
-unfolding decoded
-decode-ok P (ok t) w c e q f = f t refl (let z : c ≡ siblings t = cc in z)
-decode-ok P (refused n l p) w c e q f = let y : _≡_ {A = ℕ} 0 1 = cc in absurd (omega arith)
-
-check-refused : (x : Answer (Unit {0})) (w : Check) (f : Refusal) → w ≡ checked x → w ≡ check.Refused f → x ≡ refused (f .number) (f .list) (f .place)
-unfolding checked
-check-refused (ok t) w f e q = cc
-check-refused (refused n l p) w f e q = let z : f ≡ refusal-of n l p = cc in rw z
-
-check-fine : (x : Answer (Unit {0})) (w : Check) → w ≡ checked x → w ≡ check.Fine → x ≡ ok tt
-unfolding checked
-check-fine (ok tt) w e q = refl
-check-fine (refused n l p) w e q = cc
 
 pub open-refused : (x : Answer Trees) (w : Opened) (f : Refusal) → w ≡ opened x → w ≡ it.Refused f → x ≡ refused (f .number) (f .list) (f .place)
 unfolding opened
@@ -64,11 +36,11 @@ open-refused (refused n l p) w f e q = let z : f ≡ refusal-of n l p = cc in rw
 module _ (d a r : List ℕ) (u : Check) (eu : u ≡ checked (entries-ok 2 ok-deletion d r)) where
   pub list-stops : (f : Refusal) → u ≡ check.Refused f → check.Refused f ≡ listed d a r
   unfolding listed _>>=_ checked
-  list-stops f q = rw (check-refused (entries-ok 2 ok-deletion d r) u f eu q)
+  list-stops f q = rw (checked-refused (entries-ok 2 ok-deletion d r) u f eu q)
 
   pub list-goes : (v : Check) → u ≡ check.Fine → v ≡ checked (entries-ok 3 ok-addition a r) → v ≡ listed d a r
   unfolding listed _>>=_
-  list-goes v q e = rw (check-fine (entries-ok 2 ok-deletion d r) u eu q) e
+  list-goes v q e = rw (checked-ok (entries-ok 2 ok-deletion d r) u eu q) e
 
 -- ---- the trees
 
@@ -119,14 +91,14 @@ module _ (s p d a b r : List ℕ) (w : Opened) (ew : w ≡ opened (trees s p b r
     unfolding listed opened
     lists-stop f h =
         open-ok _ (trees s p b r) w c c′ ew q λ t et eo.
-        let z = check-refused (both-lists d a r) v f ev h in
+        let z = checked-refused (both-lists d a r) v f ev h in
         sym (ap opened (trees-first s p d a b r ∙ bind-is (trees s p b r) _ t et ∙ bind-not (both-lists d a r) _ _ _ _ z))
 
     pub contents-fine : v ≡ check.Fine → it.Roots c c′ ≡ opened (readable s p d a b r)
     unfolding listed
     contents-fine h =
         open-ok _ (trees s p b r) w c c′ ew q λ t et eo.
-        let z = check-fine (both-lists d a r) v ev h in
+        let z = checked-ok (both-lists d a r) v ev h in
         eo ∙ sym (ap opened (trees-first s p d a b r ∙ bind-is (trees s p b r) _ t et ∙ bind-is (both-lists d a r) _ tt z))
 
 -- ---- 1 and 2

@@ -1,6 +1,5 @@
 -- The theorems of document 01.
 pub mod Signed
-pub mod Steps
 pub mod Counting
 pub mod Columns
 pub mod Evolution

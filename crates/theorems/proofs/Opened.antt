@@ -18,23 +18,18 @@ use Rattle.paper.specs.Decode.{decode}
 use Rattle.paper.specs.Limits.{whole, sized, sized-ids, sized-update}
 use Rattle.paper.specs.Entries.{Result, read, update-entry, prune-entry, renumber-entry}
 use Rattle.laws.specs.Fit.{Bytes, Fit}
-use Rattle.laws.proofs.Basics.{unbind, rebind, ok-is, fault-ok, no-fault}
+use Rattle.laws.proofs.Basics.{unbind, rebind, ok-is, fault-ok, no-fault, passed}
 use Rattle.laws.proofs.RoundTrip.{both}
-use Rattle.laws.proofs.Fitting.{decode-fit}
-use Rattle.theorems.proofs.Steps.{passed}
+use Rattle.laws.proofs.Fitting.{ids-sized, decode-fit}
 
 -- ---- 2, 7 and 8
-
-sized-base : (most : ℕ) (s p i : List ℕ) → sized-ids most s p i ≡ true → sized s p ≡ true
-unfolding sized-ids
-sized-base most s p i e = both (sized s p) (whole 4 most i) e .0
 
 sized-trees : (s p i d a b r : List ℕ) → sized-update s p i d a b r ≡ true
     → (sized s p ≡ true) × (sized b r ≡ true)
 unfolding sized-update
 sized-trees s p i d a b r e =
     let o = both (sized-ids 64 s p i) ((whole 8 64 d && whole 8 64 a) && sized b r) e in
-    (sized-base 64 s p i (o .0), both (whole 8 64 d && whole 8 64 a) (sized b r) (o .1) .1)
+    (ids-sized 64 s p i (o .0), both (whole 8 64 d && whole 8 64 a) (sized b r) (o .1) .1)
 
 -- 7 and 8 do not look at the identifiers or the number of the list.
 pub sound-any : (l : ℕ) (t : Forest Field) (identifiers : List ℕ) {x : Unit {0}}
@@ -80,7 +75,7 @@ unfolding prune-entry prune
 open-prune s p sel full lr ln r e =
     unbind _ _ e λ _ _ a₁. unbind _ _ a₁ λ _ e₂ a₂. unbind _ _ a₂ λ t e₃ a₃. unbind _ _ a₃ λ u e₄ a₄.
     unbind _ _ e₄ λ _ e₅ _.
-    let z = sized-base 1024 s p sel (passed 2 0 0 (sized-ids 1024 s p sel) e₂) in
+    let z = ids-sized 1024 s p sel (passed 2 0 0 (sized-ids 1024 s p sel) e₂) in
     record {
       tree = t;
       base = record { sizes = z; decodes = e₃; sound-tree = e₅ };
@@ -100,7 +95,7 @@ unfolding renumber-entry renumber
 open-renumber s p i start lr ln li r e =
     unbind _ _ e λ _ _ a₁. unbind _ _ a₁ λ _ e₂ a₂. unbind _ _ a₂ λ t e₃ a₃. unbind _ _ a₃ λ u e₄ a₄.
     unbind _ _ e₄ λ _ e₅ _.
-    let z = sized-base 64 s p i (passed 2 0 0 (sized-ids 64 s p i) e₂) in
+    let z = ids-sized 64 s p i (passed 2 0 0 (sized-ids 64 s p i) e₂) in
     record {
       tree = t;
       base = record { sizes = z; decodes = e₃; sound-tree = sound-any 0 t (id-list i) e₅ };

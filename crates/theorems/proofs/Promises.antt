@@ -63,7 +63,8 @@ pub runs-last : (s : Schema) → Begins s → (requests : ℕ → Request) → L
 runs-last = lasting
 
 -- Over bytes: the same, where each update is given what the last accepted one answered.
-pub runs-last-stored : (s : Stored) → BeginsStored s → (requests : ℕ → Lent) → LastingStored s requests
+pub runs-last-stored : (s : Stored) → BeginsStored s → (requests : ℕ → Lent)
+    → LastingStored (run-stored s requests) requests
 runs-last-stored = lasting-stored
 
 -- Neither is empty: T begins a run,

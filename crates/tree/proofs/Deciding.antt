@@ -35,6 +35,18 @@ use Rattle.tree.proofs.Roots.{roots-row}
 use Rattle.tree.proofs.Steps.{part-is, reads-is}
 use Rattle.tree.proofs.Labels.{walked-end}
 
+-- ---- what an answer of the code tells of the paper's
+
+pub decode-refused : (x : Answer (Forest Field)) (w : Shaped) (f : Refusal) → w ≡ decoded x → w ≡ shaped.Refused f → x ≡ refused-as f
+unfolding decoded
+decode-refused (ok t) w f e q = let z : _≡_ {A = ℕ} 0 1 = cc in absurd (omega arith)
+decode-refused (refused n l p) w f e q = cc
+
+pub decode-ok : (P : Type 0) (x : Answer (Forest Field)) (w : Shaped) (c : ℕ) → w ≡ decoded x → w ≡ shaped.Roots c → ((t : Forest Field) → x ≡ ok t → c ≡ siblings t → P) → P
+unfolding decoded
+decode-ok P (ok t) w c e q f = f t refl (let z : c ≡ siblings t = cc in z)
+decode-ok P (refused n l p) w c e q f = let z : _≡_ {A = ℕ} 0 1 = cc in absurd (omega arith)
+
 -- ---- what the walks tell of the paper's answers
 
 was-rooted : (y : Answer Part) (w : Shaped) (c : ℕ) → w ≡ rooted 0 y → w ≡ shaped.Roots c → (y ≡ ok (got y)) × (siblings (got y .trees) ≡ c)

@@ -10,7 +10,7 @@ use Rattle.laws.proofs.Written.{siblings-size}
 use Rattle.tree.proofs.Reading.{row-none}
 use Rattle.tree.proofs.Filled.{Full, full, row-parts}
 
-fine-got : (x : Answer Part) → fine x ≡ true → x ≡ ok (got x)
+pub fine-got : (x : Answer Part) → fine x ≡ true → x ≡ ok (got x)
 fine-got (ok p) e = refl
 fine-got (refused n l k) e = absurd (true≢false (sym e))
 

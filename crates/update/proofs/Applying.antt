@@ -1,14 +1,13 @@
 -- The entry is 1 to 6, the paper's plan, and its rebuild: each step's answer is the paper's.
 use mathlib.Core.Path.{_≡_, refl, sym, ap, _∙_}
-use mathlib.Core.Bool.{Bool, true, false}
+use mathlib.Core.Bool.{true}
 use mathlib.Core.List.{List, []}
 use mathlib.Core.Option.{none}
 use Prim.Native.Nat.{ℕ, _+_, _%_, _≤_, _<_}
 use native.Mathlib.Omega.{arith}
-use borrow.Author.Tests.{not-false, leb-true}
-use lib.Dec.{leb}
+use borrow.Author.Tests.{not-false}
 use lib.ListN.{length}
-use Rattle.paper.specs.Answer.{Answer, ok, refused, _>>=_, fault-if}
+use Rattle.paper.specs.Answer.{Answer, ok, refused, _>>=_}
 use Rattle.paper.specs.Refusals.{roomy, limited, rebuilt-within}
 use Rattle.paper.specs.Forest.{Forest, siblings}
 use Rattle.paper.specs.Field.{Field, id-of, kind-of, with-id}
@@ -23,8 +22,8 @@ use Rattle.paper.specs.Entries.{Result, update-entry}
 use Rattle.record.specs.declared.Refusal.{Refusal}
 use Rattle.record.specs.declared.Changed.{Changed}
 use Rattle.record.specs.declared.Changed.the-variants as changed
-use Rattle.laws.proofs.Basics.{unbind, refused≢ok}
-use Rattle.laws.proofs.Fitting.{sized-slots}
+use Rattle.laws.proofs.Basics.{unbind, fault-if-ok}
+use Rattle.laws.proofs.Fitting.{sized-slots, rooms-of}
 use Rattle.laws.proofs.RoundTrip.{both}
 use Rattle.limits.proofs.Within.{update-sized, identifiers-most, deletions-most}
 use Rattle.plan.specs.Plan.{lent}
@@ -54,10 +53,6 @@ shift-is x = (refl, omega arith)
 abbrev result-of : Schema → Result
 result-of u = record { tree = u .tree; identifiers = []; last = turned (u .last) }
 
-fault-none : (number list place : ℕ) (b : Bool) {u : Unit {0}} → fault-if number list place b ≡ ok u → b ≡ false
-fault-none number list place false e = refl
-fault-none number list place true e = absurd (refused≢ok e)
-
 open-ok : (P : Type 0) (x : Answer Trees) (c k : ℕ) → it.Roots c k ≡ opened x → ((t n : Forest Field) → x ≡ ok (both-trees t n) → c ≡ siblings t → k ≡ siblings n → P) → P
 unfolding opened
 open-ok P (ok v) c k e f = f (v .base) (v .added) refl (let z : c ≡ siblings (v .base) = cc in z) (let z : k ≡ siblings (v .added) = cc in z)
@@ -69,10 +64,6 @@ unfolding _>>=_
 end-joined (ok e) (ok g) u f = refl
 end-joined (ok e) (refused n l k) u f = refl
 end-joined (refused n l k) y u f = refl
-
-rooms-of : (lr ln : ℕ) → room lr ln ≡ true → (24576 ≤ lr) × (32768 ≤ ln)
-unfolding room
-rooms-of lr ln e = let w = both (leb 24576 lr) (leb 32768 ln) e in (leb-true 24576 lr (w .0), leb-true 32768 ln (w .1))
 
 module _ (s p i : List ℕ) (last : ℕ) (d a b r : List ℕ) (out text : List ℕ) where
   after-6 : Trees → Answer Result
@@ -123,8 +114,8 @@ module _ (s p i : List ℕ) (last : ℕ) (d a b r : List ℕ) (out text : List �
         record {
           base = t;
           added = n;
-          rooms = not-false _ (fault-none 1 0 0 _ e₁);
-          limits = not-false _ (fault-none 2 0 0 _ e₂);
+          rooms = not-false _ (fault-if-ok 1 0 0 _ e₁);
+          limits = not-false _ (fault-if-ok 2 0 0 _ e₂);
           read = a₂;
           roots = et;
           columns = en;

@@ -37,7 +37,7 @@ use Rattle.plan.proofs.Taking as taking
 use Rattle.plan.proofs.Taking.{base-plan}
 use Rattle.index.specs.Index.{Indexing, Index}
 use Rattle.request.specs.Opened.{Trees, both-trees, readable}
-use Rattle.rebuilt.proofs.Sounding.{check-refused}
+use Rattle.record.proofs.Testing.{checked-refused}
 use Rattle.update_schema.specs.declared.Decided.{Decided}
 use Rattle.update_schema.specs.declared.Decided.the-variants as decided
 use Rattle.update_schema.specs.Base.{Based, Entries}
@@ -131,7 +131,7 @@ module _ (s p i d a b r : List ℕ) (columns given : ℕ) (gone us fs st : List 
             refusal = λ t n e w z.
                 let f : y ≡ w = cc in
                 let o = contents s p d a b r t n e in
-                rw (← f, check-refused (sound 0 t (id-list i)) c y (sound-says t (o .base)) q);
+                rw (← f, checked-refused (sound 0 t (id-list i)) c y (sound-says t (o .base)) q);
           }
 
       module _ (q : c ≡ check.Fine) where

@@ -1,17 +1,16 @@
 -- Additions ask of the dropped ids only which are among them, so a set with the same members decides the same.
 use Prim.Native.Nat.{ℕ, suc, _+_}
 use mathlib.Core.Path.{_≡_, refl, sym, ap, subst, _∙_}
-use mathlib.Core.Bool.{Bool, true, false, not, _&&_, cond}
+use mathlib.Core.Bool.{Bool, true, not, _&&_, cond}
 use mathlib.Core.List.{List, [], _∷_}
 use mathlib.Core.Option.{Option, none, some}
 use native.Mathlib.Omega.{arith}
-use Rattle.paper.specs.Answer.{Answer, ok, refused, _>>=_, among, same, fault-if, demand}
+use Rattle.paper.specs.Answer.{Answer, ok, _>>=_, among, same, fault-if, demand}
 use Rattle.paper.specs.Forest.{Forest, empty, node, size}
 use Rattle.paper.specs.Field.{Field}
 use Rattle.paper.specs.Rows.{Row, look-name}
-use Rattle.paper.specs.Bytes.{from}
-use Rattle.paper.specs.Lists.{path-of}
-use Rattle.paper.specs.Update.{Receiver, receiver, root-taken, member-taken, deleted, placed, Placed, placed-all}
+use Rattle.paper.specs.Update.{Receiver, receiver, root-taken, member-taken, placed, Placed, placed-all}
+use Rattle.laws.proofs.Basics.{bind-is, bind-not}
 use Rattle.record.specs.declared.Refusal.{Refusal}
 use Rattle.record.specs.declared.Check.{Check}
 use Rattle.record.specs.declared.Check.the-variants as check
@@ -22,7 +21,6 @@ use Rattle.update_schema.specs.declared.Decided.the-variants as decided
 use Rattle.update_schema.specs.Deletions.{gone-ids, Gathered, DropsAll}
 use Rattle.update_schema.specs.Additions.{one-placed, all-placed, PlacesBy, PlacesAll}
 use Rattle.update_schema.specs.Changes.{changes, Decides}
-use Rattle.update_schema.proofs.Deleting.{bind-is, bind-not}
 use Rattle.update_schema.proofs.Columns.{placed-step, joined}
 
 module _ (t : Forest Field) (ds ds′ : List ℕ) (h : (x : ℕ) → among x ds ≡ among x ds′) where

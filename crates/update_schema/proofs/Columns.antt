@@ -1,17 +1,17 @@
 -- Additions one at a time: what is left of them, behind the places in the array, is the whole.
-use Prim.Native.Nat.{ℕ, zero, suc, _+_, _-_, _*_, _<_, _≤_}
+use Prim.Native.Nat.{ℕ, suc, _+_, _-_, _<_, _≤_}
 use mathlib.Core.Path.{_≡_, refl, sym, ap, ap₂, subst, _∙_}
 use mathlib.Core.Logic.{⊎-elim}
-use mathlib.Core.Bool.{Bool, true, false}
+use mathlib.Core.Bool.{true}
 use mathlib.Core.List.{List, [], _∷_, _++_, append-nil, append-assoc}
-use mathlib.Core.Option.{Option, none, some}
+use mathlib.Core.Option.{Option}
 use native.Mathlib.Nat.{eq-or-lt-of-le}
 use native.Mathlib.Numerals.{add-one}
 use native.Mathlib.Omega.{arith}
 use lib.Dec.{eqb, ltb}
 use lib.ListN.{length, getD, set, length-set}
 use lib.Seq.{getD-set-same, getD-set-other}
-use Rattle.paper.specs.Answer.{Answer, ok, refused, _>>=_, among, fault-if, lowest}
+use Rattle.paper.specs.Answer.{Answer, ok, refused, _>>=_, among, fault-if}
 use Rattle.paper.specs.Forest.{Forest, empty, node, size, mapped}
 use Rattle.paper.specs.Field.{Field, highest, with-id}
 use Rattle.paper.specs.Rebuild.{Addition, fresh, arrivals}
@@ -21,13 +21,14 @@ use Rattle.paper.specs.Layout.{Part, before, nothing, row}
 use Rattle.paper.specs.Lists.{parent-path, path-in}
 use Rattle.paper.specs.Update.{placed, Placed, placed-all}
 use Rattle.laws.proofs.Fitting.{lowest-none, size-mapped}
-use Rattle.laws.proofs.Runs.{from-step, from-done, from-all, from-append}
+use Rattle.laws.proofs.Runs.{from-step, from-done, from-append, from-same}
 use Rattle.record.specs.declared.Refusal.{Refusal}
 use Rattle.tree.specs.Read.{part, reads}
 use Rattle.tree.proofs.Reading.{row-in, row-none}
-use Rattle.tree.proofs.Steps.{part-is, reads-is, part-none, part-in, part-full, no-past, reads-inner, reads-rest, was-read}
+use Rattle.tree.proofs.Steps.{part-is, reads-is, part-in, part-full, no-past, reads-inner, reads-rest, was-read}
 use Rattle.laws.proofs.Words.{turned-twice}
 use Rattle.laws.proofs.Natural.{mapped-all}
+use Rattle.laws.proofs.Basics.{bind-is, bind-not}
 use Rattle.plan.specs.Plan.{Source, lent, planned-field}
 use Rattle.rebuild.specs.Sources.{parent, added-source, added-tree, addition-at}
 use Rattle.rebuild.specs.Sources as sources
@@ -37,15 +38,9 @@ use Rattle.update_schema.specs.declared.Spotted.{Spotted}
 use Rattle.update_schema.specs.declared.Spotted.the-variants as spotted
 use Rattle.update_schema.specs.declared.Decided.the-variants as decided
 use Rattle.update_schema.specs.Base as given
-use Rattle.update_schema.specs.Additions.{Column, column-size, one-placed, Settled, OneSpotted, Columns, parents-in, all-placed, Placings, PlacesAll}
-use Rattle.update_schema.proofs.Deleting.{bind-is, bind-not}
+use Rattle.update_schema.specs.Additions.{Column, column-size, one-placed, Settled, OneSpotted, Columns, parents-in, all-placed, PlacesAll}
 
 -- ---- the array
-
-from-same : {A : Type 0} (f g : ℕ → A) (k m : ℕ) → ((j : ℕ) → j < k + m → f j ≡ g j) → from f k m ≡ from g k m
-unfolding from
-from-same f g k zero h = refl
-from-same f g k (suc m) h = rw (h k (omega arith), from-same f g (suc k) m (λ j l. h j (omega arith)))
 
 parents-more : (us : List ℕ) (k v : ℕ) → k < length us → parents-in (set us k v) (k + 1) ≡ parents-in us k ++ (parent v ∷ [])
 unfolding parents-in from

@@ -1,5 +1,5 @@
 -- Deletions one at a time: what is left of them, behind the ids that stand in the array, is the whole.
-use Prim.Native.Nat.{ℕ, zero, suc, _+_, _-_, _*_, _<_, _≤_}
+use Prim.Native.Nat.{ℕ, suc, _+_, _-_, _<_, _≤_}
 use mathlib.Core.Path.{_≡_, refl, sym, ap, ap₂, _∙_}
 use mathlib.Core.Bool.{Bool, true, false, _||_, or-assoc, or-comm, or-false}
 use mathlib.Core.List.{List, [], _∷_, _++_, append-nil, append-assoc}
@@ -17,29 +17,21 @@ use Rattle.paper.specs.Bytes.{turned, from}
 use Rattle.paper.specs.Lists.{path-of}
 use Rattle.paper.specs.Update.{deleted}
 use Rattle.laws.proofs.Words.{turned-twice}
-use Rattle.laws.proofs.Runs.{from-step, from-done, from-all, from-append}
+use Rattle.laws.proofs.Runs.{from-step, from-done, from-all, from-append, from-same}
+use Rattle.laws.proofs.Basics.{bind-is, bind-not}
 use Rattle.record.specs.declared.FieldId.{FieldId}
 use Rattle.record.specs.declared.Refusal.{Refusal}
 use Rattle.record.specs.declared.Found.{Found}
-use Rattle.record.specs.declared.Check.{Check}
 use Rattle.record.specs.declared.Check.the-variants as check
 use Rattle.record.specs.Says.{found-row, refusal-of}
 use Rattle.dropped.specs.declared.Dropped.{Dropped}
-use Rattle.dropped.specs.Set.{elems, dropped-ids, Good, Inserted}
+use Rattle.dropped.specs.Set.{dropped-ids, Good, Inserted}
 use Rattle.decide.specs.declared.Dropping.{Dropping}
 use Rattle.decide.specs.declared.Dropping.the-variants as dropping
 use Rattle.decide.specs.Entry.{Known, dropped-id, drops, Deleted}
 use Rattle.update_schema.specs.Deletions.{gone-ids, Gathered, DropsAll}
 
 -- ---- chains and answers
-
-pub bind-is : {A B : Type 0} (x : Answer A) (f : A → Answer B) (a : A) → x ≡ ok a → (x >>= f) ≡ f a
-unfolding _>>=_
-bind-is x f a e = rw e
-
-pub bind-not : {A B : Type 0} (x : Answer A) (f : A → Answer B) (n l k : ℕ) → x ≡ refused n l k → (x >>= f) ≡ refused n l k
-unfolding _>>=_
-bind-not x f n l k e = rw e
 
 of-refused : (x : Answer ℕ) (f : Refusal) → dropping.Refused f ≡ drops x → x ≡ refused (f .number) (f .list) (f .place)
 unfolding drops
@@ -55,11 +47,6 @@ unfolding drops
 gone-id x i e = let z : x ≡ record { 0 = turned i } = cc in rw z
 
 -- ---- the array
-
-from-same : (f g : ℕ → ℕ) (k m : ℕ) → ((j : ℕ) → j < k + m → f j ≡ g j) → from f k m ≡ from g k m
-unfolding from
-from-same f g k zero h = refl
-from-same f g k (suc m) h = rw (h k (omega arith), from-same f g (suc k) m (λ j l. h j (omega arith)))
 
 gone-more : (gone : List ℕ) (k v : ℕ) → k < length gone → gone-ids (set gone k v) (k + 1) ≡ gone-ids gone k ++ (turned v ∷ [])
 unfolding gone-ids from

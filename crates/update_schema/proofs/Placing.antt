@@ -1,21 +1,20 @@
 -- One addition: its own rules, its place, its ids, in the paper's order.
-use Prim.Native.Nat.{ℕ, suc, _+_, _-_, _*_, _<_, _≤_}
-use mathlib.Core.Path.{_≡_, refl, sym, ap, _∙_}
+use Prim.Native.Nat.{ℕ, suc, _+_, _<_, _≤_}
+use mathlib.Core.Path.{_≡_, refl, sym, _∙_}
 use mathlib.Core.Bool.{Bool, true, false, not, _&&_, cond}
 use mathlib.Core.List.{List}
 use mathlib.Core.Option.{Option, none, some}
 use native.Mathlib.Omega.{arith}
 use lib.Dec.{eqb, ltb}
-use lib.ListN.{length}
-use borrow.Author.Tests.{lt-ltb, le-ltb, ltb-true, ltb-false}
+use borrow.Author.Tests.{ltb-false}
 use Rattle.paper.specs.Answer.{Answer, ok, refused, _>>=_, among, fault-if, demand}
 use Rattle.paper.specs.Forest.{Forest, size}
 use Rattle.paper.specs.Field.{Field, highest}
 use Rattle.paper.specs.Rows.{Row, look-name}
-use Rattle.paper.specs.Bytes.{turned, rec-at, kind-at, kids-at, field-at, name-of, ok-bytes}
+use Rattle.paper.specs.Bytes.{turned, rec-at, kids-at, field-at, name-of}
 use Rattle.paper.specs.Decode.{fields}
 use Rattle.paper.specs.Lists.{parent-path}
-use Rattle.paper.specs.Update.{Receiver, receiver, root-taken, member-taken, placed}
+use Rattle.paper.specs.Update.{receiver, root-taken, member-taken, placed}
 use Rattle.laws.proofs.Words.{turned-twice, turned-below}
 use Rattle.laws.proofs.Fitting.{size-mapped}
 use Rattle.tree.specs.Read.{part}
@@ -23,19 +22,18 @@ use Rattle.record.specs.declared.Refusal.{Refusal}
 use Rattle.record.specs.declared.Check.{Check}
 use Rattle.record.specs.declared.Check.the-variants as check
 use Rattle.record.specs.Says.{refusal-of, checked}
+use Rattle.record.proofs.Testing.{checked-refused, checked-ok}
 use Rattle.plan.specs.Plan.{Lent, plan-fields}
 use Rattle.rebuild.specs.Sources.{parent}
 use Rattle.parents.specs.Target.{receiving, receiver-at, members-at}
-use Rattle.parents.proofs.Receiving.{receiver-is}
 use Rattle.decide.specs.declared.Going.{Going}
 use Rattle.decide.specs.declared.Going.the-variants as going
 use Rattle.decide.specs.Entry.{unbarred, goes}
-use Rattle.update_schema.specs.declared.Spot.{Spot}
 use Rattle.update_schema.specs.declared.Spotted.{Spotted}
 use Rattle.update_schema.specs.declared.Spotted.the-variants as spotted
 use Rattle.update_schema.specs.Base.{Based}
-use Rattle.update_schema.specs.Additions.{column-size, numbered, one-placed, Settled, OneSpotted}
-use Rattle.update_schema.proofs.Found.{found-there, row-stands}
+use Rattle.update_schema.specs.Additions.{column-size, numbered, one-placed, OneSpotted}
+use Rattle.update_schema.proofs.Found.{row-stands}
 
 -- ---- the id of a place has 32 bits
 
@@ -82,16 +80,6 @@ module _ (l : Lent) (xs is ks : List ℕ) (n : ℕ) (b : Based l xs is ks n) (ds
 
 -- ---- the steps
 
-check-refused : (a : Answer (Unit {0})) (w : Check) (f : Refusal) → w ≡ checked a → w ≡ check.Refused f → a ≡ refused (f .number) (f .list) (f .place)
-unfolding checked
-check-refused (ok t) w f e q = cc
-check-refused (refused n l p) w f e q = let z : f ≡ refusal-of n l p = cc in rw z
-
-check-fine : (a : Answer (Unit {0})) (w : Check) → w ≡ checked a → w ≡ check.Fine → a ≡ ok tt
-unfolding checked
-check-fine (ok tt) w e q = refl
-check-fine (refused n l p) w e q = cc
-
 -- the paper's step, by 13 and 14 together
 one-first : (t : Forest Field) (ds request added : List ℕ) (last k slot : ℕ) (p : Option (List ℕ)) (m : Forest Field) → one-placed t ds last k p (field-at request added slot) m
     ≡ (unbarred request added slot k >>= λ _. placed t ds k (name-of request added slot) p >>= λ q. fault-if 18 3 k (ltb highest (suc (last + size m))) >>= λ _. ok q)
@@ -109,7 +97,7 @@ module _ (l : Lent) (xs is ks : List ℕ) (n : ℕ) (b : Based l xs is ks n) (ds
 
   pub spot-barred : (f : Refusal) → w ≡ check.Refused f → OneSpotted (plan-fields l xs is ks n) ds (l .request) (l .added) additions m last k slot (spotted.Refused f)
   unfolding _>>=_
-  spot-barred f q = record { by = one-first (plan-fields l xs is ks n) ds (l .request) (l .added) last k slot (parent-path (l .request) additions k) inner ∙ rw (check-refused (unbarred (l .request) (l .added) slot k) w f ew q) }
+  spot-barred f q = record { by = one-first (plan-fields l xs is ks n) ds (l .request) (l .added) last k slot (parent-path (l .request) additions k) inner ∙ rw (checked-refused (unbarred (l .request) (l .added) slot k) w f ew q) }
 
   module _ (ef : w ≡ check.Fine) (g : Going) (eg : g ≡ goes (placed (plan-fields l xs is ks n) ds k (name-of (l .request) (l .added) slot) (parent-path (l .request) additions k))) where
     pub spot-nowhere : (f : Refusal) → g ≡ going.Refused f → OneSpotted (plan-fields l xs is ks n) ds (l .request) (l .added) additions m last k slot (spotted.Refused f)
@@ -117,7 +105,7 @@ module _ (l : Lent) (xs is ks : List ℕ) (n : ℕ) (b : Based l xs is ks n) (ds
     spot-nowhere f q =
         record {
           by = one-first (plan-fields l xs is ks n) ds (l .request) (l .added) last k slot (parent-path (l .request) additions k) inner
-              ∙ rw (check-fine (unbarred (l .request) (l .added) slot k) w ew ef, under-not (placed (plan-fields l xs is ks n) ds k (name-of (l .request) (l .added) slot) (parent-path (l .request) additions k)) f (sym q ∙ eg));
+              ∙ rw (checked-ok (unbarred (l .request) (l .added) slot k) w ew ef, under-not (placed (plan-fields l xs is ks n) ds k (name-of (l .request) (l .added) slot) (parent-path (l .request) additions k)) f (sym q ∙ eg));
         }
 
     module _ (u : ℕ) (q : g ≡ going.Under u) where
@@ -130,7 +118,7 @@ module _ (l : Lent) (xs is ks : List ℕ) (n : ℕ) (b : Based l xs is ks n) (ds
 
       pub spot-goes : (r : Spotted) → r ≡ numbered u last k slot (column-size (l .added) m slot) → OneSpotted (plan-fields l xs is ks n) ds (l .request) (l .added) additions m last k slot r
       unfolding numbered _>>=_
-      spot-goes r er = rw er (go (ltb highest (last + column-size (l .added) m slot)) refl (one-first (plan-fields l xs is ks n) ds (l .request) (l .added) last k slot (parent-path (l .request) additions k) inner ∙ rw (check-fine (unbarred (l .request) (l .added) slot k) w ew ef, where-to .0, size-is)))
+      spot-goes r er = rw er (go (ltb highest (last + column-size (l .added) m slot)) refl (one-first (plan-fields l xs is ks n) ds (l .request) (l .added) last k slot (parent-path (l .request) additions k) inner ∙ rw (checked-ok (unbarred (l .request) (l .added) slot k) w ew ef, where-to .0, size-is)))
         where
           go : (c : Bool) → ltb highest (last + column-size (l .added) m slot) ≡ c
               → one-placed (plan-fields l xs is ks n) ds last k (parent-path (l .request) additions k) (field-at (l .request) (l .added) slot) inner ≡ (fault-if 18 3 k c >>= λ _. ok (parent u))

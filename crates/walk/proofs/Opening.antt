@@ -2,24 +2,23 @@
 use mathlib.Core.Path.{_≡_, refl, sym, ap, _∙_}
 use mathlib.Core.Bool.{true}
 use mathlib.Core.List.{List}
-use Prim.Native.Nat.{ℕ, _+_, _≤_, _<_}
+use Prim.Native.Nat.{ℕ, _≤_}
 use native.Mathlib.Omega.{arith}
-use Rattle.paper.specs.Answer.{Answer, ok, refused}
-use Rattle.paper.specs.Forest.{Forest, size, siblings, levels}
-use Rattle.paper.specs.Field.{Field}
+use Rattle.paper.specs.Answer.{ok}
+use Rattle.paper.specs.Forest.{size, siblings, levels}
 use Rattle.paper.specs.Sound.{name-bytes}
 use Rattle.paper.specs.Bytes.{kids-at, slots}
 use Rattle.paper.specs.Limits.{name-sum, sized, name-lens}
-use Rattle.paper.specs.Layout.{Part}
 use Rattle.paper.specs.Decode.{fields, decode}
 use Rattle.laws.proofs.Basics.{unbind, ok-is}
 use Rattle.laws.proofs.Taken as taken
 use Rattle.laws.proofs.Fitting.{siblings-mapped, names-below, sum-within, sized-slots}
-use Rattle.tree.specs.declared.Shaped.the-variants.{Roots, Refused}
+use Rattle.tree.specs.declared.Shaped.the-variants.{Roots}
 use Rattle.tree.specs.Says.{decoded}
 use Rattle.tree.proofs.Filled.{full}
 use Rattle.tree.proofs.Steps.{part-is, reads-is}
 use Rattle.tree.proofs.Roots.{roots-row}
+use Rattle.tree.proofs.Deciding.{decode-ok}
 use Rattle.walk.specs.There.{row-of, There}
 
 pub record Opened (s pool : List ℕ) (c : ℕ) : Type 0 where
@@ -31,20 +30,15 @@ pub record Opened (s pool : List ℕ) (c : ℕ) : Type 0 where
   pub past : row-of s 16 c 0 .next ≡ slots s
   pub names : name-bytes (fields pool s (row-of s 16 c 0 .trees)) ≤ 32768
 
-was-decoded : (P : Type 0) (x : Answer (Forest Field)) (c : ℕ) → Roots c ≡ decoded x → ((t : Forest Field) → x ≡ ok t → siblings t ≡ c → P) → P
-unfolding decoded
-was-decoded P (ok t) c e f = f t refl cc
-was-decoded P (refused n l p) c e f = let z : _≡_ {A = ℕ} 0 1 = cc in absurd (omega arith)
-
 pub opened : (s pool : List ℕ) (c : ℕ) → sized s pool ≡ true → Roots c ≡ decoded (decode 0 s pool) → Opened s pool c
 unfolding decode fields name-sum
 opened s pool c z e =
-    was-decoded _ (decode 0 s pool) c e λ t et ct.
+    decode-ok _ (decode 0 s pool) (Roots c) c e refl λ t et ct.
     unbind _ _ et λ _ e₁ a₁. unbind _ _ a₁ λ _ e₂ a₂. unbind _ _ a₂ λ p e₃ a₃. unbind _ _ a₃ λ _ e₄ a₄.
     let u = p .trees in
     let o = taken.roots-take 0 (kids-at s) (slots s) (slots s) 0 p e₃ in
     let r = roots-row 0 (kids-at s) (slots s) (slots s) 0 p (omega arith) (omega arith) e₃ in
-    let q : siblings u ≡ c = sym (siblings-mapped _ u) ∙ ap siblings (ok-is a₄) ∙ ct in
+    let q : siblings u ≡ c = sym (siblings-mapped _ u) ∙ ap siblings (ok-is a₄) ∙ sym ct in
     let rc = rw q at (r .0) in
     let is-p : row-of s 16 c 0 ≡ p = part-is 0 (kids-at s) (slots s) 16 c 0 p rc in
     let f = full 0 (kids-at s) (slots s) 16 c 0 p rc .next in

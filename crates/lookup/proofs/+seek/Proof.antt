@@ -5,7 +5,8 @@ use Rattle.plan.specs.Plan.{lent, kids-in}
 use Rattle.names.specs.Walk.{walk}
 use Rattle.names.specs.Told.{name-in, kind-in}
 use Rattle.lookup.specs.Seek.{left-at, seen, sighting}
-use Rattle.lookup.proofs.Seeking.{seek-out, seek-deep, turn-found, turn-own, turn-on, leave-past, leave-done, level-falls}
+use Rattle.names.proofs.Marking.{level-falls}
+use Rattle.lookup.proofs.Seeking.{seek-out, seek-deep, turn-found, turn-own, turn-on, leave-past, leave-done}
 use native.Mathlib.Omega.{arith}
 use borrow.Author.Needs.{needs}
 use Prim.Native.Nat.{ℕ, _<_}
