@@ -16,6 +16,7 @@ use Rattle.record.specs.declared.Refusal.{Refusal}
 use Rattle.record.specs.declared.Check.{Check}
 use Rattle.record.specs.declared.Check.the-variants as check
 use Rattle.plan.specs.Plan.{Lent, lent, kids-in, plan-fields, Plan}
+use Rattle.plan.proofs.Standing.{field-in}
 use Rattle.chain.specs.Ids.{id-in}
 use Rattle.names.specs.Walk.{trees-of}
 use Rattle.names.specs.Full.{fulls, ups, full-at}
@@ -24,7 +25,7 @@ use Rattle.names.proofs.Walks.{Numbered, all-there, all-numbered}
 use Rattle.names.proofs.Marking.{length-fulls, length-ups}
 use Rattle.names.proofs.Telling.{fulls-are}
 use Rattle.index.specs.Index.{Raised, Opened}
-use Rattle.index.proofs.Rows.{field-of, field-id, field-name, plan-is}
+use Rattle.index.proofs.Rows.{field-id, field-name, plan-is}
 use Rattle.lines.specs.Text.{above, numbers, line-at, joined, refusal-text, Shown}
 
 lines-append : (a b : List Row) → lines (a ++ b) ≡ lines a ++ lines b
@@ -80,7 +81,7 @@ module _ (is : List ℕ) where
 
 module _ (l : Lent) (xs is : List ℕ) where
   abbrev fld : ℕ → Field
-  fld k = field-of l xs is k
+  fld k = field-in l xs is k
 
   -- A line of the paper.
   line-is : (s : Start) (j u : ℕ) (t : Forest Field) → j ≡ s .slot → s .parent ≡ above is u → line (row s (fld j) t) ≡ text-of is (s .slot) u (s .full ++ name-in l xs j)
