@@ -10,7 +10,7 @@ use crate::build::{
 };
 use crate::case::{Ask, Case};
 use crate::random::Random;
-use crate::trees::{Shape, chain, each, give_ids, part_names, sized, tree};
+use crate::trees::{Shape, chain, give_ids, part_names, sized, tree};
 
 /// A case of an operation with one limit at its edge or one past it.
 pub fn edge(random: &mut Random, operation: &str) -> Case {
@@ -18,7 +18,7 @@ pub fn edge(random: &mut Random, operation: &str) -> Case {
     if operation == "update" && random.chance(1, 4) {
         return rebuilt(random, past);
     }
-    match random.below(13) {
+    match random.below(14) {
         0..=3 => buffers(random, operation),
         4..=6 => levels(random, operation, past),
         7..=9 => lists(random, operation, past),
@@ -148,14 +148,11 @@ fn pool(random: &mut Random, operation: &str, past: usize) -> Case {
 
 /// 1,024 records or one more, in the base or in the additions tree.
 fn records(random: &mut Random, operation: &str, past: usize) -> Case {
-    let roots = sized(random, MOST_RECORDS + past);
     if operation != "update" || random.chance(1, 2) {
+        let roots = sized(random, MOST_RECORDS + past, LEVELS);
         return plainly(random, operation, packed(&roots));
     }
-    let mut column = strukt(0, "fresh", roots);
-    let mut short = 0;
-    each(&mut column.inside, &mut |_| short += 1);
-    column.inside.truncate(column.inside.len() - usize::from(short > MOST_RECORDS - 1));
+    let column = strukt(0, "fresh", sized(random, MOST_RECORDS - 1 + past, LEVELS - 1));
     update_by(packed(&[]), &[], 5, request(&[], &[Addition { path: None, column }]))
 }
 
@@ -167,7 +164,7 @@ fn rebuilt(random: &mut Random, past: usize) -> Case {
     };
     match random.below(3) {
         0 => {
-            let roots = sized(random, MOST_RECORDS - 1);
+            let roots = sized(random, MOST_RECORDS - 1, LEVELS);
             let added: Vec<Addition> =
                 (0..1 + past).map(|k| fresh(None, &format!("fresh{k}"))).collect();
             update_by(packed(&roots), &[], 10_000, request(&[], &added))

@@ -1,8 +1,9 @@
 //! The shapes of a case and its answer, which a run should meet.
 
 use judge::{
-    DEFAULT, LEVELS, LIST, MAP, MOST_RECORDS, Names, RECORD_BYTES, REQUIRED, Refusal, STRUCT, Tree,
-    Unwrap, read_tree,
+    DEFAULT, ENTRY_BYTES, ID_BYTES, LEVELS, LIST, MAP, MOST_ADDITIONS, MOST_DELETIONS,
+    MOST_IDENTIFIERS, MOST_RECORDS, MOST_SELECTED, NAME_SUM, Names, POOL_BYTES, RECORD_BYTES,
+    REQUIRED, Refusal, STRUCT, Tree, Unwrap, read_tree,
 };
 
 use crate::case::{Answer, Ask, Case};
@@ -26,6 +27,16 @@ pub const SHAPES: &[&str] = &[
     "update: the last id consumed is the largest",
     "update: a required column with a default",
     "update: an empty tree",
+    "update: 64 identifiers",
+    "update: 64 deletions",
+    "update: 64 additions",
+    "update: an additions tree of 1,024 records",
+    "update: a request pool of 32,768 bytes",
+    "update: 2 for identifiers",
+    "update: 2 for deletions",
+    "update: 2 for additions",
+    "update: 2 for the additions tree",
+    "update: 2 for the request pool",
     "update: 5 for level 17 of the additions tree",
     "update: 5 for counts past the end of the additions tree",
     "update: 9 in the rebuilt tree",
@@ -35,6 +46,8 @@ pub const SHAPES: &[&str] = &[
     "prune: full mode",
     "prune: not in full mode",
     "prune: an id chosen twice",
+    "prune: 1,024 ids chosen",
+    "prune: 2 for the ids chosen",
     "prune: an empty struct is left",
     "prune: Rust panics at the root",
     "prune: Rust panics at a map's value",
@@ -45,6 +58,8 @@ pub const SHAPES: &[&str] = &[
     "renumber: accepted",
     "renumber: with identifiers",
     "renumber: an identifier twice",
+    "renumber: 64 identifiers",
+    "renumber: 2 for identifiers",
     "renumber: up to the edge",
     "name: found by the full name",
     "name: found by a short name",
@@ -61,6 +76,8 @@ pub const SHAPES: &[&str] = &[
     "tree: 16 levels",
     "tree: 1,024 records",
     "tree: more than 900 records",
+    "tree: a pool of 32,768 bytes",
+    "tree: 32,768 as the sum of name lengths",
     "tree: no record",
     "tree: a struct key",
     "tree: a list or map key",
@@ -75,6 +92,10 @@ pub const SHAPES: &[&str] = &[
     "tree: a negative id",
     "tree: id -1",
     "tree: names that share pool bytes",
+    "tree: 2 for the records",
+    "tree: 2 for the pool",
+    "tree: 2 for the sum of name lengths",
+    "tree: 2 for a list that is not whole",
     "tree: 5 for level 17",
     "tree: 5 for counts past the end",
 ];
@@ -100,6 +121,7 @@ pub fn shapes_of(case: &Case, answer: &Answer) -> Vec<&'static str> {
             met("renumber: accepted", true);
             met("renumber: with identifiers", !identifiers.is_empty());
             met("renumber: an identifier twice", twice(identifiers.chunks(4)));
+            met("renumber: 64 identifiers", identifiers.len() == MOST_IDENTIFIERS * ID_BYTES);
             let last = i64::from(*start) + tree.rows.len() as i64;
             met("renumber: up to the edge", last == i64::from(i32::MAX));
         }
@@ -125,10 +147,42 @@ fn twice<T: PartialEq>(row: impl Iterator<Item = T>) -> bool {
     row.iter().enumerate().any(|(at, one)| row[..at].contains(one))
 }
 
+/// The sum of the length bytes.
+fn name_sum(records: &[u8]) -> usize {
+    records.chunks_exact(RECORD_BYTES).map(|record| usize::from(record[8])).sum()
+}
+
+/// Which limits a case passes, so that it is refused with 2.
+fn limit_shapes(case: &Case, met: &mut impl FnMut(&'static str, bool)) {
+    let past = |list: &[u8], unit: usize, most: usize| list.len() > most * unit;
+    let grown = |records: &[u8]| past(records, RECORD_BYTES, MOST_RECORDS);
+    met("tree: 2 for the records", grown(&case.records));
+    met("tree: 2 for the pool", case.pool.len() > POOL_BYTES);
+    met("tree: 2 for the sum of name lengths", name_sum(&case.records) > NAME_SUM);
+    met("tree: 2 for a list that is not whole", !case.records.len().is_multiple_of(RECORD_BYTES));
+    match &case.ask {
+        Ask::Update { identifiers, deletions, additions, added_records, request_pool, .. } => {
+            met("update: 2 for identifiers", past(identifiers, ID_BYTES, MOST_IDENTIFIERS));
+            met("update: 2 for deletions", past(deletions, ENTRY_BYTES, MOST_DELETIONS));
+            met("update: 2 for additions", past(additions, ENTRY_BYTES, MOST_ADDITIONS));
+            met("update: 2 for the additions tree", grown(added_records));
+            met("update: 2 for the request pool", request_pool.len() > POOL_BYTES);
+        }
+        Ask::Prune { selected, .. } => {
+            met("prune: 2 for the ids chosen", past(selected, ID_BYTES, MOST_SELECTED));
+        }
+        Ask::Renumber { identifiers, .. } => {
+            met("renumber: 2 for identifiers", past(identifiers, ID_BYTES, MOST_IDENTIFIERS));
+        }
+        _ => {}
+    }
+}
+
 /// Of refusals with more than one ground, which it was.
 fn refused_shapes(case: &Case, refusal: Refusal, met: &mut impl FnMut(&'static str, bool)) {
     let past = |records: &[u8]| refusal.place as usize == records.len() / RECORD_BYTES;
     match (&case.ask, refusal.number, refusal.list) {
+        (_, 2, _) => limit_shapes(case, met),
         (_, 5, judge::BASE) => {
             met("tree: 5 for level 17", !past(&case.records));
             met("tree: 5 for counts past the end", past(&case.records));
@@ -161,6 +215,8 @@ fn tree_shapes(case: &Case, tree: &Tree, met: &mut impl FnMut(&'static str, bool
     met("tree: 1,024 records", rows.len() == MOST_RECORDS);
     met("tree: more than 900 records", rows.len() > 900);
     met("tree: no record", rows.is_empty());
+    met("tree: a pool of 32,768 bytes", case.pool.len() == POOL_BYTES);
+    met("tree: 32,768 as the sum of name lengths", name_sum(&case.records) == NAME_SUM);
     met("tree: a struct key", any(&|row| row.kind == MAP && child(row, 0) == STRUCT));
     met("tree: a list or map key", any(&|row| row.kind == MAP && child(row, 0) >= LIST));
     met("tree: a list in a list", any(&|row| row.kind == LIST && child(row, 0) == LIST));
@@ -182,8 +238,7 @@ fn tree_shapes(case: &Case, tree: &Tree, met: &mut impl FnMut(&'static str, bool
     );
     met("tree: a negative id", any(&|row| row.id < 0));
     met("tree: id -1", any(&|row| row.id == -1));
-    let sum: usize = rows.iter().map(|row| row.name.len()).sum();
-    met("tree: names that share pool bytes", sum > case.pool.len());
+    met("tree: names that share pool bytes", name_sum(&case.records) > case.pool.len());
 }
 
 fn ids_in(records: &[u8]) -> Vec<i32> {
@@ -210,12 +265,23 @@ fn update_shapes(
     answer: &Answer,
     met: &mut impl FnMut(&'static str, bool),
 ) {
-    let Ask::Update { identifiers, last_id, added_records, .. } = &case.ask else { return };
+    let Ask::Update {
+        identifiers, last_id, deletions, additions, added_records, request_pool, ..
+    } = &case.ask
+    else {
+        return;
+    };
     let Answer::Updated { records, last_id: consumed, .. } = answer else { return };
     let (before, after) = (ids_in(&case.records), ids_in(records));
     met("update: accepted", true);
     met("update: with identifiers", !identifiers.is_empty());
     met("update: an identifier twice", twice(identifiers.chunks(4)));
+    met("update: 64 identifiers", identifiers.len() == MOST_IDENTIFIERS * ID_BYTES);
+    met("update: 64 deletions", deletions.len() == MOST_DELETIONS * ENTRY_BYTES);
+    met("update: 64 additions", additions.len() == MOST_ADDITIONS * ENTRY_BYTES);
+    let most = MOST_RECORDS * RECORD_BYTES;
+    met("update: an additions tree of 1,024 records", added_records.len() == most);
+    met("update: a request pool of 32,768 bytes", request_pool.len() == POOL_BYTES);
     met("update: an empty tree", after.is_empty());
     let given = i64::from(*last_id) + 1..=i64::from(*consumed);
     let fresh = |id: &i32| given.contains(&i64::from(*id));
@@ -293,6 +359,7 @@ fn prune_shapes(
     met("prune: full mode", *full != 0 && kept > 0);
     met("prune: not in full mode", *full == 0 && kept > 0);
     met("prune: an id chosen twice", twice(selected.chunks(4)));
+    met("prune: 1,024 ids chosen", selected.len() == MOST_SELECTED * ID_BYTES);
     let panics = judge::prune_where_rust_panics(&case.records, &case.pool, selected, *full);
     met("prune: Rust panics at the root", panics == Some(Unwrap::Root));
     met("prune: Rust panics at a map's value", panics == Some(Unwrap::Value));

@@ -403,14 +403,14 @@ fn make_identifiers(random: &mut Random, nodes: &mut [Node], ids: &mut Vec<i32>)
     any
 }
 
-/// A tree of so many records, with distinct ids and names.
-pub fn sized(random: &mut Random, records: usize) -> Vec<Node> {
+/// A tree of so many records and at most so many levels, with distinct ids and names.
+pub fn sized(random: &mut Random, records: usize, levels: usize) -> Vec<Node> {
     let mut roots = vec![];
     let mut left = records;
     while left > 0 {
         let most = left.min(40);
         let mut part = most;
-        let mut root = column(random, None, LEVELS, &mut part, 2);
+        let mut root = column(random, None, levels, &mut part, 2);
         root.name = format!("column_{}", roots.len()).into_bytes();
         left -= most - part;
         roots.push(root);
