@@ -106,7 +106,7 @@ pub +seek-spec : {M : Type 1} → statement M
     (λ c κs. search needs)  -- seek-first-role-requires
     (λ c κs. (level-falls _ _ (c .before .before .before .before .before .before .before .before .before .before .before .before .before .before .before .before .before .before .before .pre .0) (c .before .before .before .before .before .before .before .before .before .before .before .before .if2 .left), ((let z = c .before .before .before .before .before .before .before .before .before .if3 .left in rw (add-one _) z), c .before .before .before .before .before .before .before .before .before .before .before .before .before .before .before .before .before .before .before .pre .1 .1)))  -- seek-seek-requires
     (λ c. search needs)  -- seek-enum-known-k
-    (λ c. turn-found _ _ _ _ _ _ _ _ _ _ _ _ _ _ _ _ _ _ _ _ (c .before .before .before .before .before .before .before .before .before .before .before .before .before .before .before .before .if2 .left) (c .before .before .before .before .before .before .before .before .before .before .before .before .before .before .loop-test .taken) (c .before .before .before .before .before .before .before .before .before .before .before .before .before .if3 .left) (c .before .before .before .before .before .before .before .before .before .before .before .before .before .before .before .before .before .if1 .left) (c .before .before .before .before .before .before .before .before .before .before .before .wide .ensures) (c .before .before .before .before .before .before .before .before .before .before .kind-of .ensures) (c .before .before .before .before .before .before .before .before .before .name-of .ensures) (c .before .before .before .before .before .before .before .before .fit .ensures) (c .before .before .before .before .before .before .before .skips .ensures) (c .before .before .before .before .before .before .deeper .ensures) (c .before .before .before .before .first-role .ensures) (c .before .before .before .before .before .own-place .ensures) (c .before .before .before .seek .ensures) _ (c .before .before .before .before .before .before .before .before .before .before .before .before .before .before .before .loop .inv) _ (c .before .k .given .1))  -- seek-returns-4
+    (λ c. search (turn-found _ _ _ _ _ _ _ _ _ _ _ _ _ _ _ _ _ _ _ _ (c .before .before .before .before .before .before .before .before .before .before .before .before .before .before .before .before .if2 .left) (c .before .before .before .before .before .before .before .before .before .before .before .before .before .before .loop-test .taken) (c .before .before .before .before .before .before .before .before .before .before .before .before .before .if3 .left) (c .before .before .before .before .before .before .before .before .before .before .before .before .before .before .before .before .before .if1 .left) (c .before .before .before .before .before .before .before .before .before .before .before .wide .ensures) (c .before .before .before .before .before .before .before .before .before .before .kind-of .ensures) (c .before .before .before .before .before .before .before .before .before .name-of .ensures) (c .before .before .before .before .before .before .before .before .fit .ensures) (c .before .before .before .before .before .before .before .skips .ensures) (c .before .before .before .before .before .before .deeper .ensures) (c .before .before .before .before .first-role .ensures) (c .before .before .before .before .before .own-place .ensures) (c .before .before .before .seek .ensures) _ (c .before .before .before .before .before .before .before .before .before .before .before .before .before .before .before .loop .inv) _ (c .before .k .given .1), needs))  -- seek-returns-4
     (λ c. search needs)  -- seek-enum-known-next
     (λ c κs. search needs)  -- seek-is-late-requires
     (λ c κs. search needs)  -- seek-takes-requires

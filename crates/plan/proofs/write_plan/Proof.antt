@@ -21,7 +21,7 @@ write-plan-spec =
     (tie.spec
     Inv-loop
     μ-loop
-    (λ c. write-starts _ _ _ _ _)  -- loop-holds
+    (λ c. search (write-starts, needs))  -- loop-holds
     (λ c. search needs)  -- mul-source
     (λ c. search needs)  -- element-copy-out-source
     (λ c. search needs)  -- mul-put-record

@@ -223,7 +223,7 @@ pub +project-field+project-fields+project-list+project-map+project-selected-stru
     (λ c. search (single, planning, needs))  -- project-field-returns-2
     (λ c. search (single, planning, needs))  -- project-field-add-project-type
     (λ c κs. search (single, planning, needs))  -- project-field-project-type-requires
-    (λ c. field-nothing _ _ _ _ _ _ (c .before .before .before .before .before .before .before .before .before .pre .1) _ refl (c .before .before .before .before .before .before .if1 .left) _ _ _ _ _ _ _ (c .before .before .project-type .ensures) (c .if3 .taken))  -- project-field-returns-3
+    (λ c. field-nothing _ _ _ _ _ _ (c .before .before .before .before .before .before .before .before .before .pre .1) _ refl (c .before .before .before .before .before .before .if1 .left) _ _ _ _ _ _ _ (c .before .before .project-type .ensures) (search needs))  -- project-field-returns-3
     (λ c κs. search (single, planning, needs))  -- project-field-put-record-requires
     (λ c. field-yields _ _ _ _ _ _ (c .before .before .before .before .before .before .before .before .before .before .before .before .before .pre .1) _ refl (c .before .before .before .before .before .before .before .before .before .before .if1 .left) _ _ _ _ _ _ _ (c .before .before .before .before .before .before .project-type .ensures) _ _ _ _ (c .before .before .before .before .if3 .left) (c .put-record .ensures))  -- project-field-returns-4
     )

@@ -22,5 +22,5 @@ put-record-spec =
     (λ c. search needs)  -- cast-kids
     (λ c. search needs)  -- mul-kids
     (λ c. search needs)  -- element-write-kids
-    (λ c. record { step = refl; slots = refl; ids = cc; kids = refl })  -- returns
+    (λ c. record { step = search needs; slots = refl; ids = cc; kids = refl })  -- returns
     )
