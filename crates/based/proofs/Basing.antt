@@ -1,8 +1,8 @@
 -- The base is a plan of itself (plan's `base-plan`), so its index answers for the tree that it decodes to. `search basing`.
-use mathlib.Core.Path.{_≡_, refl, sym, ap, subst, _∙_}
-use mathlib.Core.Bool.{Bool, true, false, true≢false}
+use mathlib.Core.Path.{_≡_, refl, sym, ap, _∙_}
+use mathlib.Core.Bool.{true, true≢false}
 use mathlib.Core.List.{List}
-use Prim.Native.Nat.{ℕ, _+_, _*_, _/_, _≤_, _<_}
+use Prim.Native.Nat.{ℕ, _*_, _≤_}
 use native.Mathlib.Omega.{arith}
 use lib.ListN.{length}
 use Rattle.paper.specs.Answer.{Answer, ok, refused}
@@ -11,15 +11,13 @@ use Rattle.paper.specs.Field.{Field}
 use Rattle.paper.specs.Bytes.{slots}
 use Rattle.paper.specs.Decode.{decode}
 use Rattle.paper.specs.Sound.{ids}
-use Rattle.laws.proofs.Basics.{ok-is}
 use Rattle.laws.proofs.Fitting.{sized-slots}
 use Rattle.record.specs.declared.Check.{Check}
 use Rattle.tree.specs.Read.{fine}
-use Rattle.plan.specs.Plan.{lent, kids-in, plan-fields, Plan}
+use Rattle.plan.specs.Plan.{lent, Plan}
 use Rattle.plan.specs.Sources.{Taken}
 use Rattle.plan.proofs.Taking.{Based, base-plan}
-use Rattle.chain.specs.Ids.{id-in, ids-in}
-use Rattle.index.specs.Index.{Rooms, Indexing}
+use Rattle.index.specs.Index.{Indexing}
 use Rattle.index.proofs.Rows.{plan-is}
 use Rattle.index.proofs.Looking.{ids-in-order}
 use Rattle.based.specs.Based.{Readable, BaseIndexed}

@@ -7,7 +7,6 @@ use mathlib.Core.Option.{Option, none, some}
 use native.Mathlib.Omega.{arith}
 use Rattle.paper.specs.Answer.{Answer, ok, refused}
 use Rattle.paper.specs.Rows.{Row}
-use Rattle.paper.specs.Bytes.{slots}
 use lib.ListN.{length}
 use Rattle.paper.specs.Entries.{Result, find-name, find-id, find-parent, prune-entry, renumber-entry}
 use Rattle.paper.specs.Outcome.{found, changed}

@@ -2,23 +2,22 @@
 use mathlib.Core.Path.{_≡_, refl, sym, ap, _∙_}
 use mathlib.Core.Logic.{_⊎_, inl, inr}
 use mathlib.Core.Bool.{Bool, true, false, not}
-use mathlib.Core.List.{List, []}
-use mathlib.Core.Option.{Option, none, some}
-use Prim.Native.Nat.{ℕ, zero, suc, _+_, _-_, _*_, _/_, _%_, _<_, _≤_}
+use mathlib.Core.List.{List}
+use mathlib.Core.Option.{none}
+use Prim.Native.Nat.{ℕ, _+_, _-_, _*_, _/_, _%_, _<_, _≤_}
 use native.Mathlib.Omega.{arith}
-use borrow.Author.Tests.{eqb-true, eq-eqb, ne-eqb, not-true, not-false}
+use borrow.Author.Tests.{eqb-true, eq-eqb, ne-eqb}
 use lib.Dec.{eqb}
 use lib.ListN.{length, getD, set, length-set}
 use lib.Seq.{getD-set-same, getD-set-other}
-use Rattle.paper.specs.Answer.{among, any, lowest, place-of, repeated}
-use Rattle.paper.specs.Bytes.{turned, from, word32}
+use Rattle.paper.specs.Answer.{among, lowest}
+use Rattle.paper.specs.Bytes.{turned, word32}
 use Rattle.paper.specs.Lists.{id-at, id-list}
 use Rattle.laws.proofs.Words.{turned-twice}
-use Rattle.record.specs.declared.Check.{Check}
 use Rattle.record.specs.declared.Check.the-variants.{Fine, Refused}
 use Rattle.record.specs.Says.{tested, refusal-of}
 use Rattle.record.proofs.Lowest.{look-starts, look-goes, look-stops, look-ends}
-use Rattle.chain.specs.Chain.{last, pick, lowest-below, Chained, Cleared, Entered}
+use Rattle.chain.specs.Chain.{pick, lowest-below, Chained, Cleared, Entered}
 use Rattle.chain.specs.Ids.{bucket-of, id-in, id-bucket, is-id, new-id, ids-in, rule-7, rule-9, Indexed}
 use Rattle.chain.proofs.Chains.{Left, eqb-cases, chain-starts, chain-goes, chain-falls, chain-ends, chain-enters, chain-fresh}
 use Rattle.chain.proofs.Repeats.{repeats, any-found, place-lowest}

@@ -1,21 +1,20 @@
 -- A chosen id marks the one slot that has it, and an unknown one none. `search marking`.
-use Prim.Native.Nat.{ℕ, zero, suc, _+_, _-_, _*_, _/_, _≤_, _<_}
-use mathlib.Core.Path.{_≡_, refl, sym, ap, subst, _∙_}
+use Prim.Native.Nat.{ℕ, zero, suc, _+_, _-_, _/_, _≤_, _<_}
+use mathlib.Core.Path.{_≡_, refl, sym, ap, _∙_}
 use mathlib.Core.Bool.{Bool, true, false, _||_}
-use mathlib.Core.List.{List, []}
-use mathlib.Core.Option.{Option, none, some}
+use mathlib.Core.List.{List}
 use native.Mathlib.Nat.{zero-add}
 use native.Mathlib.Omega.{arith}
 use lib.Dec.{eqb}
 use lib.ListN.{length, getD, set, length-set}
 use lib.Seq.{getD-set-same, getD-set-other}
 use borrow.Author.Tests.{eqb-true, eqb-false, eq-eqb, ne-eqb}
-use Rattle.paper.specs.Answer.{any, among, place-of, repeated}
-use Rattle.paper.specs.Bytes.{word32, turned, from}
+use Rattle.paper.specs.Answer.{any, place-of}
+use Rattle.paper.specs.Bytes.{turned, from}
 use Rattle.paper.specs.Lists.{id-at, id-list}
 use Rattle.laws.proofs.Finding.{place-none, place-some, any-more, one-place, eqb-flip}
-use Rattle.chain.specs.Chain.{lowest-below, Chained}
-use Rattle.chain.specs.Ids.{id-in, ids-in, is-id, id-bucket}
+use Rattle.chain.specs.Chain.{lowest-below}
+use Rattle.chain.specs.Ids.{id-in, is-id}
 use Rattle.chain.proofs.Repeats.{slot-at, found-below}
 use Rattle.prune_columns.specs.Projected.{marked}
 use Rattle.chosen.specs.Marks.{mark-at, Unmarked, Distinct-ids, Marks}

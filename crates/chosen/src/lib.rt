@@ -3,7 +3,6 @@ use chain::find_id;
 use lists::id_at;
 ghost use mathlib.Core.Path.{_≡_};
 ghost use Prim.Native.Nat.{_≤_};
-ghost use lib.ListN.{length};
 ghost use Rattle.chain.specs.Chain.{Chained};
 ghost use Rattle.chain.specs.Ids.{id-bucket};
 ghost use Rattle.chosen.specs.Marks.{mark-at, Unmarked, Distinct-ids, Marks};

@@ -1,15 +1,14 @@
 -- A deletion: the look-up's id is the row's, and the set gets it.
-use Prim.Native.Nat.{ℕ, suc, _+_, _-_, _*_, _/_, _<_, _≤_}
+use Prim.Native.Nat.{ℕ, _+_, _-_, _/_, _<_, _≤_}
 use mathlib.Core.Path.{_≡_, refl, sym, ap, _∙_}
 use mathlib.Core.Bool.{Bool, true, false, _||_}
-use mathlib.Core.List.{List, [], _∷_}
+use mathlib.Core.List.{List}
 use mathlib.Core.Option.{Option, none, some}
 use native.Mathlib.Omega.{arith}
 use borrow.Author.Tests.{eq-eqb, ne-eqb}
 use lib.Dec.{eqb}
-use lib.ListN.{length, getD, drop}
-use lib.Seq.{drop-cons}
-use Rattle.paper.specs.Answer.{Answer, ok, refused, _>>=_, among}
+use lib.ListN.{length}
+use Rattle.paper.specs.Answer.{_>>=_, among}
 use Rattle.paper.specs.Rows.{Row}
 use Rattle.paper.specs.Bytes.{turned, from}
 use Rattle.paper.specs.Lists.{id-at, id-list}

@@ -1,17 +1,14 @@
 -- Under a parent: the row that the path finds is the record at its slot, so its receiver is the struct that the step leads to.
-use Prim.Native.Nat.{ℕ, _+_, _<_}
-use mathlib.Core.Path.{_≡_, refl, sym, ap, subst, _∙_}
-use mathlib.Core.Bool.{Bool, true, false, not, _&&_}
+use Prim.Native.Nat.{ℕ, _+_}
+use mathlib.Core.Path.{_≡_, refl, sym, _∙_}
+use mathlib.Core.Bool.{true}
 use mathlib.Core.List.{List}
 use mathlib.Core.Option.{Option, none, some}
-use native.Mathlib.Omega.{arith}
-use lib.ListN.{length}
-use Rattle.paper.specs.Answer.{Answer, ok, refused, _>>=_, among}
-use Rattle.paper.specs.Field.{Field}
+use Rattle.paper.specs.Answer.{_>>=_}
 use Rattle.paper.specs.Rows.{Row}
-use Rattle.paper.specs.Bytes.{turned, rec-at, kind-at, kids-at, field-at, ok-bytes}
+use Rattle.paper.specs.Bytes.{kids-at, field-at, ok-bytes}
 use Rattle.paper.specs.Decode.{fields}
-use Rattle.paper.specs.Update.{Receiver, receiver, member-taken}
+use Rattle.paper.specs.Update.{receiver}
 use Rattle.tree.specs.Read.{part}
 use Rattle.record.specs.declared.FieldId.{FieldId}
 use Rattle.record.specs.declared.Slot.{Slot}
@@ -20,7 +17,7 @@ use Rattle.record.specs.declared.Found.the-variants.{At, Nothing}
 use Rattle.record.specs.Says.{found-row, refusal-of}
 use Rattle.parents.specs.declared.Target.{Target}
 use Rattle.parents.specs.declared.Target.the-variants as target
-use Rattle.parents.specs.Target.{receiving, targeted, members-at, receiver-at, Standing, Stands}
+use Rattle.parents.specs.Target.{receiving, targeted, receiver-at, Standing, Stands}
 use Rattle.parents.proofs.Receiving.{receiver-is, receiving-stands}
 use Rattle.decide.specs.declared.Going.{Going}
 use Rattle.decide.specs.declared.Going.the-variants as going

@@ -1,19 +1,19 @@
 -- An addition: its own name and flags, the place that it goes to, its ids.
-use Prim.Native.Nat.{ℕ, suc, _+_, _-_, _*_, _%_, _<_, _≤_}
+use Prim.Native.Nat.{ℕ, suc, _+_, _*_, _%_, _<_, _≤_}
 use mathlib.Core.Path.{_≡_, refl, sym, ap, _∙_}
-use mathlib.Core.Bool.{Bool, true, false, not, _||_, _&&_, cond}
-use mathlib.Core.List.{List, [], _∷_}
+use mathlib.Core.Bool.{Bool, true, false, _||_}
+use mathlib.Core.List.{List}
 use mathlib.Core.Option.{Option, none, some}
 use native.Mathlib.Omega.{arith}
 use native.Mathlib.Numerals.{add-one}
 use borrow.Author.Tests.{eq-eqb, ne-eqb, lt-ltb, le-ltb}
-use lib.Dec.{eqb, ltb}
+use lib.Dec.{eqb}
 use lib.ListN.{length, getD, drop}
 use lib.Seq.{drop-cons, drop-length}
-use Rattle.paper.specs.Answer.{Answer, ok, refused, _>>=_, among}
+use Rattle.paper.specs.Answer.{_>>=_, among}
 use Rattle.paper.specs.Rows.{Row}
 use Rattle.paper.specs.Bytes.{turned, rec-at, name-of}
-use Rattle.paper.specs.Update.{root-taken, member-taken}
+use Rattle.paper.specs.Update.{member-taken}
 use Rattle.laws.proofs.Words.{turned-twice}
 use Rattle.record.specs.declared.FieldId.{FieldId}
 use Rattle.record.specs.declared.Slot.{Slot}

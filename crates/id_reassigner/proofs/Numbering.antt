@@ -8,7 +8,7 @@ use native.Mathlib.Omega.{arith}
 use lib.ListN.{length, set, length-append}
 use lib.Seq.{sets}
 use Rattle.paper.specs.declared.Kind.{Kind}
-use Rattle.paper.specs.Forest.{Forest, empty, node, size, siblings, preorder}
+use Rattle.paper.specs.Forest.{Forest, empty, node, size, preorder}
 use Rattle.paper.specs.Field.{is-map}
 use Rattle.paper.specs.Bytes.{turned, kind-at, kids-at, slots}
 use Rattle.paper.specs.Layout.{Part, before}

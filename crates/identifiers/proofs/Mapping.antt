@@ -1,25 +1,23 @@
 -- Each identifier stands at the place that the index finds, and its four bytes go behind those of the earlier ones. `search mapping`.
-use Prim.Native.Nat.{ℕ, zero, suc, _+_, _-_, _*_, _/_, _%_, _≤_, _<_}
+use Prim.Native.Nat.{ℕ, zero, suc, _+_, _-_, _*_, _/_, _≤_, _<_}
 use mathlib.Core.Path.{_≡_, refl, sym, ap, _∙_}
 use mathlib.Core.Bool.{Bool, true, false, not}
-use mathlib.Core.List.{List, [], _∷_, _++_, map}
-use mathlib.Core.Option.{Option, none, some}
+use mathlib.Core.List.{List, [], _∷_, _++_}
+use mathlib.Core.Option.{some}
 use native.Mathlib.Nat.{zero-add}
 use native.Mathlib.Omega.{arith}
-use borrow.Author.Tests.{not-true}
 use lib.Dec.{eqb}
-use lib.ListN.{length, getD, length-append}
+use lib.ListN.{length, getD}
 use lib.Seq.{sets, length-sets}
 use Rattle.paper.specs.Answer.{any, among, place-of}
 use Rattle.paper.specs.Bytes.{turned, from}
 use Rattle.paper.specs.Lists.{id-at, id-list}
 use Rattle.paper.specs.Encode.{bytes32, id-bytes}
 use Rattle.paper.specs.Renumber.{renamed}
-use Rattle.laws.proofs.Basics.{none≢some}
 use Rattle.laws.proofs.Runs.{sets-append, map-from, from-append}
 use Rattle.laws.proofs.Words.{turned-twice}
 use Rattle.laws.proofs.Finding.{place-none, place-some, renamed-at}
-use Rattle.chain.specs.Chain.{lowest-below, Chained}
+use Rattle.chain.specs.Chain.{lowest-below}
 use Rattle.chain.specs.Ids.{id-in, ids-in, is-id}
 use Rattle.chain.proofs.Repeats.{slot-at, found-below, any-found}
 use Rattle.identifiers.specs.Mapped.{Mappable, Mapped}

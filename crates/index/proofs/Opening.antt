@@ -30,7 +30,7 @@ use Rattle.tree.specs.declared.Shaped.the-variants as shaped
 use Rattle.tree.specs.Says.{decoded}
 use Rattle.tree.specs.Only.{only-read}
 use Rattle.tree.proofs.Deciding.{decode-refused, decode-ok}
-use Rattle.plan.specs.Plan.{Lent, lent, plan-fields, Plan}
+use Rattle.plan.specs.Plan.{lent, plan-fields, Plan}
 use Rattle.plan.specs.Sources.{Taken}
 use Rattle.plan.proofs.Taking.{Based, base-plan}
 use Rattle.index.specs.Index.{Indexing, Opened, ById, ByParent}

@@ -2,10 +2,10 @@
 use mathlib.Core.Path.{_≡_, refl, sym, ap, _∙_}
 use mathlib.Core.Bool.{not}
 use mathlib.Core.List.{List, [], map}
-use Prim.Native.Nat.{ℕ, _<_, _≤_}
+use Prim.Native.Nat.{ℕ}
 use native.Mathlib.Omega.{arith}
 use lib.Dec.{eqb}
-use lib.ListN.{length, getD}
+use lib.ListN.{length}
 use lib.Seq.{length-sets}
 use Rattle.paper.specs.Answer.{Answer, _>>=_, fault, among, place-of, repeated, same}
 use Rattle.paper.specs.Lists.{id-list}
@@ -16,14 +16,13 @@ use Rattle.record.specs.declared.Check.the-variants.{Fine, Refused}
 use Rattle.record.specs.Says.{tested, checked}
 use Rattle.record.proofs.Testing.{tested-fault, chain-goes, chain-stops}
 use Rattle.plan.specs.Plan.{Lent, kids-in, plan-fields, Plan}
-use Rattle.chain.specs.Chain.{Chained}
-use Rattle.chain.specs.Ids.{ids-in, id-bucket, rule-7, rule-9, Indexed}
+use Rattle.chain.specs.Ids.{ids-in, rule-7, rule-9, Indexed}
 use Rattle.names.specs.Walk.{walk, trees-of}
 use Rattle.names.specs.Hash.{hash-on, hash-of}
 use Rattle.names.specs.Full.{fulls, ups}
-use Rattle.names.specs.Told.{name-in, Sources, Marked, Spelt, Hashed, name-bucket, rule-8, Unequal}
+use Rattle.names.specs.Told.{name-in, Sources, Marked, Spelt, Hashed, rule-8, Unequal}
 use Rattle.names.proofs.Telling.{ups-told, names-told, hashes-told, fulls-are}
-use Rattle.index.specs.Index.{Rooms, Raised, Index, NamesIndexed, Indexing}
+use Rattle.index.specs.Index.{Raised, NamesIndexed, Indexing}
 use Rattle.index.proofs.Rows.{plan-is}
 use Rattle.index.proofs.Looking.{ids-in-order, names-in-order}
 

@@ -16,7 +16,7 @@ use Rattle.paper.specs.Entries.{Result}
 use Rattle.paper.specs.Outcome.{changed, leaves, out-records, out-names}
 use Rattle.laws.proofs.Basics.{none≢some, some-is}
 use Rattle.laws.proofs.RoundTrip.{length-written}
-use Rattle.theorems.specs.One.{Told, accepted, turned-down}
+use Rattle.theorems.specs.One.{Told, turned-down}
 use Rattle.theorems.specs.Stored.{Stored, Lent, next-stored, update-stored, run-stored, BeginsStored, LastingStored}
 use Rattle.theorems.proofs.Promises.{runs-last-stored, refusals-are-told}
 use Rattle.record.specs.declared.Sizes.{Sizes}

@@ -1,9 +1,9 @@
 -- What holds of each record of a forest; maps and rebuilds that agree on each record agree.
-use Prim.Native.Nat.{ℕ, suc, _+_, _<_, _≤_}
-use mathlib.Core.Path.{_≡_, refl, sym, ap, ap₂, _∙_}
+use Prim.Native.Nat.{ℕ, suc, _+_, _<_}
+use mathlib.Core.Path.{_≡_, refl, ap, ap₂, _∙_}
 use mathlib.Core.Bool.{Bool, true, false, _&&_, cond}
 use mathlib.Core.List.{List, [], _∷_}
-use mathlib.Core.Option.{Option, none, some}
+use mathlib.Core.Option.{Option, some}
 use Rattle.paper.specs.declared.Kind.{Kind}
 use Rattle.paper.specs.Answer.{among}
 use Rattle.paper.specs.Forest.{Forest, empty, node, size, mapped, _then_}

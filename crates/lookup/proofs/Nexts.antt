@@ -1,5 +1,5 @@
 -- Where a row ends, by a loop over its trees: what is left ends where the whole ends.
-use mathlib.Core.Path.{_≡_, refl, sym, ap, _∙_}
+use mathlib.Core.Path.{_≡_, sym, ap, _∙_}
 use Prim.Native.Nat.{ℕ, _+_, _-_, _<_, _≤_}
 use Rattle.paper.specs.Layout.{Part}
 use Rattle.names.specs.Walk.{walk}

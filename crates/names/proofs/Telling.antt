@@ -5,14 +5,13 @@ use mathlib.Core.Logic.{⊎-elim}
 use mathlib.Core.List.{List, [], _∷_, _++_, map, append-assoc}
 use Prim.Native.Nat.{ℕ, zero, suc, _+_, _-_, _<_, _≤_}
 use native.Mathlib.Nat.{add-zero, zero-add}
-use native.Mathlib.Numerals.{add-one}
 use native.Mathlib.Omega.{arith}
-use lib.ListN.{length, getD, length-append, length-map, List·getD-append, List·getD-map}
-use lib.Seq.{sets, getD-append-add, getD-append-seam, ext-getD}
+use lib.ListN.{length, getD, length-map, List·getD-append, List·getD-map}
+use lib.Seq.{sets, getD-append-add}
 use Rattle.paper.specs.Bytes.{from}
 use Rattle.paper.specs.Forest.{Forest, empty, node, size}
 use Rattle.paper.specs.Rows.{dotted}
-use Rattle.laws.proofs.Runs.{getD-sets, length-from}
+use Rattle.laws.proofs.Runs.{getD-sets}
 use Rattle.tree.proofs.Filled.{lt-or-le}
 use Rattle.plan.specs.Plan.{Lent}
 use Rattle.names.specs.Walk.{walk, trees-of}

@@ -1,5 +1,5 @@
 -- What the arrays of an index tell of the full names of m planned records.
-use Prim.Native.Nat.{ℕ, suc, _+_, _<_, _≤_}
+use Prim.Native.Nat.{ℕ, _+_, _<_, _≤_}
 use mathlib.Core.Path.{_≡_}
 use mathlib.Core.Bool.{Bool}
 use mathlib.Core.List.{List, [], map}
@@ -15,7 +15,7 @@ use Rattle.record.specs.Says.{tested}
 use Rattle.plan.specs.Plan.{Lent, source-field, Sits}
 use Rattle.chain.specs.Chain.{Chained, new-at}
 use Rattle.chain.specs.Ids.{bucket-of}
-use Rattle.names.specs.Hash.{hash-on, hash-of}
+use Rattle.names.specs.Hash.{hash-of}
 use Rattle.names.specs.Full.{fulls, ups, full-at}
 
 -- The name of the planned record at a place, and its kind.

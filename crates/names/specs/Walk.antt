@@ -1,7 +1,7 @@
 -- The trees of a row as far as there are levels and records, so that a walk over a plan needs no count of the roots: m roots are
 -- enough. Where refusal 5 has been tested this is the row that is read.
 use Prim.Native.Nat.{ℕ, zero, suc}
-use mathlib.Core.Bool.{Bool, true, false}
+use mathlib.Core.Bool.{true, false}
 use lib.Dec.{ltb}
 use Rattle.paper.specs.Forest.{Forest}
 use Rattle.paper.specs.Layout.{Part, nothing, before}

@@ -5,7 +5,7 @@ use Prim.Native.Nat.{ℕ, _+_}
 use Rattle.paper.specs.declared.Kind.{Kind}
 use Rattle.paper.specs.declared.Kind.the-variants.{Primitive, Structure, Mapping}
 use Rattle.paper.specs.Answer.{Answer, ok, refused, _>>=_}
-use Rattle.paper.specs.Forest.{Forest, empty, node, size, siblings, levels, preorder, mapped, _then_}
+use Rattle.paper.specs.Forest.{empty, node, size, siblings, levels, preorder, mapped, _then_}
 use Rattle.paper.specs.Rows.{rows, entered, look-name}
 use Rattle.paper.specs.Sound.{text, names, ids, sound, name-bytes, within}
 use Rattle.paper.specs.Renumber.{level, numbered}

@@ -1,21 +1,18 @@
 -- Members one after the other: what is left of them tells whether the name is taken.
-use Prim.Native.Nat.{ℕ, zero, suc, _+_, _-_, _*_, _≤_, _<_}
+use Prim.Native.Nat.{ℕ, _+_, _-_, _≤_, _<_}
 use mathlib.Core.Path.{_≡_, refl, sym, ap, _∙_}
 use mathlib.Core.Bool.{Bool, true, false, not, _&&_, cond}
 use mathlib.Core.List.{List}
-use mathlib.Core.Option.{Option, none, some}
 use native.Mathlib.Omega.{arith}
-use Rattle.paper.specs.Answer.{among, same, lowest}
-use Rattle.paper.specs.Forest.{Forest, empty, node, mapped}
-use Rattle.paper.specs.Field.{Field}
-use Rattle.paper.specs.Bytes.{turned, rec-at, kids-at, name-of, in-pool, field-at}
-use Rattle.paper.specs.Layout.{Part, nothing, before}
+use Rattle.paper.specs.Answer.{among, same}
+use Rattle.paper.specs.Forest.{mapped}
+use Rattle.paper.specs.Bytes.{turned, rec-at, kids-at, name-of, field-at}
+use Rattle.paper.specs.Layout.{Part}
 use Rattle.paper.specs.Decode.{fields}
 use Rattle.paper.specs.Update.{member-taken}
-use Rattle.laws.proofs.Fitting.{lowest-none}
 use Rattle.tree.specs.Read.{part, reads}
 use Rattle.tree.proofs.Steps.{part-none}
-use Rattle.rebuild.specs.Planned.{Readable, Inside}
+use Rattle.rebuild.specs.Planned.{Inside}
 use Rattle.parents.specs.Target.{members-at, Standing}
 use Rattle.parents.proofs.Receiving.{First, first-of}
 

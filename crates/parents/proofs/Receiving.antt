@@ -1,29 +1,26 @@
 -- The struct that receives an addition, by slots, is the paper's: a list has one member, a map two, and what was read stands there.
-use Prim.Native.Nat.{ℕ, zero, suc, _+_, _-_, _*_, _≤_, _<_}
+use Prim.Native.Nat.{ℕ, zero, suc, _+_, _-_, _≤_, _<_}
 use mathlib.Core.Path.{_≡_, refl, sym, ap, subst, _∙_}
 use mathlib.Core.Bool.{Bool, true, false, _&&_, _||_, cond}
 use mathlib.Core.List.{List}
-use mathlib.Core.Option.{Option, none, some}
-use native.Mathlib.Numerals.{add-one}
+use mathlib.Core.Option.{none, some}
 use native.Mathlib.Omega.{arith}
 use lib.Dec.{eqb, ltb}
-use lib.ListN.{length}
 use borrow.Author.Tests.{eqb-true, ne-eqb}
 use Rattle.paper.specs.declared.Kind.{Kind}
 use Rattle.paper.specs.declared.Kind.the-variants.{Primitive, Structure, Listing, Mapping}
-use Rattle.paper.specs.Answer.{Answer, ok}
-use Rattle.paper.specs.Forest.{Forest, empty, node, mapped}
+use Rattle.paper.specs.Answer.{ok}
+use Rattle.paper.specs.Forest.{Forest, node, mapped}
 use Rattle.paper.specs.Field.{Field, is-struct}
-use Rattle.paper.specs.Rows.{Row}
 use Rattle.paper.specs.Bytes.{turned, rec-at, kind-at, kids-at, kids-fit, kind-from, ok-bytes, field-at}
-use Rattle.paper.specs.Layout.{Part, nothing, before, row}
+use Rattle.paper.specs.Layout.{Part, before, row}
 use Rattle.paper.specs.Decode.{fields}
-use Rattle.paper.specs.Update.{Receiver, as-struct, beyond, receiver}
+use Rattle.paper.specs.Update.{as-struct, beyond, receiver}
 use Rattle.laws.proofs.Basics.{none≢some, some-is}
 use Rattle.laws.proofs.RoundTrip.{both}
 use Rattle.tree.specs.Read.{part, reads}
-use Rattle.tree.proofs.Steps.{part-is, reads-is, part-none, part-in, was-read, no-past, reads-inner, reads-rest}
-use Rattle.rebuild.specs.Planned.{Readable, Inside}
+use Rattle.tree.proofs.Steps.{part-is, reads-is, part-in, was-read, no-past, reads-inner, reads-rest}
+use Rattle.rebuild.specs.Planned.{Inside}
 use Rattle.rebuild.proofs.Depth.{row-is-low, row-reads-low}
 use Rattle.parents.specs.declared.Target.{Target}
 use Rattle.parents.specs.declared.Target.the-variants as target

@@ -8,7 +8,7 @@ use native.Mathlib.Omega.{arith}
 use Rattle.paper.specs.Answer.{ok}
 use Rattle.paper.specs.Forest.{Forest, empty, node, size, siblings, levels, mapped}
 use Rattle.paper.specs.Field.{Field}
-use Rattle.paper.specs.Rows.{Row, Start, row, below, beside, rows, look-name}
+use Rattle.paper.specs.Rows.{Row, Start, row, below, beside, look-name}
 use Rattle.paper.specs.Bytes.{field-at, kids-at}
 use Rattle.paper.specs.Layout as layout
 use Rattle.paper.specs.Layout.{Part, roots}

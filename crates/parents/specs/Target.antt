@@ -1,7 +1,7 @@
 -- The struct that receives additions, by its slot, and what stands at a slot.
 use Prim.Native.Nat.{ℕ, _+_, _*_, _≤_, _<_}
 use mathlib.Core.Path.{_≡_}
-use mathlib.Core.Bool.{Bool, true, cond}
+use mathlib.Core.Bool.{true, cond}
 use mathlib.Core.List.{List}
 use mathlib.Core.Option.{Option, none, some}
 use lib.ListN.{length}
@@ -14,7 +14,6 @@ use Rattle.paper.specs.Decode.{fields}
 use Rattle.paper.specs.Rows.{Row}
 use Rattle.paper.specs.Update.{Receiver}
 use Rattle.tree.specs.Read.{part, reads}
-use Rattle.record.specs.declared.Slot.{Slot}
 use Rattle.parents.specs.declared.Target.{Target}
 use Rattle.parents.specs.declared.Target.the-variants as target
 

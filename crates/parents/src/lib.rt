@@ -17,7 +17,7 @@ ghost use Prim.Native.Nat.{_+_, _*_, _≤_, _<_};
 ghost use lib.ListN.{length};
 ghost use Rattle.dropped.specs.Set.{dropped-ids, Good};
 ghost use Rattle.paper.specs.Answer.{among, same, lowest};
-ghost use Rattle.paper.specs.Bytes.{turned, rec-at, kind-at, kids-at, name-of, ok-bytes, in-pool};
+ghost use Rattle.paper.specs.Bytes.{turned, rec-at, kids-at, name-of, ok-bytes, in-pool};
 ghost use Rattle.paper.specs.Update.{member-taken};
 ghost use Rattle.parents.specs.Target.{struct-at, value-slot, receiving, targeted, members-at, Standing};
 

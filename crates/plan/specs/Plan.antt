@@ -8,7 +8,7 @@ use mathlib.Core.List.{List, map}
 use lib.Dec.{ltb}
 use lib.ListN.{length, getD}
 use lib.Seq.{sets}
-use Rattle.paper.specs.Forest.{Forest, size, preorder, counts, mapped}
+use Rattle.paper.specs.Forest.{Forest, preorder, counts, mapped}
 use Rattle.paper.specs.Field.{Field, with-id}
 use Rattle.paper.specs.Sound.{name-bytes}
 use Rattle.paper.specs.Bytes.{turned, field-at, in-pool}

@@ -2,8 +2,8 @@
 use mathlib.Core.Path.{_≡_, refl, sym, ap, _∙_}
 use mathlib.Core.Bool.{Bool, true, false, not, _&&_, cond}
 use mathlib.Core.List.{List}
-use mathlib.Core.Option.{Option, none, some}
-use Prim.Native.Nat.{ℕ, suc, _+_, _-_, _*_, _<_, _≤_}
+use mathlib.Core.Option.{Option, some}
+use Prim.Native.Nat.{ℕ, suc, _+_, _-_, _<_, _≤_}
 use native.Mathlib.Numerals.{add-one}
 use native.Mathlib.Omega.{arith}
 use lib.Dec.{eqb}
@@ -14,10 +14,10 @@ use Rattle.paper.specs.declared.Kind.{Kind}
 use Rattle.paper.specs.declared.Role.{Role}
 use Rattle.paper.specs.declared.Role.the-variants.{Member, Element, Key, Value}
 use Rattle.paper.specs.Answer.{or-else}
-use Rattle.paper.specs.Forest.{Forest, empty, node, size}
+use Rattle.paper.specs.Forest.{size}
 use Rattle.paper.specs.Field.{first, after, is-key}
-use Rattle.paper.specs.Bytes.{kind-at, kids-at, slots}
-use Rattle.paper.specs.Layout.{Part, nothing, before}
+use Rattle.paper.specs.Bytes.{kind-at, kids-at}
+use Rattle.paper.specs.Layout.{Part}
 use Rattle.tree.specs.declared.Walked.{Walked}
 use Rattle.tree.specs.declared.Walked.the-variants.{End, Refused}
 use Rattle.tree.specs.Says.{walked-to}

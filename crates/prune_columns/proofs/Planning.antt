@@ -1,38 +1,23 @@
 -- Trees planned one behind the other: `Laid` of what is kept. `search planning`.
-use mathlib.Core.Path.{_≡_, refl, sym, ap, subst, _∙_}
-use mathlib.Core.Bool.{Bool, true, false, not, _||_, cond, true≢false}
-use mathlib.Core.List.{List, [], _∷_, _++_, map}
-use mathlib.Core.Option.{Option, none, some}
-use Prim.Native.Nat.{ℕ, zero, suc, _+_, _-_, _*_, _<_, _≤_}
-use native.Mathlib.Nat.{add-zero}
-use native.Mathlib.Numerals.{add-one}
+use mathlib.Core.Path.{_≡_, refl, _∙_}
+use mathlib.Core.List.{List, map}
+use Prim.Native.Nat.{ℕ, _+_, _-_, _*_, _<_, _≤_}
 use native.Mathlib.Omega.{arith}
-use lib.Dec.{eqb}
-use lib.ListN.{length, getD, set}
-use lib.Seq.{sets}
-use Rattle.paper.specs.declared.Kind.{Kind}
-use Rattle.paper.specs.declared.Role.{Role}
-use Rattle.paper.specs.declared.Role.the-variants.{Member, Element, Key, Value}
-use Rattle.paper.specs.Forest.{Forest, empty, node, size, siblings, mapped, counts, preorder, _then_}
-use Rattle.paper.specs.Field.{first, after, is-struct}
-use Rattle.paper.specs.Bytes.{kind-at, kids-at, slots, from}
+use lib.ListN.{length, set}
+use Rattle.paper.specs.Forest.{Forest, empty, node, size, siblings, mapped, counts, preorder}
+use Rattle.paper.specs.Bytes.{kids-at, slots}
 use Rattle.paper.specs.Layout.{Part, nothing, before}
-use Rattle.paper.specs.Prune.{yielding, joined, keyed, assembled}
-use Rattle.laws.proofs.Fitting.{size-mapped, siblings-mapped}
-use Rattle.laws.proofs.Runs.{sets-before, sets-append}
-use Rattle.laws.proofs.Written.{siblings-size}
+use Rattle.laws.proofs.Runs.{sets-before}
 use Rattle.tree.specs.Read.{itself}
 use Rattle.tree.proofs.Reading.{row-none, row-in}
 use Rattle.tree.proofs.Steps.{was-read}
 use Rattle.tree.proofs.Filled.{Full, full}
 use Rattle.laws.proofs.Basics.{rebind}
 use Rattle.plan.specs.Plan.{Source, slot-of, bits-of, Laid}
-use Rattle.plan.proofs.Laying.{laid-none, laid-node, laid-row, laid-then}
+use Rattle.plan.proofs.Laying.{laid-node, laid-row}
 use Rattle.walk.specs.There.{row-of, There}
 use Rattle.walk.proofs.Standing.{there-full, there-past}
-use Rattle.prune_columns.specs.declared.Step.{Step}
-use Rattle.prune_columns.specs.Split.{held, projected}
-use Rattle.prune_columns.specs.Projected.{marked, id-bits, own-source, Planned, Spot, tree-at, KeptWhole, KeptOne, Span, Copied, Stored}
+use Rattle.prune_columns.specs.Projected.{id-bits, own-source, Spot, tree-at, KeptWhole, Span, Copied}
 
 -- A record stored after its inside.
 pub laid-last : (a : Source) (m : Forest Source) (i c : ℕ) (xs is ks x₁ i₁ k₁ : List ℕ) → c ≡ siblings m → Laid m (i + 1) xs is ks x₁ i₁ k₁ → Laid (node a m empty) i xs is ks (set x₁ i (a .slot)) (set i₁ i (a .id)) (set k₁ i c)

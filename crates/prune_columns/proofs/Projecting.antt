@@ -1,13 +1,11 @@
 -- What is kept of a row is what its first record keeps, then what the rest keeps. `search projecting`.
-use mathlib.Core.Path.{_≡_, refl, sym, ap, subst, _∙_}
-use mathlib.Core.Bool.{Bool, true, false, not, _||_, cond, true≢false}
+use mathlib.Core.Path.{_≡_, refl, sym, ap, _∙_}
+use mathlib.Core.Bool.{Bool, true, false, not, _||_, true≢false}
 use mathlib.Core.List.{List, [], _∷_, _++_, map}
 use mathlib.Core.Option.{Option, none, some}
 use Prim.Native.Nat.{ℕ, zero, suc, _+_, _-_, _*_, _<_, _≤_}
-use native.Mathlib.Numerals.{add-one}
 use native.Mathlib.Omega.{arith}
 use borrow.Author.Tests.{eq-eqb, ne-eqb}
-use lib.Dec.{eqb}
 use lib.ListN.{length, getD, set, length-map}
 use lib.Seq.{sets}
 use Rattle.paper.specs.declared.Kind.{Kind}
@@ -15,10 +13,10 @@ use Rattle.paper.specs.declared.Kind.the-variants.{Primitive, Structure, Listin
 use Rattle.paper.specs.declared.Role.{Role}
 use Rattle.paper.specs.declared.Role.the-variants.{Member, Element, Key, Value}
 use Rattle.paper.specs.Forest.{Forest, empty, node, size, siblings, mapped, counts, preorder, _then_}
-use Rattle.paper.specs.Field.{first, after, is-struct, is-map}
+use Rattle.paper.specs.Field.{first, is-struct, is-map}
 use Rattle.paper.specs.Bytes.{kind-at, kids-at, slots}
-use Rattle.paper.specs.Layout.{Part, nothing, before}
-use Rattle.paper.specs.Prune.{yielding, joined, keyed, assembled}
+use Rattle.paper.specs.Layout.{Part}
+use Rattle.paper.specs.Prune.{yielding, joined, keyed}
 use Rattle.laws.proofs.Fitting.{size-mapped, siblings-mapped}
 use Rattle.laws.proofs.Preorder.{size-then, siblings-then, length-preorder, length-counts, preorder-then, counts-then}
 use Rattle.laws.proofs.Runs.{sets-before, map-append}

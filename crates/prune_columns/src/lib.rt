@@ -17,8 +17,7 @@ ghost use mathlib.Core.Path.{_≡_};
 ghost use Prim.Native.Nat.{_+_, _*_, _≤_, _<_};
 ghost use lib.ListN.{length};
 ghost use Rattle.paper.specs.declared.Role.the-variants.{Member, Element, Key};
-ghost use Rattle.paper.specs.Field.{first};
-ghost use Rattle.paper.specs.Bytes.{kind-at, kids-at, slots};
+ghost use Rattle.paper.specs.Bytes.{slots};
 ghost use Rattle.walk.specs.There.{There};
 ghost use Rattle.prune_columns.specs.Split.{is-nested, direct};
 ghost use Rattle.prune_columns.specs.Projected.{

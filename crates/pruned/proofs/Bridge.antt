@@ -1,6 +1,6 @@
 -- The paper's `pruned`, on fields, is the two walks, on slots: each step of it is a test for 20 and what is kept.
-use mathlib.Core.Path.{_≡_, refl, sym, ap, _∙_}
-use mathlib.Core.Bool.{Bool, true, false, not, _&&_, cond}
+use mathlib.Core.Path.{_≡_, refl, ap, _∙_}
+use mathlib.Core.Bool.{Bool, true, false, cond}
 use mathlib.Core.Option.{Option, none, some}
 use mathlib.Core.List.{List}
 use Prim.Native.Nat.{ℕ, suc, _+_, _<_}
@@ -13,10 +13,10 @@ use Rattle.paper.specs.Forest.{Forest, empty, node, size, mapped}
 use Rattle.paper.specs.Field.{Field, kind-of, first, after}
 use Rattle.paper.specs.Bytes.{field-at, kind-at}
 use Rattle.paper.specs.Decode.{fields}
-use Rattle.paper.specs.Prune.{kept, chosen, yielding, tested, joined, keyed, assembled, pruned}
+use Rattle.paper.specs.Prune.{kept, yielding, tested, assembled, pruned}
 use Rattle.laws.proofs.Natural.{on-answer, pruned-mapped}
 use Rattle.laws.proofs.Taken as taken
-use Rattle.prune_columns.specs.Split.{is-nested, direct, first-direct, held, projected}
+use Rattle.prune_columns.specs.Split.{direct, first-direct, held, projected}
 
 -- An answer by its refusal 20, if any.
 abbrev pub unless : {A : Type 0} → Option ℕ → A → Answer A

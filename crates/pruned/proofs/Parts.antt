@@ -1,18 +1,16 @@
 -- What is kept is a part of the tree: it is no deeper, its names are no longer, and its slots are slots of the tree.
-use mathlib.Core.Path.{_≡_, refl, sym, ap, _∙_}
+use mathlib.Core.Path.{_≡_, refl}
 use mathlib.Core.Bool.{Bool, true, false}
 use mathlib.Core.Option.{Option, none, some}
-use mathlib.Core.List.{List}
-use Prim.Native.Nat.{ℕ, suc, _+_, _≤_, _<_, max}
+use Prim.Native.Nat.{ℕ, suc, _+_, _≤_, _<_}
 use native.Mathlib.Omega.{arith}
-use lib.ListN.{length}
 use Rattle.paper.specs.declared.Kind.{Kind}
 use Rattle.paper.specs.declared.Kind.the-variants.{Primitive, Structure, Listing, Mapping}
 use Rattle.paper.specs.declared.Role.{Role}
 use Rattle.paper.specs.declared.Role.the-variants.{Member, Element, Key, Value}
 use Rattle.paper.specs.Forest.{Forest, empty, node, size, levels, mapped}
-use Rattle.paper.specs.Field.{Field, first, after, is-struct}
-use Rattle.paper.specs.Prune.{yielding, joined, keyed, assembled}
+use Rattle.paper.specs.Field.{Field, first, after}
+use Rattle.paper.specs.Prune.{joined, keyed, assembled}
 use Rattle.paper.specs.Sound.{name-bytes}
 use Rattle.laws.proofs.Taken as taken
 use Rattle.prune_columns.specs.Split.{held, projected}

@@ -1,28 +1,24 @@
 -- What is kept is a plan, since it is a part of a tree within the limits; and it is what the paper's pruning answers. `search writing`.
-use mathlib.Core.Path.{_≡_, refl, sym, ap, _∙_}
-use mathlib.Core.Bool.{Bool, true, false}
+use mathlib.Core.Path.{_≡_, refl, sym, _∙_}
+use mathlib.Core.Bool.{Bool}
 use mathlib.Core.Option.{Option, none, some}
-use mathlib.Core.List.{List, [], _++_}
-use Prim.Native.Nat.{ℕ, _+_, _≤_, _<_}
+use mathlib.Core.List.{List}
+use Prim.Native.Nat.{ℕ, _≤_, _<_}
 use native.Mathlib.Nat.{zero-add}
 use native.Mathlib.Omega.{arith}
 use borrow.Author.Tests.{lt-ltb}
-use lib.ListN.{length, drop}
 use Rattle.record.specs.declared.Refusal.{Refusal}
 use Rattle.record.specs.declared.Changed.{Changed}
 use Rattle.record.specs.declared.Changed.the-variants as changed
 use Rattle.record.specs.Says.{refusal-of, changes}
 use Rattle.paper.specs.declared.Role.the-variants.{Member}
-use Rattle.paper.specs.Answer.{Answer, ok, refused, _>>=_}
-use Rattle.paper.specs.Forest.{Forest, empty, node, size, siblings, levels, mapped}
-use Rattle.paper.specs.Field.{Field, kind-of}
+use Rattle.paper.specs.Answer.{ok, _>>=_}
+use Rattle.paper.specs.Forest.{Forest, empty, node, size, levels, mapped}
+use Rattle.paper.specs.Field.{Field}
 use Rattle.paper.specs.Sound.{name-bytes}
 use Rattle.paper.specs.Bytes.{field-at, kind-at, kids-at, slots}
-use Rattle.paper.specs.Decode.{fields, decode}
-use Rattle.paper.specs.Encode.{record-bytes, pool-bytes}
-use Rattle.paper.specs.Prune.{pruned}
-use Rattle.paper.specs.Entries.{Result}
-use Rattle.paper.specs.Outcome.{out-records, out-names, leaves}
+use Rattle.paper.specs.Decode.{fields}
+use Rattle.paper.specs.Outcome.{leaves}
 use Rattle.laws.proofs.RoundTrip.{length-pool}
 use Rattle.laws.proofs.Fitting.{size-mapped, levels-mapped}
 use Rattle.laws.proofs.Preorder.{mapped-mapped}
@@ -30,8 +26,8 @@ use Rattle.tree.specs.declared.Walked.{Walked}
 use Rattle.tree.specs.declared.Walked.the-variants.{End, Refused}
 use Rattle.tree.specs.Says.{walked-to}
 use Rattle.tree.proofs.Labels.{walked-end}
-use Rattle.plan.specs.Plan.{Lent, lent, Source, planned-field, source-field, plan-fields, Sits, Plan, Laid}
-use Rattle.plan.specs.Draft.{Draft, Drawn}
+use Rattle.plan.specs.Plan.{Lent, lent, planned-field, source-field, plan-fields, Sits, Plan}
+use Rattle.plan.specs.Draft.{Drawn}
 use Rattle.plan.specs.Sources.{Written}
 use Rattle.plan.proofs.Laying.{laid-fields, laid-draft, draft-plan}
 use Rattle.plan.proofs.Taking.{base-sits}
@@ -39,7 +35,7 @@ use Rattle.walk.specs.There.{row-of, There}
 use Rattle.walk.proofs.Opening.{Opened, opened}
 use Rattle.prune_columns.specs.declared.Step.{Step}
 use Rattle.prune_columns.specs.Split.{first-direct, projected}
-use Rattle.prune_columns.specs.Projected.{marked, own-source, Checked, Planned, Row, Kept}
+use Rattle.prune_columns.specs.Projected.{marked, own-source, Checked, Row, Kept}
 use Rattle.pruned.specs.Pruned.{Ready, kept-fields, the-result, Writes, pruning, Agrees, Prunes}
 use Rattle.pruned.proofs.Bridge.{unless, pruned-fields}
 use Rattle.pruned.proofs.Parts.{Below, laid-below, Within, projected-within}

@@ -1,13 +1,12 @@
 -- The additions of one place, in entry order.
 use mathlib.Core.Path.{_≡_, refl, sym, ap, _∙_}
-use mathlib.Core.Bool.{Bool, true, false}
-use mathlib.Core.List.{List, [], _∷_}
-use mathlib.Core.Option.{Option, none, some}
+use mathlib.Core.Bool.{true, false}
+use mathlib.Core.List.{List, _∷_}
+use mathlib.Core.Option.{Option}
 use Prim.Native.Nat.{ℕ, zero, suc, _+_, _-_, _<_, _≤_}
 use native.Mathlib.Omega.{arith}
 use borrow.Author.Tests.{eq-eqb, ne-eqb}
 use lib.ListN.{getD}
-use lib.Dec.{eqb}
 use Rattle.paper.specs.Forest.{Forest, empty, _then_}
 use Rattle.paper.specs.Bytes.{turned, kids-at, from}
 use Rattle.paper.specs.Rebuild.{Addition, same-parent, arriving}

@@ -1,12 +1,12 @@
 -- Forests planned one behind the other: whatever plans the rest plans the whole.
-use mathlib.Core.Path.{_≡_, refl, sym, ap, _∙_}
+use mathlib.Core.Path.{_≡_, refl}
 use mathlib.Core.List.{List}
-use Prim.Native.Nat.{ℕ, zero, suc, _+_, _-_, _<_, _≤_, max}
+use Prim.Native.Nat.{ℕ, _≤_}
 use native.Mathlib.Omega.{arith}
-use Rattle.paper.specs.Forest.{Forest, empty, node, size, siblings, levels, _then_}
+use Rattle.paper.specs.Forest.{Forest, empty, size, siblings, levels, _then_}
 use Rattle.laws.proofs.Written.{siblings-size}
 use Rattle.laws.proofs.Preorder.{size-then, siblings-then, levels-then}
-use Rattle.plan.specs.Plan.{Source, Laid}
+use Rattle.plan.specs.Plan.{Source}
 use Rattle.plan.proofs.Laying.{laid-none, laid-then}
 use Rattle.rebuild.specs.declared.Place.{Place}
 use Rattle.rebuild.specs.declared.Step.{Step}

@@ -1,27 +1,23 @@
 -- What is planned, as fields, is the paper's rebuild: a source stands for its record, and what the rebuild asks of one is the same of the other.
-use Prim.Native.Nat.{ℕ, suc, _+_, _-_, _*_, _<_, _≤_}
+use Prim.Native.Nat.{ℕ, suc, _+_, _-_, _<_, _≤_}
 use mathlib.Core.Path.{_≡_, refl, sym, ap, _∙_}
-use mathlib.Core.Bool.{Bool, true, false, cond}
-use mathlib.Core.List.{List, [], _∷_}
-use mathlib.Core.Option.{Option, none, some}
+use mathlib.Core.Bool.{true}
+use mathlib.Core.List.{List}
+use mathlib.Core.Option.{none}
 use native.Mathlib.Omega.{arith}
-use native.Mathlib.Nat.{suc-add}
 use borrow.Author.Tests.{lt-ltb, le-ltb}
-use lib.Dec.{ltb}
-use lib.ListN.{length}
-use Rattle.paper.specs.Answer.{Answer, ok, refused, among}
+use Rattle.paper.specs.Answer.{ok, among}
 use Rattle.paper.specs.Forest.{Forest, empty, node, size, mapped}
-use Rattle.paper.specs.Field.{Field, id-of, kind-of, with-id}
-use Rattle.paper.specs.Bytes.{turned, rec-at, kind-at, kids-at, field-at, in-pool}
+use Rattle.paper.specs.Field.{id-of, kind-of, with-id}
+use Rattle.paper.specs.Bytes.{kids-at, field-at}
 use Rattle.paper.specs.Layout.{Part, roots}
 use Rattle.paper.specs.Decode.{fields}
 use Rattle.paper.specs.Rebuild.{Addition, fresh, rebuilt}
 use Rattle.laws.proofs.Words.{turned-twice}
-use Rattle.laws.proofs.Taken.{Took, roots-take}
+use Rattle.laws.proofs.Taken.{roots-take}
 use Rattle.laws.proofs.Natural.{mapped-all, rebuilt-mapped}
 use Rattle.laws.proofs.Preorder.{mapped-mapped}
 use Rattle.laws.proofs.Pointwise.{Each, each-more, each-mapped, each-slot, mapped-same, rebuilt-same}
-use Rattle.tree.specs.Read.{got}
 use Rattle.plan.specs.Plan.{Lent, Source, source-field, planned-field}
 use Rattle.rebuild.specs.Sources.{base-source, added-source, source-id, source-kind, rebuilt-row, rebuilt-base}
 

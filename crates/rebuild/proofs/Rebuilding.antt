@@ -2,31 +2,30 @@
 use mathlib.Core.Path.{_≡_, refl, sym, ap, _∙_}
 use mathlib.Core.Bool.{Bool, true, false, _&&_}
 use mathlib.Core.List.{List}
-use mathlib.Core.Option.{Option, none, some}
-use Prim.Native.Nat.{ℕ, zero, suc, _+_, _-_, _*_, _<_, _≤_, max}
-use native.Mathlib.Numerals.{add-one, sub-one}
+use mathlib.Core.Option.{Option, some}
+use Prim.Native.Nat.{ℕ, _+_, _-_, _<_, _≤_}
 use native.Mathlib.Omega.{arith}
-use lib.ListN.{length, set}
+use lib.ListN.{set}
 use Rattle.record.specs.declared.Refusal.{Refusal}
-use Rattle.paper.specs.Answer.{Answer, ok, refused, among}
+use Rattle.paper.specs.Answer.{among}
 use Rattle.paper.specs.Forest.{Forest, empty, node, size, siblings, levels, mapped, _then_}
 use Rattle.paper.specs.Field.{is-struct}
 use Rattle.paper.specs.Bytes.{turned, rec-at, kind-at, kids-at}
-use Rattle.paper.specs.Layout.{Part, nothing, before, row}
+use Rattle.paper.specs.Layout.{Part, before, row}
 use Rattle.paper.specs.Rebuild.{Addition, arriving, rebuilt}
 use Rattle.tree.specs.Says.{ended}
 use Rattle.tree.specs.declared.Walked.{Walked}
 use Rattle.tree.specs.declared.Walked.the-variants.{End, Refused}
-use Rattle.tree.specs.Read.{part, reads}
+use Rattle.tree.specs.Read.{part}
 use Rattle.tree.proofs.Filled.{ended-ok}
 use Rattle.tree.proofs.Steps.{part-is, part-none, part-in, was-read, no-deep, no-past, reads-inner, reads-rest, next-in}
-use Rattle.plan.specs.Plan.{Source, Laid}
+use Rattle.plan.specs.Plan.{Source}
 use Rattle.plan.proofs.Laying.{laid-closed}
 use Rattle.rebuild.specs.declared.Head.{Head}
 use Rattle.rebuild.specs.declared.Place.{Place}
 use Rattle.rebuild.specs.declared.Step.{Step}
 use Rattle.rebuild.specs.declared.Step.the-variants.{Went, Full}
-use Rattle.rebuild.specs.Sources.{base-source, source-id, source-kind, parent, rebuilt-row, rebuilt-one}
+use Rattle.rebuild.specs.Sources.{base-source, parent, rebuilt-row, rebuilt-one}
 use Rattle.rebuild.specs.Planned.{Readable, Inside, Whole, Over, Planned, HeadOf, closing, RowPlanned, OnePlanned}
 use Rattle.rebuild.proofs.Onward.{planned-none, Onward, onward-starts, onward-same, onward-goes, onward-stops, went-whole, full-over}
 use Rattle.rebuild.proofs.Trees.{ended-no}

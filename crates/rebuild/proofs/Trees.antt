@@ -1,11 +1,10 @@
 -- One added tree: its records stand in a row of the additions, and their ids count on.
 use mathlib.Core.Path.{_≡_, refl, sym, ap, _∙_}
-use mathlib.Core.Bool.{Bool, true, false}
-use mathlib.Core.List.{List, [], _∷_, _++_, map}
-use Prim.Native.Nat.{ℕ, zero, suc, _+_, _-_, _<_, _≤_, max}
+use mathlib.Core.Bool.{true}
+use mathlib.Core.List.{List, _∷_, map}
+use Prim.Native.Nat.{ℕ, suc, _+_, _-_, _<_, _≤_}
 use native.Mathlib.Nat.{suc-add}
 use native.Mathlib.Omega.{arith}
-use lib.ListN.{length}
 use lib.Seq.{sets}
 use Rattle.record.specs.declared.Refusal.{Refusal}
 use Rattle.paper.specs.Answer.{Answer, ok, refused}
@@ -20,11 +19,10 @@ use Rattle.tree.specs.declared.Walked.the-variants.{End, Refused}
 use Rattle.tree.specs.Read.{part, reads, itself}
 use Rattle.tree.proofs.Filled.{ended-ok, full, Full}
 use Rattle.tree.proofs.Steps.{part-is, was-read}
-use Rattle.plan.specs.Plan.{Source, slot-of, bits-of, Laid}
-use Rattle.rebuild.specs.declared.Place.{Place}
+use Rattle.plan.specs.Plan.{slot-of, bits-of}
 use Rattle.rebuild.specs.declared.Step.the-variants as step
 use Rattle.rebuild.specs.Sources.{added-source, added-tree}
-use Rattle.rebuild.specs.Planned.{Whole, Over, Planned, Ranged}
+use Rattle.rebuild.specs.Planned.{Planned, Ranged}
 use Rattle.rebuild.proofs.Depth.{row-is-low, row-reads-low}
 
 -- ---- numbers given

@@ -1,29 +1,29 @@
 -- The whole base, and its verdict: records above 1,024 or levels above 16 are what `Full` says.
-use mathlib.Core.Path.{_≡_, refl, sym, ap, _∙_}
-use mathlib.Core.Bool.{Bool, true, false, _&&_, cond}
+use mathlib.Core.Path.{_≡_, refl}
+use mathlib.Core.Bool.{Bool, true, false, cond}
 use mathlib.Core.List.{List}
 use mathlib.Core.Option.{none}
-use Prim.Native.Nat.{ℕ, zero, suc, _+_, _-_, _*_, _<_, _≤_, max}
+use Prim.Native.Nat.{ℕ, _+_, _≤_}
 use native.Mathlib.Omega.{arith}
 use borrow.Author.Tests.{leb-true, le-leb}
 use lib.Dec.{leb}
 use Rattle.paper.specs.Answer.{Answer, ok, refused}
-use Rattle.paper.specs.Forest.{Forest, empty, node, size, siblings, levels, mapped}
+use Rattle.paper.specs.Forest.{Forest, size, siblings, levels}
 use Rattle.paper.specs.Bytes.{kids-at}
-use Rattle.paper.specs.Layout.{Part, row, roots}
+use Rattle.paper.specs.Layout.{Part, roots}
 use Rattle.paper.specs.Rebuild.{Addition}
 use Rattle.laws.proofs.RoundTrip.{both}
-use Rattle.tree.specs.Read.{part, reads, got}
+use Rattle.tree.specs.Read.{part, got}
 use Rattle.tree.specs.Says.{rooted}
-use Rattle.tree.specs.declared.Shaped.the-variants.{Roots, Refused}
+use Rattle.tree.specs.declared.Shaped.the-variants.{Roots}
 use Rattle.tree.proofs.Roots.{roots-row}
 use Rattle.tree.proofs.Steps.{part-is, reads-is}
-use Rattle.plan.specs.Plan.{Source, Laid}
+use Rattle.plan.specs.Plan.{Source}
 use Rattle.rebuild.specs.declared.Place.{Place}
 use Rattle.rebuild.specs.declared.Step.{Step}
 use Rattle.rebuild.specs.declared.Step.the-variants.{Went, Full}
-use Rattle.rebuild.specs.Sources.{parent, rebuilt-row, rebuilt-base}
-use Rattle.rebuild.specs.Planned.{Readable, Based, Whole, Over, PlannedBy, Planned, RowPlanned, fits, verdict, Rebuilds}
+use Rattle.rebuild.specs.Sources.{parent, rebuilt-base}
+use Rattle.rebuild.specs.Planned.{Readable, Based, PlannedBy, RowPlanned, fits, verdict, Rebuilds}
 
 -- ---- the verdict
 

@@ -10,7 +10,7 @@ use lib.Seq.{sets}
 use Rattle.paper.specs.Forest.{Forest, empty, size, siblings, levels}
 use Rattle.paper.specs.Field.{is-struct}
 use Rattle.paper.specs.Bytes.{turned, rec-at, kind-at, kids-at, from}
-use Rattle.paper.specs.Layout.{Part, roots}
+use Rattle.paper.specs.Layout.{roots}
 use Rattle.paper.specs.Rebuild.{Addition, arriving}
 use Rattle.tree.specs.Read.{part, reads}
 use Rattle.tree.specs.Says.{rooted}

@@ -1,16 +1,15 @@
 -- The paper's rebuild over sources: slots of the base, and slots of the additions tree with fresh ids.
-use Prim.Native.Nat.{ℕ, zero, suc, _+_, _-_, _*_, _≤_, _<_}
-use mathlib.Core.Path.{_≡_}
+use Prim.Native.Nat.{ℕ, zero, suc, _+_, _-_}
 use mathlib.Core.Bool.{Bool, true}
 use mathlib.Core.List.{List}
 use mathlib.Core.Option.{Option, none, some}
-use lib.ListN.{length, getD}
+use lib.ListN.{getD}
 use Rattle.paper.specs.declared.Kind.{Kind}
 use Rattle.paper.specs.Forest.{Forest, empty, node, mapped}
 use Rattle.paper.specs.Field.{is-struct}
 use Rattle.paper.specs.Bytes.{turned, rec-at, kind-at, kids-at, from}
 use Rattle.paper.specs.Layout.{roots}
-use Rattle.paper.specs.Rebuild.{Addition, fresh, arriving, rebuilt}
+use Rattle.paper.specs.Rebuild.{Addition, fresh, rebuilt}
 use Rattle.tree.specs.Read.{got, part}
 use Rattle.plan.specs.Plan.{Source}
 

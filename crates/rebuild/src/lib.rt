@@ -9,7 +9,6 @@ use tree::Walked;
 use tree::row_end;
 ghost use mathlib.Core.Path.{_≡_};
 ghost use mathlib.Core.Bool.{true, _&&_};
-ghost use mathlib.Core.Option.{none};
 ghost use Prim.Native.Nat.{_+_, _-_, _*_, _%_, _≤_, _<_};
 ghost use lib.ListN.{length};
 ghost use Rattle.dropped.specs.Set.{dropped-ids, Good};

@@ -1,7 +1,6 @@
 -- The front of the paper's `update-entry`: from the lengths of the lent buffers to the last entry.
 use Prim.Native.Nat.{ℕ}
 use mathlib.Core.List.{List}
-use lib.ListN.{length}
 use Rattle.paper.specs.Answer.{Answer, ok, refused, _>>=_, _>>_}
 use Rattle.paper.specs.Refusals.{roomy, limited}
 use Rattle.paper.specs.Forest.{Forest, siblings}

@@ -8,10 +8,8 @@ use record::Refusal;
 use tree::Shaped;
 use tree::check_tree;
 ghost use mathlib.Core.Path.{_≡_};
-ghost use mathlib.Core.Bool.{true};
 ghost use Prim.Native.Nat.{_≤_};
 ghost use lib.ListN.{length};
-ghost use Rattle.paper.specs.Limits.{sized-update};
 ghost use Rattle.request.specs.Opened.{opened, readable, listed, trees, opening};
 
 // How many roots the base has, and how many the additions tree.

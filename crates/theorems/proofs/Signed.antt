@@ -1,9 +1,9 @@
 -- The signed reading of an id is that of its 32 bits in two's complement: `turned` adds 2^31 and cuts, and
 -- `signed-id` takes it away again.
-use Prim.Native.Nat.{ℕ, _+_, _-_, _%_, _<_, _≤_}
-use mathlib.Core.Path.{_≡_, refl, ap, _∙_}
+use Prim.Native.Nat.{ℕ, _+_, _-_, _%_, _<_}
+use mathlib.Core.Path.{_≡_}
 use native.Mathlib.Omega.{arith}
-use lib.IntN.{ℤ, pos, negsuc}
+use lib.IntN.{pos, negsuc}
 use borrow.Author.Tests.{lt-ltb, le-ltb}
 use Rattle.paper.specs.Bytes.{turned}
 use Rattle.paper.specs.Asked.{signed-id}

@@ -1,15 +1,13 @@
 -- What a look-up in the base finds: a record of the base, at its slot.
-use Prim.Native.Nat.{ℕ, _+_, _*_, _<_, _≤_}
-use mathlib.Core.Path.{_≡_, refl, sym, ap, subst, _∙_}
+use Prim.Native.Nat.{ℕ, _<_}
+use mathlib.Core.Path.{_≡_, refl, sym, _∙_}
 use mathlib.Core.List.{List}
 use mathlib.Core.Option.{Option, none, some}
 use native.Mathlib.Omega.{arith}
 use mathlib.Core.Bool.{Bool, true, false}
 use lib.Dec.{eqb}
-use lib.ListN.{length}
-use Rattle.paper.specs.Field.{Field}
 use Rattle.paper.specs.Rows.{Row, look-name}
-use Rattle.paper.specs.Bytes.{turned, rec-at, field-at, ok-bytes}
+use Rattle.paper.specs.Bytes.{rec-at, field-at, ok-bytes}
 use Rattle.paper.specs.Lists.{entry-at, path-of, parent-path}
 use Rattle.paper.specs.Update.{receiver, placed}
 use Rattle.laws.proofs.Words.{turned-below}

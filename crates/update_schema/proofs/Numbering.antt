@@ -1,13 +1,10 @@
 -- A column ends behind its records, and each of them takes an id.
-use Prim.Native.Nat.{ℕ, suc, _+_, _-_, _*_, _<_, _≤_}
-use mathlib.Core.Path.{_≡_, refl, sym, ap, _∙_}
+use Prim.Native.Nat.{ℕ, suc, _+_, _-_, _≤_}
+use mathlib.Core.Path.{_≡_, sym, ap, _∙_}
 use mathlib.Core.Bool.{Bool, true, false, cond}
 use mathlib.Core.List.{List}
 use native.Mathlib.Omega.{arith}
 use lib.Dec.{ltb}
-use lib.ListN.{length}
-use Rattle.paper.specs.Answer.{Answer, ok}
-use Rattle.paper.specs.Forest.{size}
 use Rattle.paper.specs.Field.{highest}
 use Rattle.paper.specs.Bytes.{turned, kids-at}
 use Rattle.paper.specs.Layout.{Part, row}
@@ -16,8 +13,8 @@ use Rattle.record.specs.Says.{refusal-of}
 use Rattle.tree.specs.Says.{ended}
 use Rattle.tree.specs.declared.Walked.{Walked}
 use Rattle.tree.specs.declared.Walked.the-variants.{End, Refused}
-use Rattle.tree.specs.Read.{part, reads}
-use Rattle.tree.proofs.Filled.{ended-ok, Full}
+use Rattle.tree.specs.Read.{part}
+use Rattle.tree.proofs.Filled.{ended-ok}
 use Rattle.tree.proofs.Steps.{part-is, part-full, was-read}
 use Rattle.rebuild.proofs.Trees.{ended-no}
 use Rattle.decide.specs.declared.Fresh.{Fresh}

@@ -2,7 +2,7 @@
 use Prim.Native.Nat.{ℕ}
 use mathlib.Core.Path.{_≡_}
 use mathlib.Core.List.{List}
-use Rattle.paper.specs.Answer.{Answer, ok, refused, _>>=_}
+use Rattle.paper.specs.Answer.{Answer, ok, _>>=_}
 use Rattle.paper.specs.Forest.{Forest}
 use Rattle.paper.specs.Field.{Field}
 use Rattle.paper.specs.Bytes.{from}

@@ -1,5 +1,5 @@
 -- The deletions: what the paper answers, and the ids that stand in the array.
-use Prim.Native.Nat.{ℕ, _≤_}
+use Prim.Native.Nat.{ℕ}
 use mathlib.Core.Path.{_≡_}
 use mathlib.Core.List.{List}
 use lib.ListN.{getD}

@@ -5,10 +5,9 @@ use mathlib.Core.List.{List}
 use Prim.Native.Nat.{ℕ, zero, suc, _+_, _-_, _*_, _<_, _≤_}
 use native.Mathlib.Omega.{arith}
 use lib.ListN.{length}
-use Rattle.paper.specs.Forest.{Forest, empty, node, size, siblings}
+use Rattle.paper.specs.Forest.{size}
 use Rattle.paper.specs.Bytes.{kids-at, slots}
 use Rattle.paper.specs.Layout.{Part, nothing, before}
-use Rattle.tree.specs.Read.{part, reads}
 use Rattle.tree.proofs.Filled.{Full, lt-or-le}
 use Rattle.tree.proofs.Steps.{part-none, part-in, part-full, no-deep, no-past, reads-inner, reads-rest}
 use Rattle.walk.specs.There.{row-of, There}

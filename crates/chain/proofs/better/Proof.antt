@@ -1,6 +1,5 @@
 -- The test of the slot picks the place.
 use Rattle.chain.proofs.IdLaws.{ids}
-use native.Mathlib.Omega.{arith}
 use borrow.Author.Needs.{needs}
 use Rattle.chain.proofs.better.Statement.{statement}
 use Rattle.chain.proofs.better.Tie as tie

@@ -1,6 +1,5 @@
 -- The bits of an id turned twice are the bits, so the bucket is the definition's.
 use Rattle.chain.proofs.IdLaws.{ids}
-use native.Mathlib.Omega.{arith}
 use borrow.Author.Needs.{needs}
 use Rattle.chain.proofs.bucket_of.Statement.{statement}
 use Rattle.chain.proofs.bucket_of.Tie as tie

@@ -2,7 +2,6 @@
 use Rattle.chain.proofs.IdLaws.{Naming}
 use Prim.Native.Nat.{_-_}
 use Rattle.chain.proofs.IdLaws.{nine}
-use native.Mathlib.Omega.{arith}
 use borrow.Author.Needs.{needs}
 use Rattle.chain.proofs.check_identifiers.Statement.{statement}
 use Rattle.chain.proofs.check_identifiers.Tie as tie

@@ -2,7 +2,6 @@
 use Rattle.chain.proofs.IdLaws.{Checking}
 use Prim.Native.Nat.{_-_}
 use Rattle.chain.proofs.IdLaws.{checking}
-use native.Mathlib.Omega.{arith}
 use borrow.Author.Needs.{needs}
 use Rattle.chain.proofs.check_ids.Statement.{statement}
 use Rattle.chain.proofs.check_ids.Tie as tie

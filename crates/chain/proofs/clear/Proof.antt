@@ -2,7 +2,6 @@
 use Rattle.chain.proofs.IdLaws.{Clearing}
 use Prim.Native.Nat.{_-_}
 use Rattle.chain.proofs.IdLaws.{clearing}
-use native.Mathlib.Omega.{arith}
 use borrow.Author.Needs.{needs}
 use Rattle.chain.proofs.clear.Statement.{statement}
 use Rattle.chain.proofs.clear.Tie as tie

@@ -4,7 +4,6 @@ use Rattle.chain.specs.Chain.{lowest-below}
 use Rattle.chain.specs.Ids.{id-bucket, is-id}
 use Rattle.chain.proofs.Chains.{Left}
 use Rattle.chain.proofs.IdLaws.{ids}
-use native.Mathlib.Omega.{arith}
 use borrow.Author.Needs.{needs}
 use Rattle.chain.proofs.find_id.Statement.{statement}
 use Rattle.chain.proofs.find_id.Tie as tie

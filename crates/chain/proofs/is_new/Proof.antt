@@ -1,6 +1,5 @@
 -- No slot below k has the id where the lowest place is 0.
 use Rattle.chain.proofs.IdLaws.{ids}
-use native.Mathlib.Omega.{arith}
 use borrow.Author.Needs.{needs}
 use Rattle.chain.proofs.is_new.Statement.{statement}
 use Rattle.chain.proofs.is_new.Tie as tie

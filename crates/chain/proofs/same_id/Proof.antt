@@ -1,6 +1,5 @@
 -- `turned` is one to one on 32 bits.
 use Rattle.chain.proofs.IdLaws.{ids}
-use native.Mathlib.Omega.{arith}
 use borrow.Author.Needs.{needs}
 use Rattle.chain.proofs.same_id.Statement.{statement}
 use Rattle.chain.proofs.same_id.Tie as tie

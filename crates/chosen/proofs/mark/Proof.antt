@@ -1,5 +1,4 @@
 -- One store, or none. Assumes nothing.
-use native.Mathlib.Omega.{arith}
 use Rattle.chosen.proofs.Marking.{mark-some}
 use borrow.Author.Needs.{needs}
 use Rattle.chosen.proofs.mark.Statement.{statement}

@@ -1,5 +1,4 @@
 -- Each chosen id marks the one slot that has it. Assumes nothing.
-use native.Mathlib.Omega.{arith}
 use Prim.Native.Nat.{_-_, _≤_}
 use borrow.Author.Needs.{needs}
 use Rattle.chosen.proofs.Marking.{Marking, marking}

@@ -1,6 +1,5 @@
 -- The bits of the next id are those of the last, plus one.
 use Rattle.decide.proofs.Placing.{assigning}
-use native.Mathlib.Omega.{arith}
 use borrow.Author.Needs.{needs}
 use Rattle.decide.proofs.assign_fresh_ids.Statement.{statement}
 use Rattle.decide.proofs.assign_fresh_ids.Tie as tie

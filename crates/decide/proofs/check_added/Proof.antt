@@ -1,6 +1,5 @@
 -- The name, then the flags.
 use Rattle.decide.proofs.Placing.{adding, added-fine}
-use native.Mathlib.Omega.{arith}
 use borrow.Author.Needs.{needs}
 use Rattle.decide.proofs.check_added.Statement.{statement}
 use Rattle.decide.proofs.check_added.Tie as tie

@@ -1,6 +1,5 @@
 -- Nothing found is 11, an identifier 12.
 use Rattle.decide.proofs.Deleting.{deleting}
-use native.Mathlib.Omega.{arith}
 use borrow.Author.Needs.{needs}
 use Rattle.decide.proofs.drop_one.Statement.{statement}
 use Rattle.decide.proofs.drop_one.Tie as tie

@@ -2,7 +2,6 @@
 use Prim.Native.Nat.{_-_}
 use lib.ListN.{length}
 use Rattle.decide.proofs.Placing.{Dotless, dot-goes, dotting}
-use native.Mathlib.Omega.{arith}
 use borrow.Author.Needs.{needs}
 use Rattle.decide.proofs.has_dot.Statement.{statement}
 use Rattle.decide.proofs.has_dot.Tie as tie

@@ -2,7 +2,6 @@
 use Prim.Native.Nat.{_-_}
 use Rattle.paper.specs.Bytes.{turned}
 use Rattle.decide.proofs.Deleting.{Seeking, seeking}
-use native.Mathlib.Omega.{arith}
 use borrow.Author.Needs.{needs}
 use Rattle.decide.proofs.is_identifier.Statement.{statement}
 use Rattle.decide.proofs.is_identifier.Tie as tie

@@ -1,6 +1,5 @@
 -- A dropped struct asks no name.
 use Rattle.decide.proofs.Placing.{joining}
-use native.Mathlib.Omega.{arith}
 use borrow.Author.Needs.{needs}
 use Rattle.decide.proofs.join.Statement.{statement}
 use Rattle.decide.proofs.join.Tie as tie

@@ -1,6 +1,5 @@
 -- A name that is found and stays is taken.
 use Rattle.decide.proofs.Placing.{rooting}
-use native.Mathlib.Omega.{arith}
 use borrow.Author.Needs.{needs}
 use Rattle.decide.proofs.place_at_root.Statement.{statement}
 use Rattle.decide.proofs.place_at_root.Tie as tie

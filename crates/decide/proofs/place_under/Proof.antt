@@ -1,6 +1,5 @@
 -- Nothing found is 15, no struct 16; then the struct decides.
 use Rattle.decide.proofs.Leading.{parent-nothing, parent-stands, target-sited, parent-shut, parent-joins}
-use native.Mathlib.Omega.{arith}
 use borrow.Author.Needs.{needs}
 use Rattle.decide.proofs.place_under.Statement.{statement}
 use Rattle.decide.proofs.place_under.Tie as tie

@@ -1,6 +1,5 @@
 -- The bits of an id turned twice are the bits.
 use Rattle.index.proofs.Looking.{placing}
-use native.Mathlib.Omega.{arith}
 use borrow.Author.Needs.{needs}
 use Rattle.index.proofs.found_at.Statement.{statement}
 use Rattle.index.proofs.found_at.Tie as tie

@@ -1,6 +1,5 @@
 -- The walk tells the full names, and the chains tell which are equal.
 use Rattle.index.proofs.Sounding.{marked-spelt, marked-hashed, names-indexed}
-use native.Mathlib.Omega.{arith}
 use borrow.Author.Needs.{needs}
 use Rattle.index.proofs.index_names.Statement.{statement}
 use Rattle.index.proofs.index_names.Tie as tie

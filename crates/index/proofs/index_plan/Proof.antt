@@ -1,7 +1,6 @@
 -- 7, 8 and 9 in order are the paper's chain of tests.
 use Rattle.index.proofs.Rows.{plan-sources}
 use Rattle.index.proofs.Sounding.{stop-7, stop-8, all-sound}
-use native.Mathlib.Omega.{arith}
 use borrow.Author.Needs.{needs}
 use Rattle.index.proofs.index_plan.Statement.{statement}
 use Rattle.index.proofs.index_plan.Tie as tie

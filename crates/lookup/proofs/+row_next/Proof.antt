@@ -1,5 +1,5 @@
 -- What is left of the row ends where the whole ends; levels fall.
-use mathlib.Core.Path.{_≡_, refl}
+use mathlib.Core.Path.{_≡_}
 use Rattle.plan.specs.Plan.{kids-in}
 use Rattle.names.specs.Walk.{walk}
 use Rattle.lookup.proofs.Nexts.{nexts, loops, loop-goes}

@@ -1,6 +1,5 @@
 -- Skipped: the same is left. A name and a dot: what stands behind them. Else nothing.
 use Rattle.lookup.proofs.Fitting.{small}
-use native.Mathlib.Omega.{arith}
 use borrow.Author.Needs.{needs}
 use Rattle.lookup.proofs.deeper.Statement.{statement}
 use Rattle.lookup.proofs.deeper.Tie as tie

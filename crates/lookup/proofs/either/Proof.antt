@@ -1,6 +1,5 @@
 -- The first of two places, if there is one.
 use Rattle.lookup.proofs.Fitting.{small}
-use native.Mathlib.Omega.{arith}
 use borrow.Author.Needs.{needs}
 use Rattle.lookup.proofs.either.Statement.{statement}
 use Rattle.lookup.proofs.either.Tie as tie

@@ -1,6 +1,5 @@
 -- What waits, or the end of the row.
 use Rattle.lookup.proofs.Fitting.{small}
-use native.Mathlib.Omega.{arith}
 use borrow.Author.Needs.{needs}
 use Rattle.lookup.proofs.ended.Statement.{statement}
 use Rattle.lookup.proofs.ended.Tie as tie

@@ -4,7 +4,6 @@ use mathlib.Core.Path.{_≡_}
 use lib.ListN.{length, drop}
 use Rattle.lookup.specs.Seek.{fits}
 use Rattle.lookup.proofs.Fitting.{fitting}
-use native.Mathlib.Omega.{arith}
 use borrow.Author.Needs.{needs}
 use Rattle.lookup.proofs.fit.Statement.{statement}
 use Rattle.lookup.proofs.fit.Tie as tie

@@ -4,7 +4,6 @@ use mathlib.Core.Path.{_≡_}
 use lib.ListN.{length, drop}
 use Rattle.paper.specs.Answer.{among}
 use Rattle.lookup.proofs.Dotted.{dotting}
-use native.Mathlib.Omega.{arith}
 use borrow.Author.Needs.{needs}
 use Rattle.lookup.proofs.has_dot.Statement.{statement}
 use Rattle.lookup.proofs.has_dot.Tie as tie

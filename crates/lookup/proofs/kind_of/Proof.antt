@@ -1,6 +1,5 @@
 -- The source at the place stands in its list.
 use Rattle.names.proofs.Naming.{source-in, sourced}
-use native.Mathlib.Omega.{arith}
 use borrow.Author.Needs.{needs}
 use Rattle.lookup.proofs.kind_of.Statement.{statement}
 use Rattle.lookup.proofs.kind_of.Tie as tie

@@ -1,6 +1,5 @@
 -- The record itself where its name is all that is left.
 use Rattle.lookup.proofs.Fitting.{small}
-use native.Mathlib.Omega.{arith}
 use borrow.Author.Needs.{needs}
 use Rattle.lookup.proofs.own_place.Statement.{statement}
 use Rattle.lookup.proofs.own_place.Tie as tie

@@ -1,6 +1,5 @@
 -- Late records join what waits.
 use Rattle.lookup.proofs.Fitting.{small}
-use native.Mathlib.Omega.{arith}
 use borrow.Author.Needs.{needs}
 use Rattle.lookup.proofs.waiting.Statement.{statement}
 use Rattle.lookup.proofs.waiting.Tie as tie

@@ -1,6 +1,5 @@
 -- Before the own name stands the dot, else the byte is the name's.
 use Rattle.names.proofs.Spelling.{byting}
-use native.Mathlib.Omega.{arith}
 use borrow.Author.Needs.{needs}
 use Rattle.names.proofs.byte_of.Statement.{statement}
 use Rattle.names.proofs.byte_of.Tie as tie

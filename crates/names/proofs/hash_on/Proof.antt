@@ -4,7 +4,6 @@ use mathlib.Core.Path.{_≡_}
 use lib.ListN.{length, drop}
 use Rattle.names.specs.Hash.{hash-on}
 use Rattle.names.proofs.Hashing.{hashing}
-use native.Mathlib.Omega.{arith}
 use borrow.Author.Needs.{needs}
 use Rattle.names.proofs.hash_on.Statement.{statement}
 use Rattle.names.proofs.hash_on.Tie as tie

@@ -1,7 +1,6 @@
 -- One step of the hash, with room in 64 bits.
 use Rattle.names.specs.Hash.{mix}
 use Rattle.names.proofs.Hashing.{hashing}
-use native.Mathlib.Omega.{arith}
 use borrow.Author.Needs.{needs}
 use Rattle.names.proofs.mixed.Statement.{statement}
 use Rattle.names.proofs.mixed.Tie as tie

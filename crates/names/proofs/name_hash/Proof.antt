@@ -1,6 +1,5 @@
 -- The hash is carried on over the name.
 use Rattle.names.proofs.Naming.{sourced}
-use native.Mathlib.Omega.{arith}
 use borrow.Author.Needs.{needs}
 use Rattle.names.proofs.name_hash.Statement.{statement}
 use Rattle.names.proofs.name_hash.Tie as tie

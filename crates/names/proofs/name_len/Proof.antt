@@ -1,6 +1,5 @@
 -- The length is the source's, at most 255.
 use Rattle.names.proofs.Naming.{sourced, source-in}
-use native.Mathlib.Omega.{arith}
 use borrow.Author.Needs.{needs}
 use Rattle.names.proofs.name_len.Statement.{statement}
 use Rattle.names.proofs.name_len.Tie as tie

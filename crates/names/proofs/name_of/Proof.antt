@@ -1,6 +1,5 @@
 -- The source at the place sits, so its name is a part of its pool.
 use Rattle.names.proofs.Naming.{sourced}
-use native.Mathlib.Omega.{arith}
 use borrow.Author.Needs.{needs}
 use Rattle.names.proofs.name_of.Statement.{statement}
 use Rattle.names.proofs.name_of.Tie as tie

@@ -1,10 +1,8 @@
 -- The byte stands in the full name above as long as it is before the own name; places above fall.
-use mathlib.Core.Path.{refl}
 use Rattle.names.proofs.Spelling.{Reading, read-starts, read-ends, read-dot, read-up, read-falls, read-small, read-goes}
 use Rattle.names.proofs.Spelling.{Reading}
 use Rattle.plan.specs.Plan.{lent}
 use Rattle.names.specs.Told.{name-in}
-use Rattle.names.proofs.Spelling.{reading}
 use native.Mathlib.Omega.{arith}
 use borrow.Author.Needs.{needs}
 use Rattle.names.proofs.owner.Statement.{statement}

@@ -1,7 +1,5 @@
 -- Equal bytes by both bytes.
 use Rattle.names.proofs.Spelling.{same-bytes}
-use native.Mathlib.Omega.{arith}
-use borrow.Author.Needs.{needs}
 use Rattle.names.proofs.same_byte.Statement.{statement}
 use Rattle.names.proofs.same_byte.Tie as tie
 use Rattle.names.proofs.same_byte.Reads as reads

@@ -1,6 +1,5 @@
 -- Siblings have one prefix; others are compared byte by byte.
 use Rattle.names.proofs.Spelling.{siblings-same}
-use native.Mathlib.Omega.{arith}
 use borrow.Author.Needs.{needs}
 use Rattle.names.proofs.same_names.Statement.{statement}
 use Rattle.names.proofs.same_names.Tie as tie

@@ -1,6 +1,5 @@
 -- A full name ends with the own name.
 use Rattle.names.proofs.Spelling.{starting}
-use native.Mathlib.Omega.{arith}
 use borrow.Author.Needs.{needs}
 use Rattle.names.proofs.start_of.Statement.{statement}
 use Rattle.names.proofs.start_of.Tie as tie

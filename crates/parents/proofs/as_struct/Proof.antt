@@ -1,6 +1,5 @@
 -- The kind decides.
 use Rattle.parents.proofs.Receiving.{resolving}
-use native.Mathlib.Omega.{arith}
 use borrow.Author.Needs.{needs}
 use Rattle.parents.proofs.as_struct.Statement.{statement}
 use Rattle.parents.proofs.as_struct.Tie as tie

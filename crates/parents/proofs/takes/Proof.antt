@@ -1,6 +1,5 @@
 -- The name is compared before the set is asked.
 use Rattle.parents.proofs.Members.{taking}
-use native.Mathlib.Omega.{arith}
 use borrow.Author.Needs.{needs}
 use Rattle.parents.proofs.takes.Statement.{statement}
 use Rattle.parents.proofs.takes.Tie as tie

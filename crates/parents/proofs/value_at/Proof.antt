@@ -1,6 +1,5 @@
 -- The key is the first of two members.
 use Rattle.parents.proofs.Receiving.{key-inside, value-ends}
-use native.Mathlib.Omega.{arith}
 use borrow.Author.Needs.{needs}
 use Rattle.parents.proofs.value_at.Statement.{statement}
 use Rattle.parents.proofs.value_at.Tie as tie

@@ -1,5 +1,4 @@
 -- The index decides 7 and 8, the rest is pruning. Assumes nothing.
-use native.Mathlib.Omega.{arith}
 use Prim.Native.Nat.{ℕ}
 use mathlib.Core.Path.{refl}
 use mathlib.Core.Bool.{true}

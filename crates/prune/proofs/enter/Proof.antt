@@ -1,5 +1,4 @@
 -- The three tests are those of the entry, in its order. Assumes nothing.
-use native.Mathlib.Omega.{arith}
 use Rattle.prune.proofs.Entering.{entering, tree-asks}
 use borrow.Author.Needs.{needs}
 use Rattle.prune.proofs.enter.Statement.{statement}

@@ -1,5 +1,4 @@
 -- 1 to 6, then the rest of the entry. Assumes nothing.
-use native.Mathlib.Omega.{arith}
 use Rattle.prune.proofs.Entering.{entering}
 use borrow.Author.Needs.{needs}
 use Rattle.prune.proofs.prune.Statement.{statement}

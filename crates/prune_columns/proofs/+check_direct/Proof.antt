@@ -1,5 +1,4 @@
 -- The siblings that are left say what all say; levels left fall. Assumes nothing.
-use native.Mathlib.Omega.{arith}
 use borrow.Author.Needs.{needs}
 use Rattle.walk.proofs.Standing.{standing}
 use Rattle.prune_columns.proofs.Directing.{Left, directing}

@@ -1,5 +1,4 @@
 -- One more store behind a run is a longer run. Assumes nothing.
-use native.Mathlib.Omega.{arith}
 use Prim.Native.Nat.{_-_, _≤_}
 use borrow.Author.Needs.{needs}
 use Rattle.prune_columns.proofs.Copying.{Copying, copying}

@@ -1,5 +1,4 @@
 -- A record with its inside is a row of one tree. Assumes nothing.
-use native.Mathlib.Omega.{arith}
 use Rattle.prune_columns.proofs.Planning.{planning}
 use borrow.Author.Needs.{needs}
 use Rattle.prune_columns.proofs.project_whole.Statement.{statement}

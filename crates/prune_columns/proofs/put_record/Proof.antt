@@ -1,5 +1,4 @@
 -- Three stores. Assumes nothing.
-use native.Mathlib.Omega.{arith}
 use mathlib.Core.Path.{refl}
 use borrow.Author.Needs.{needs}
 use Rattle.prune_columns.proofs.put_record.Statement.{statement}

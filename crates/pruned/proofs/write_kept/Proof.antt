@@ -1,5 +1,4 @@
 -- What is kept is a plan, and its fields are the paper's. Assumes nothing.
-use native.Mathlib.Omega.{arith}
 use Rattle.pruned.proofs.Writing.{writing}
 use borrow.Author.Needs.{needs}
 use Rattle.pruned.proofs.write_kept.Statement.{statement}

@@ -1,5 +1,4 @@
 -- The first walk decides 20, the second what is written. Assumes nothing.
-use native.Mathlib.Omega.{arith}
 use Rattle.pruned.proofs.Writing.{writing}
 use borrow.Author.Needs.{needs}
 use Rattle.pruned.proofs.write_pruned.Statement.{statement}

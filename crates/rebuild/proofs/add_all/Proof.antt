@@ -1,5 +1,4 @@
 -- What arrives from the j-th addition on plans the rest.
-use native.Mathlib.Omega.{arith}
 use borrow.Author.Needs.{needs}
 use Prim.Native.Nat.{_-_}
 use Rattle.paper.specs.Rebuild.{arriving}

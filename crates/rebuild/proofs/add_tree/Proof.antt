@@ -2,7 +2,7 @@
 use native.Mathlib.Omega.{arith}
 use borrow.Author.Needs.{needs}
 use Rattle.tree.proofs.Filled.{end-room}
-use Rattle.rebuild.proofs.Trees.{growing, tree-ends, tree-goes, tree-wide, tree-deep}
+use Rattle.rebuild.proofs.Trees.{growing}
 use Rattle.rebuild.proofs.add_tree.Statement.{statement}
 use Rattle.rebuild.proofs.add_tree.Tie as tie
 use Rattle.rebuild.proofs.add_tree.Reads as reads

@@ -1,8 +1,4 @@
 -- Of open siblings the dropped go.
-use mathlib.Core.Path.{_∙_, ap}
-use Rattle.dropped.specs.Set.{dropped-ids}
-use Rattle.paper.specs.Answer.{among}
-use Rattle.paper.specs.Bytes.{turned}
 use Rattle.rebuild.proofs.Rebuilding.{gone-asked}
 use borrow.Author.Needs.{needs}
 use Rattle.rebuild.proofs.goes.Statement.{statement}

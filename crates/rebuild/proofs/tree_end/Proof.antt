@@ -1,6 +1,5 @@
 -- A row that was read ends where it was read to.
 use Rattle.rebuild.proofs.Rebuilding.{nexts}
-use native.Mathlib.Omega.{arith}
 use borrow.Author.Needs.{needs}
 use Rattle.rebuild.proofs.tree_end.Statement.{statement}
 use Rattle.rebuild.proofs.tree_end.Tie as tie

@@ -1,6 +1,5 @@
 -- The trees refuse, or the lists, or all is in order.
 use Rattle.request.proofs.Opening.{openings}
-use native.Mathlib.Omega.{arith}
 use borrow.Author.Needs.{needs}
 use Rattle.request.proofs.check_contents.Statement.{statement}
 use Rattle.request.proofs.check_contents.Tie as tie

@@ -1,6 +1,5 @@
 -- The deletions refuse, or the additions tell.
 use Rattle.request.proofs.Opening.{openings}
-use native.Mathlib.Omega.{arith}
 use borrow.Author.Needs.{needs}
 use Rattle.request.proofs.check_lists.Statement.{statement}
 use Rattle.request.proofs.check_lists.Tie as tie

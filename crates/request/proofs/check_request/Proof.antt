@@ -1,7 +1,6 @@
 -- Room, limits, contents.
 use Rattle.limits.proofs.Within.{base-most, added-most, deletions-most, additions-most}
 use Rattle.request.proofs.Opening.{openings}
-use native.Mathlib.Omega.{arith}
 use borrow.Author.Needs.{needs}
 use Rattle.request.proofs.check_request.Statement.{statement}
 use Rattle.request.proofs.check_request.Tie as tie

@@ -1,6 +1,5 @@
 -- The base refuses, or the additions tree, or both are read.
 use Rattle.request.proofs.Opening.{openings}
-use native.Mathlib.Omega.{arith}
 use borrow.Author.Needs.{needs}
 use Rattle.request.proofs.check_trees.Statement.{statement}
 use Rattle.request.proofs.check_trees.Tie as tie

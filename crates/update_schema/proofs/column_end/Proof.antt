@@ -1,6 +1,5 @@
 -- A row that was read ends where it was read to.
 use Rattle.update_schema.proofs.Numbering.{columns}
-use native.Mathlib.Omega.{arith}
 use borrow.Author.Needs.{needs}
 use Rattle.update_schema.proofs.column_end.Statement.{statement}
 use Rattle.update_schema.proofs.column_end.Tie as tie

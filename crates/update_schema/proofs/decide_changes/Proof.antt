@@ -1,6 +1,5 @@
 -- A set with the members of the deletions decides the additions.
 use Rattle.update_schema.proofs.Changing.{changes-stop, changes-go}
-use native.Mathlib.Omega.{arith}
 use borrow.Author.Needs.{needs}
 use Rattle.update_schema.proofs.decide_changes.Statement.{statement}
 use Rattle.update_schema.proofs.decide_changes.Tie as tie

@@ -1,6 +1,5 @@
 -- With a path the parent is looked up, without one the name.
 use Rattle.update_schema.proofs.Found.{found-sited, goes-under, goes-root}
-use native.Mathlib.Omega.{arith}
 use borrow.Author.Needs.{needs}
 use Rattle.update_schema.proofs.find_place.Statement.{statement}
 use Rattle.update_schema.proofs.find_place.Tie as tie

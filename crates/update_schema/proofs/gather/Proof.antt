@@ -1,7 +1,6 @@
 -- After each turn the set holds one id more of the array.
 use Prim.Native.Nat.{_-_}
 use Rattle.update_schema.proofs.Deleting.{Gathering, gathering}
-use native.Mathlib.Omega.{arith}
 use borrow.Author.Needs.{needs}
 use Rattle.update_schema.proofs.gather.Statement.{statement}
 use Rattle.update_schema.proofs.gather.Tie as tie

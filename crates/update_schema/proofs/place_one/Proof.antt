@@ -1,6 +1,5 @@
 -- 13 and 14 first, then the place, then the ids.
 use Rattle.update_schema.proofs.Placing.{spot-barred, spot-nowhere, spot-goes}
-use native.Mathlib.Omega.{arith}
 use borrow.Author.Needs.{needs}
 use Rattle.update_schema.proofs.place_one.Statement.{statement}
 use Rattle.update_schema.proofs.place_one.Tie as tie

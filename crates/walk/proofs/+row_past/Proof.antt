@@ -1,5 +1,4 @@
 -- What is left of the row ends where the row ends; levels left fall. Assumes nothing.
-use native.Mathlib.Omega.{arith}
 use borrow.Author.Needs.{needs}
 use Rattle.walk.proofs.Standing.{Past, standing, passing}
 use Prim.Native.Nat.{ℕ, _<_}
