@@ -25,7 +25,7 @@ use Rattle.record.specs.Says.{found-row, looked, changes}
 use Rattle.index.specs.Shown.{FoundIn, by-name, by-id, by-parent}
 use Rattle.index.proofs.Showing.{row-here}
 use Rattle.prune.specs.Pruning.{Prunes}
-use Rattle.rebuilt.specs.Ending.{Answers}
+use Rattle.update_write.specs.Ending.{Answers}
 use Rattle.renumber.specs.Renumbering.{Renumbers}
 use Rattle.braidhurdle.specs.declared.ChangedNumbers.{ChangedNumbers}
 use Rattle.braidhurdle.specs.declared.FoundNumbers.{FoundNumbers}

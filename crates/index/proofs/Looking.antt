@@ -27,22 +27,22 @@ use Rattle.laws.proofs.Words.{turned-twice}
 use Rattle.laws.proofs.Finding.{eqb-flip}
 use Rattle.plan.specs.Plan.{Lent, kids-in, planned-field, plan-fields, Plan}
 use Rattle.plan.proofs.Standing.{field-in}
-use Rattle.chain.specs.Chain.{pick, lowest-below}
-use Rattle.chain.specs.Ids.{id-in, is-id}
-use Rattle.chain.proofs.Chains.{below-zero, below-suc}
-use Rattle.chain.proofs.Repeats.{slot-at, found-below}
-use Rattle.names.specs.Walk.{walk, trees-of}
-use Rattle.names.specs.Full.{fulls, ups, full-at}
-use Rattle.names.specs.Told.{name-in, kind-in, is-full}
-use Rattle.names.proofs.Walks.{all-there, all-numbered}
-use Rattle.names.proofs.Telling.{fulls-are}
-use Rattle.lookup.specs.declared.Sighting.{Sighting}
-use Rattle.lookup.specs.declared.Sighting.the-variants as sighted
-use Rattle.lookup.specs.Seek.{left-at, seek-in, seen, outcome, sighting}
-use Rattle.lookup.proofs.Fitting.{left-in}
-use Rattle.lookup.proofs.Seeking.{past-is, found-is}
-use Rattle.lookup.proofs.Entered as short
-use Rattle.lookup.proofs.Entered.{short-rel, dotless, found-in}
+use Rattle.index_ids.specs.Chain.{pick, lowest-below}
+use Rattle.index_ids.specs.Ids.{id-in, is-id}
+use Rattle.index_ids.proofs.Chains.{below-zero, below-suc}
+use Rattle.index_ids.proofs.Repeats.{slot-at, found-below}
+use Rattle.index_names.specs.Walk.{walk, trees-of}
+use Rattle.index_names.specs.Full.{fulls, ups, full-at}
+use Rattle.index_names.specs.Told.{name-in, kind-in, is-full}
+use Rattle.index_names.proofs.Walks.{all-there, all-numbered}
+use Rattle.index_names.proofs.Telling.{fulls-are}
+use Rattle.index_short_names.specs.declared.Sighting.{Sighting}
+use Rattle.index_short_names.specs.declared.Sighting.the-variants as sighted
+use Rattle.index_short_names.specs.Seek.{left-at, seek-in, seen, outcome, sighting}
+use Rattle.index_short_names.proofs.Fitting.{left-in}
+use Rattle.index_short_names.proofs.Seeking.{past-is, found-is}
+use Rattle.index_short_names.proofs.Entered as short
+use Rattle.index_short_names.proofs.Entered.{short-rel, dotless, found-in}
 use Rattle.index.specs.Index.{Raised, Falling, at-slot, found-slot, short-slot}
 use Rattle.index.proofs.Rows.{field-id, field-name, plan-is, ids-are, names-are, Rel, none-found, found-at, parent-at, id-rel, full-rel}
 

@@ -18,11 +18,11 @@ use Rattle.laws.proofs.Preorder.{size-mapped, mapped-mapped}
 use Rattle.laws.proofs.Runs.{from-append, map-append}
 use Rattle.plan.specs.Plan.{Lent, planned-field, source-in, kids-in, plan-slots, plan-tree, plan-fields, Plan}
 use Rattle.plan.proofs.Standing.{field-in}
-use Rattle.chain.specs.Ids.{id-in}
-use Rattle.names.specs.Walk.{trees-of}
-use Rattle.names.specs.Full.{fulls, ups}
-use Rattle.names.specs.Told.{name-in, kind-in, Sources}
-use Rattle.names.proofs.Walks.{Numbered, roots-are}
+use Rattle.index_ids.specs.Ids.{id-in}
+use Rattle.index_names.specs.Walk.{trees-of}
+use Rattle.index_names.specs.Full.{fulls, ups}
+use Rattle.index_names.specs.Told.{name-in, kind-in, Sources}
+use Rattle.index_names.proofs.Walks.{Numbered, roots-are}
 
 -- ---- the fields of the slots
 

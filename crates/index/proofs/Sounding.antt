@@ -16,12 +16,12 @@ use Rattle.record.specs.declared.Check.the-variants.{Fine, Refused}
 use Rattle.record.specs.Says.{tested, checked}
 use Rattle.record.proofs.Testing.{tested-fault, chain-goes, chain-stops}
 use Rattle.plan.specs.Plan.{Lent, kids-in, plan-fields, Plan}
-use Rattle.chain.specs.Ids.{ids-in, rule-7, rule-9, Indexed}
-use Rattle.names.specs.Walk.{walk, trees-of}
-use Rattle.names.specs.Hash.{hash-on, hash-of}
-use Rattle.names.specs.Full.{fulls, ups}
-use Rattle.names.specs.Told.{name-in, Sources, Marked, Spelt, Hashed, rule-8, Unequal}
-use Rattle.names.proofs.Telling.{ups-told, names-told, hashes-told, fulls-are}
+use Rattle.index_ids.specs.Ids.{ids-in, rule-7, rule-9, Indexed}
+use Rattle.index_names.specs.Walk.{walk, trees-of}
+use Rattle.index_names.specs.Hash.{hash-on, hash-of}
+use Rattle.index_names.specs.Full.{fulls, ups}
+use Rattle.index_names.specs.Told.{name-in, Sources, Marked, Spelt, Hashed, rule-8, Unequal}
+use Rattle.index_names.proofs.Telling.{ups-told, names-told, hashes-told, fulls-are}
 use Rattle.index.specs.Index.{Raised, NamesIndexed, Indexing}
 use Rattle.index.proofs.Rows.{plan-is}
 use Rattle.index.proofs.Looking.{ids-in-order, names-in-order}

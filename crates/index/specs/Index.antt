@@ -18,12 +18,12 @@ use Rattle.record.specs.declared.Found.{Found}
 use Rattle.record.specs.declared.Found.the-variants.{At, Nothing}
 use Rattle.record.specs.Says.{tested, checked, found-row}
 use Rattle.plan.specs.Plan.{Lent, lent, kids-in, plan-fields, Plan}
-use Rattle.chain.specs.Chain.{Chained}
-use Rattle.chain.specs.Ids.{id-in, id-bucket}
-use Rattle.names.specs.Walk.{trees-of}
-use Rattle.names.specs.Full.{fulls, ups}
-use Rattle.names.specs.Told.{name-in, kind-in, Spelt, Hashed, name-bucket}
-use Rattle.lookup.specs.Seek.{seek-in}
+use Rattle.index_ids.specs.Chain.{Chained}
+use Rattle.index_ids.specs.Ids.{id-in, id-bucket}
+use Rattle.index_names.specs.Walk.{trees-of}
+use Rattle.index_names.specs.Full.{fulls, ups}
+use Rattle.index_names.specs.Told.{name-in, kind-in, Spelt, Hashed, name-bucket}
+use Rattle.index_short_names.specs.Seek.{seek-in}
 
 -- The arrays of an index have 1,024 elements each.
 pub record Rooms (id-heads id-next us ls hs name-heads name-next : List ℕ) : Type 0 where

@@ -1,14 +1,14 @@
 // index.rs: ids, parents and names of a planned tree, which the base is too. Refusals 7 to 9, and the look-ups.
-use chain::check_identifiers;
-use chain::check_ids;
-use chain::clear;
-use chain::place;
-use lookup::Sighting;
-use lookup::has_dot;
-use lookup::seek;
-use names::check_names;
-use names::find_full;
-use names::mark_row;
+use index_ids::check_identifiers;
+use index_ids::check_ids;
+use index_ids::clear;
+use index_ids::place;
+use index_names::check_names;
+use index_names::find_full;
+use index_names::mark_row;
+use index_short_names::Sighting;
+use index_short_names::has_dot;
+use index_short_names::seek;
 use paper::Role;
 use plan::take_base;
 use record::Check;
@@ -28,10 +28,10 @@ ghost use Rattle.paper.specs.Entries.{find-name, find-id, find-parent};
 ghost use Rattle.paper.specs.Rows.{look-name};
 ghost use Rattle.record.specs.Says.{found-row, looked};
 ghost use Rattle.plan.specs.Plan.{lent, plan-fields, Plan};
-ghost use Rattle.chain.specs.Chain.{Chained};
-ghost use Rattle.chain.specs.Ids.{id-bucket, Indexed};
-ghost use Rattle.names.specs.Told.{Sources};
-ghost use Rattle.lookup.specs.Seek.{seen};
+ghost use Rattle.index_ids.specs.Chain.{Chained};
+ghost use Rattle.index_ids.specs.Ids.{id-bucket, Indexed};
+ghost use Rattle.index_names.specs.Told.{Sources};
+ghost use Rattle.index_short_names.specs.Seek.{seen};
 ghost use Rattle.index.specs.Shown.{Shown};
 ghost use Rattle.index.specs.Index.{Rooms, Falling, Index, NamesIndexed, Indexing, at-slot, found-slot, short-slot, ById, ByParent, Opened};
 
@@ -181,7 +181,7 @@ pub fn look_id(
     ensures { λ r. ⌜ ById (now (ids .entry)) m (id .0) r ⌝ }
 {
     let want = id.0;
-    found_place(ids, chain::find_id(ids, id_heads, id_next, m, want))
+    found_place(ids, index_ids::find_id(ids, id_heads, id_next, m, want))
 }
 
 // The record above the one that has the id.
@@ -197,7 +197,7 @@ pub fn look_parent(
     ensures { λ r. ⌜ ByParent (now (ids .entry)) (now (ups .entry)) m (id .0) r ⌝ }
 {
     let want = id.0;
-    let at = chain::find_id(ids, id_heads, id_next, m, want);
+    let at = index_ids::find_id(ids, id_heads, id_next, m, want);
     if at == 0 {
         return Found::Nothing;
     }

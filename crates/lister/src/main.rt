@@ -2,7 +2,7 @@
 // the full name of each record; or the line of a refusal.
 use libc::STDERR_FILENO;
 use libc::STDOUT_FILENO;
-use lines::listing;
+use lister_lines::listing;
 ghost use Prim.Native.Nat.{_≤_, _<_};
 ghost use lib.ListN.{length};
 

@@ -31,17 +31,17 @@ use Rattle.paper.specs.Outcome.{out-records, out-names, leaves}
 use Rattle.laws.proofs.Basics.{unbind, fault-ok, bind-assoc, bind-not}
 use Rattle.laws.proofs.Fitting.{sized-slots, ids-sized, rooms-of}
 use Rattle.laws.proofs.Runs.{getD-sets, length-from}
-use Rattle.limits.proofs.Within.{ids-tree}
+use Rattle.record_limits.proofs.Within.{ids-tree}
 use Rattle.tree.specs.declared.Shaped.{Shaped}
 use Rattle.tree.specs.declared.Shaped.the-variants as shaped
 use Rattle.tree.specs.Says.{decoded}
 use Rattle.tree.proofs.Deciding.{decode-ok, decode-refused}
 use Rattle.plan.specs.Sources.{id-bits}
 use Rattle.prune_columns.specs.Projected.{marked}
-use Rattle.chosen.specs.Marks.{Unmarked, Marks}
-use Rattle.pruned.specs.Pruned as whole
-use Rattle.pruned.specs.Pruned.{the-result, pruning, Agrees}
-use Rattle.based.specs.Based.{Readable, BaseIndexed}
+use Rattle.prune_marks.specs.Marks.{Unmarked, Marks}
+use Rattle.prune_write.specs.Pruned as whole
+use Rattle.prune_write.specs.Pruned.{the-result, pruning, Agrees}
+use Rattle.index_base.specs.Based.{Readable, BaseIndexed}
 use Rattle.prune.specs.Pruning.{entered, Entered, Choosable, Chosen, Prunes}
 
 -- An array of zeros.

@@ -19,10 +19,10 @@ use Rattle.record.specs.declared.Changed.{Changed}
 use Rattle.record.specs.Says.{changes}
 use Rattle.tree.specs.declared.Shaped.the-variants.{Roots}
 use Rattle.tree.specs.Says.{decoded}
-use Rattle.chain.specs.Chain.{Chained}
-use Rattle.chain.specs.Ids.{id-bucket}
-use Rattle.chosen.specs.Marks.{Distinct-ids}
-use Rattle.pruned.specs.Pruned.{Ready, pruning}
+use Rattle.index_ids.specs.Chain.{Chained}
+use Rattle.index_ids.specs.Ids.{id-bucket}
+use Rattle.prune_marks.specs.Marks.{Distinct-ids}
+use Rattle.prune_write.specs.Pruned.{Ready, pruning}
 
 -- The part of the entry up to 6.
 unfoldable pub entered : (s p sel : List ℕ) (lr ln : ℕ) → Answer (Forest Field)

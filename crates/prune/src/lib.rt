@@ -1,12 +1,12 @@
 // Pruning, whole: from lent bytes to lent bytes.
-use based::index_base;
-use chosen::mark_chosen;
-use limits::room;
-use limits::sized_selected;
-use pruned::write_pruned;
+use index_base::index_base;
+use prune_marks::mark_chosen;
+use prune_write::write_pruned;
 use record::Changed;
 use record::Check;
 use record::Refusal;
+use record_limits::room;
+use record_limits::sized_selected;
 use tree::Shaped;
 use tree::check_tree;
 ghost use mathlib.Core.Path.{_≡_};

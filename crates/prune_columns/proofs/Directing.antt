@@ -22,8 +22,8 @@ use Rattle.tree.specs.declared.Walked.{Walked}
 use Rattle.tree.specs.declared.Walked.the-variants.{End, Refused}
 use Rattle.tree.specs.Says.{walked-to}
 use Rattle.tree.proofs.Labels.{walked-goes, walked-stops, walked-end}
-use Rattle.walk.specs.There.{row-of, There}
-use Rattle.walk.proofs.Standing.{none-there, split, inner-past, rest-there, rest-next}
+use Rattle.tree_walk.specs.There.{row-of, There}
+use Rattle.tree_walk.proofs.Standing.{none-there, split, inner-past, rest-there, rest-next}
 use Rattle.prune_columns.specs.Split.{is-nested, direct, first-direct}
 use Rattle.prune_columns.specs.Projected.{marked, Checked}
 

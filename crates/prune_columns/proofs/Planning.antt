@@ -15,8 +15,8 @@ use Rattle.tree.proofs.Filled.{Full, full}
 use Rattle.laws.proofs.Basics.{rebind}
 use Rattle.plan.specs.Plan.{Source, slot-of, bits-of, Laid}
 use Rattle.plan.proofs.Laying.{laid-node, laid-row}
-use Rattle.walk.specs.There.{row-of, There}
-use Rattle.walk.proofs.Standing.{there-full, there-past}
+use Rattle.tree_walk.specs.There.{row-of, There}
+use Rattle.tree_walk.proofs.Standing.{there-full, there-past}
 use Rattle.prune_columns.specs.Projected.{id-bits, own-source, Spot, tree-at, KeptWhole, Span, Copied}
 
 -- A record stored after its inside.

@@ -23,8 +23,8 @@ use Rattle.laws.proofs.Runs.{sets-before, map-append}
 use Rattle.laws.proofs.Written.{siblings-size}
 use Rattle.plan.specs.Plan.{Source, slot-of, bits-of, Laid}
 use Rattle.plan.proofs.Laying.{laid-none, laid-then}
-use Rattle.walk.specs.There.{row-of, There}
-use Rattle.walk.proofs.Standing.{none-there, there-full, there-past, split, level-left, record-left, inner-there, rest-there, rest-next, inner-past}
+use Rattle.tree_walk.specs.There.{row-of, There}
+use Rattle.tree_walk.proofs.Standing.{none-there, there-full, there-past, split, level-left, record-left, inner-there, rest-there, rest-next, inner-past}
 use Rattle.prune_columns.specs.declared.Step.{Step}
 use Rattle.prune_columns.specs.Split.{is-nested, held, projected}
 use Rattle.prune_columns.specs.Projected.{marked, own-source, Planned, Row, Kept, Spot, Behind, tree-at, yield-at, KeptWhole, KeptYield, KeptInside, KeptOne, Span, Copied, Stored}

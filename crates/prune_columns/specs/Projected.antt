@@ -13,7 +13,7 @@ use Rattle.paper.specs.Bytes.{rec-at, kind-at, kids-at, slots, from}
 use Rattle.paper.specs.declared.Role.the-variants.{Member}
 use Rattle.tree.specs.declared.Walked.{Walked}
 use Rattle.tree.specs.Read.{itself}
-use Rattle.walk.specs.There.{row-of, There}
+use Rattle.tree_walk.specs.There.{row-of, There}
 use Rattle.tree.specs.Says.{walked-to}
 use Rattle.plan.specs.Plan.{Source, Laid}
 use Rattle.prune_columns.specs.declared.Step.{Step}

@@ -11,14 +11,14 @@ use record::kind_at;
 use record::le32;
 use tree::Walked;
 use tree::inside_role;
-use walk::is_map;
-use walk::row_past;
+use tree_walk::is_map;
+use tree_walk::row_past;
 ghost use mathlib.Core.Path.{_≡_};
 ghost use Prim.Native.Nat.{_+_, _*_, _≤_, _<_};
 ghost use lib.ListN.{length};
 ghost use Rattle.paper.specs.declared.Role.the-variants.{Member, Element, Key};
 ghost use Rattle.paper.specs.Bytes.{slots};
-ghost use Rattle.walk.specs.There.{There};
+ghost use Rattle.tree_walk.specs.There.{There};
 ghost use Rattle.prune_columns.specs.Split.{is-nested, direct};
 ghost use Rattle.prune_columns.specs.Projected.{
   Checked,

@@ -32,22 +32,22 @@ use Rattle.laws.proofs.Basics.{unbind, ok-is, fault-ok, bind-assoc, bind-not}
 use Rattle.laws.proofs.RoundTrip.{both, length-pool}
 use Rattle.laws.proofs.Fitting.{sized-slots, size-mapped, ids-sized, rooms-of}
 use Rattle.laws.proofs.Runs.{sets-front, length-from}
-use Rattle.limits.proofs.Within.{ids-tree}
+use Rattle.record_limits.proofs.Within.{ids-tree}
 use Rattle.tree.specs.declared.Shaped.{Shaped}
 use Rattle.tree.specs.declared.Shaped.the-variants as shaped
 use Rattle.tree.specs.Says.{decoded}
 use Rattle.tree.proofs.Deciding.{decode-ok, decode-refused}
 use Rattle.plan.specs.Plan.{lent}
 use Rattle.plan.proofs.Standing.{fields-size}
-use Rattle.chain.specs.Ids.{ids-in}
+use Rattle.index_ids.specs.Ids.{ids-in}
 use Rattle.index.proofs.Rows.{plan-is}
 use Rattle.index.proofs.Looking.{ids-in-order}
-use Rattle.walk.specs.There.{row-of}
-use Rattle.walk.proofs.Opening.{Opened, opened}
-use Rattle.renumbered.specs.Renumbered as whole
-use Rattle.renumbered.specs.Renumbered.{zeroed, new-tree}
-use Rattle.identifiers.specs.Mapped.{Mapped}
-use Rattle.based.specs.Based.{Readable, BaseIndexed}
+use Rattle.tree_walk.specs.There.{row-of}
+use Rattle.tree_walk.proofs.Opening.{Opened, opened}
+use Rattle.renumber_write.specs.Renumbered as whole
+use Rattle.renumber_write.specs.Renumbered.{zeroed, new-tree}
+use Rattle.renumber_identifiers.specs.Mapped.{Mapped}
+use Rattle.index_base.specs.Based.{Readable, BaseIndexed}
 use Rattle.renumber.specs.Renumbering.{entered, Entered, Numberable, numbering, Numbered, Renumbers}
 
 few-ids : (most : ℕ) (s p i : List ℕ) → sized-ids most s p i ≡ true → length i ≤ 4 * most

@@ -21,9 +21,9 @@ use Rattle.record.specs.declared.Changed.{Changed}
 use Rattle.record.specs.Says.{changes}
 use Rattle.tree.specs.declared.Shaped.the-variants.{Roots}
 use Rattle.tree.specs.Says.{decoded}
-use Rattle.chain.specs.Ids.{ids-in}
-use Rattle.renumbered.specs.Renumbered.{Ready, zeroed}
-use Rattle.identifiers.specs.Mapped.{Mappable}
+use Rattle.index_ids.specs.Ids.{ids-in}
+use Rattle.renumber_write.specs.Renumbered.{Ready, zeroed}
+use Rattle.renumber_identifiers.specs.Mapped.{Mappable}
 
 -- The part of the entry up to 6.
 unfoldable pub entered : (s p i : List ℕ) (lr ln li : ℕ) → Answer (Forest Field)

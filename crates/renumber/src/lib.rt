@@ -1,14 +1,14 @@
 // Renumbering, whole: from lent bytes to lent bytes.
-use based::index_base;
-use id_reassigner::turn;
-use identifiers::apply_to_identifier_fields;
-use limits::room_with_identifiers;
-use limits::sized_identifiers;
+use index_base::index_base;
 use record::Changed;
 use record::Check;
 use record::Refusal;
 use record::Sizes;
-use renumbered::write_renumbered;
+use record_limits::room_with_identifiers;
+use record_limits::sized_identifiers;
+use renumber_id_reassigner::turn;
+use renumber_identifiers::apply_to_identifier_fields;
+use renumber_write::write_renumbered;
 use tree::Shaped;
 use tree::check_tree;
 ghost use mathlib.Core.Path.{_≡_};

@@ -1,5 +1,4 @@
 // Trees of records: refusals 5 and 6, and 3 to 6 together.
-use limits::sized;
 use paper::Role;
 use paper::first_role;
 use paper::next_role;
@@ -11,6 +10,7 @@ use record::equal;
 use record::kids_at;
 use record::kind_at;
 use record::name_at;
+use record_limits::sized;
 ghost use mathlib.Core.Path.{_≡_};
 ghost use mathlib.Core.Bool.{true};
 ghost use mathlib.Core.Option.{none};

@@ -25,18 +25,18 @@ use Rattle.record.specs.declared.Changed.the-variants as changed
 use Rattle.laws.proofs.Basics.{unbind, fault-if-ok}
 use Rattle.laws.proofs.Fitting.{sized-slots, rooms-of}
 use Rattle.laws.proofs.RoundTrip.{both}
-use Rattle.limits.proofs.Within.{update-sized, identifiers-most, deletions-most}
+use Rattle.record_limits.proofs.Within.{update-sized, identifiers-most, deletions-most}
 use Rattle.plan.specs.Plan.{lent}
-use Rattle.dropped.specs.declared.Dropped.{Dropped}
-use Rattle.dropped.specs.Set.{dropped-ids}
-use Rattle.rebuild.specs.Sources.{additions}
-use Rattle.rebuild.proofs.Paper.{rebuilt-fields}
-use Rattle.request.specs.declared.Opened.{Opened}
-use Rattle.request.specs.declared.Opened.the-variants as it
-use Rattle.request.specs.Opened.{Trees, both-trees, readable, opening, opened}
-use Rattle.request.proofs.Opening.{open-refused}
-use Rattle.rebuilt.specs.Ending.{sounded, limited-sounded, Answers, Rebuildable, rebuilt-tree}
-use Rattle.rebuilt.proofs.Sounding.{refuses}
+use Rattle.update_dropped.specs.declared.Dropped.{Dropped}
+use Rattle.update_dropped.specs.Set.{dropped-ids}
+use Rattle.update_rebuild.specs.Sources.{additions}
+use Rattle.update_rebuild.proofs.Paper.{rebuilt-fields}
+use Rattle.update_request.specs.declared.Opened.{Opened}
+use Rattle.update_request.specs.declared.Opened.the-variants as it
+use Rattle.update_request.specs.Opened.{Trees, both-trees, readable, opening, opened}
+use Rattle.update_request.proofs.Opening.{open-refused}
+use Rattle.update_write.specs.Ending.{sounded, limited-sounded, Answers, Rebuildable, rebuilt-tree}
+use Rattle.update_write.proofs.Sounding.{refuses}
 use Rattle.update_schema.specs.declared.Decided.{Decided}
 use Rattle.update_schema.specs.declared.Decided.the-variants as decided
 use Rattle.update_schema.specs.Deletions.{gone-ids, Gathered}

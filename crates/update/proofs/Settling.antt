@@ -26,7 +26,7 @@ use Rattle.laws.proofs.Basics.{unbind, ok-is, fault-ok}
 use Rattle.laws.proofs.Fitting.{sized-slots}
 use Rattle.laws.proofs.Preorder.{siblings-mapped}
 use Rattle.laws.proofs.Runs.{length-from}
-use Rattle.limits.proofs.Within.{update-sized, added-sized, identifiers-most, deletions-most, additions-most}
+use Rattle.record_limits.proofs.Within.{update-sized, added-sized, identifiers-most, deletions-most, additions-most}
 use Rattle.tree.specs.Read.{part, reads}
 use Rattle.tree.proofs.Roots.{roots-row}
 use Rattle.tree.proofs.Steps.{part-is, reads-is}
@@ -36,7 +36,7 @@ use Rattle.plan.specs.Sources.{Taken}
 use Rattle.plan.proofs.Taking as taking
 use Rattle.plan.proofs.Taking.{base-plan}
 use Rattle.index.specs.Index.{Indexing, Index}
-use Rattle.request.specs.Opened.{Trees, both-trees, readable}
+use Rattle.update_request.specs.Opened.{Trees, both-trees, readable}
 use Rattle.record.proofs.Testing.{checked-refused}
 use Rattle.update_schema.specs.declared.Decided.{Decided}
 use Rattle.update_schema.specs.declared.Decided.the-variants as decided

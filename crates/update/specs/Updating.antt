@@ -15,10 +15,10 @@ use Rattle.paper.specs.Rebuild.{arrivals}
 use Rattle.record.specs.declared.Refusal.{Refusal}
 use Rattle.laws.proofs.Natural.{mapped-all}
 use Rattle.plan.specs.Plan.{lent, planned-field}
-use Rattle.rebuild.specs.Sources.{additions}
-use Rattle.rebuild.specs.Planned.{Resolved}
-use Rattle.request.specs.declared.Opened.the-variants.{Roots}
-use Rattle.request.specs.Opened.{both-trees, readable, opening, opened}
+use Rattle.update_rebuild.specs.Sources.{additions}
+use Rattle.update_rebuild.specs.Planned.{Resolved}
+use Rattle.update_request.specs.declared.Opened.the-variants.{Roots}
+use Rattle.update_request.specs.Opened.{both-trees, readable, opening, opened}
 use Rattle.update_schema.specs.declared.Decided.{Decided}
 use Rattle.update_schema.specs.declared.Decided.the-variants as decided
 use Rattle.update_schema.specs.Deletions.{gone-ids}

@@ -1,21 +1,21 @@
 // The update, whole: from lent bytes to lent bytes.
 use index::index_plan;
 use plan::take_base;
-use rebuilt::write_rebuilt;
 use record::Changed;
 use record::Check;
 use record::Refusal;
-use request::Opened;
-use request::check_request;
+use update_request::Opened;
+use update_request::check_request;
 use update_schema::Decided;
 use update_schema::decide_changes;
 use update_schema::gather;
+use update_write::write_rebuilt;
 ghost use mathlib.Core.Path.{_≡_};
 ghost use lib.ListN.{length};
 ghost use Prim.Native.Nat.{_<_};
 ghost use Rattle.paper.specs.Bytes.{turned};
 ghost use Rattle.paper.specs.Entries.{update-entry};
-ghost use Rattle.rebuilt.specs.Ending.{Answers};
+ghost use Rattle.update_write.specs.Ending.{Answers};
 ghost use Rattle.update.specs.Updating.{Opens, Decidable, Settles};
 
 // The last id plus 2^31, from its bits.

@@ -14,8 +14,8 @@ use Rattle.laws.proofs.Basics.{bind-is, bind-not}
 use Rattle.record.specs.declared.Refusal.{Refusal}
 use Rattle.record.specs.declared.Check.{Check}
 use Rattle.record.specs.declared.Check.the-variants as check
-use Rattle.dropped.specs.declared.Dropped.{Dropped}
-use Rattle.dropped.specs.Set.{dropped-ids}
+use Rattle.update_dropped.specs.declared.Dropped.{Dropped}
+use Rattle.update_dropped.specs.Set.{dropped-ids}
 use Rattle.update_schema.specs.declared.Decided.{Decided}
 use Rattle.update_schema.specs.declared.Decided.the-variants as decided
 use Rattle.update_schema.specs.Deletions.{gone-ids, Gathered, DropsAll}

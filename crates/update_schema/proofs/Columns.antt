@@ -30,9 +30,9 @@ use Rattle.laws.proofs.Words.{turned-twice}
 use Rattle.laws.proofs.Natural.{mapped-all}
 use Rattle.laws.proofs.Basics.{bind-is, bind-not}
 use Rattle.plan.specs.Plan.{Source, lent, planned-field}
-use Rattle.rebuild.specs.Sources.{parent, added-source, added-tree, addition-at}
-use Rattle.rebuild.specs.Sources as sources
-use Rattle.rebuild.proofs.Paper.{fresh-fields}
+use Rattle.update_rebuild.specs.Sources.{parent, added-source, added-tree, addition-at}
+use Rattle.update_rebuild.specs.Sources as sources
+use Rattle.update_rebuild.proofs.Paper.{fresh-fields}
 use Rattle.update_schema.specs.declared.Spot.{Spot}
 use Rattle.update_schema.specs.declared.Spotted.{Spotted}
 use Rattle.update_schema.specs.declared.Spotted.the-variants as spotted

@@ -24,11 +24,11 @@ use Rattle.record.specs.declared.Refusal.{Refusal}
 use Rattle.record.specs.declared.Found.{Found}
 use Rattle.record.specs.declared.Check.the-variants as check
 use Rattle.record.specs.Says.{found-row, refusal-of}
-use Rattle.dropped.specs.declared.Dropped.{Dropped}
-use Rattle.dropped.specs.Set.{dropped-ids, Good, Inserted}
-use Rattle.decide.specs.declared.Dropping.{Dropping}
-use Rattle.decide.specs.declared.Dropping.the-variants as dropping
-use Rattle.decide.specs.Entry.{Known, dropped-id, drops, Deleted}
+use Rattle.update_dropped.specs.declared.Dropped.{Dropped}
+use Rattle.update_dropped.specs.Set.{dropped-ids, Good, Inserted}
+use Rattle.update_decide.specs.declared.Dropping.{Dropping}
+use Rattle.update_decide.specs.declared.Dropping.the-variants as dropping
+use Rattle.update_decide.specs.Entry.{Known, dropped-id, drops, Deleted}
 use Rattle.update_schema.specs.Deletions.{gone-ids, Gathered, DropsAll}
 
 -- ---- chains and answers

@@ -13,18 +13,18 @@ use Rattle.paper.specs.Update.{receiver, placed}
 use Rattle.laws.proofs.Words.{turned-below}
 use Rattle.laws.proofs.Fitting.{lowest-none}
 use Rattle.plan.specs.Plan.{Lent, plan-fields}
-use Rattle.parents.specs.Target.{receiving, receiver-at, Stands}
-use Rattle.parents.proofs.Receiving.{receiver-is}
-use Rattle.parents.proofs.Rows.{found-stands}
+use Rattle.update_parents.specs.Target.{receiving, receiver-at, Stands}
+use Rattle.update_parents.proofs.Receiving.{receiver-is}
+use Rattle.update_parents.proofs.Rows.{found-stands}
 use Rattle.record.specs.declared.FieldId.{FieldId}
 use Rattle.record.specs.declared.Slot.{Slot}
 use Rattle.record.specs.declared.Found.{Found}
 use Rattle.record.specs.declared.Found.the-variants.{At}
 use Rattle.record.specs.Says.{found-row}
-use Rattle.decide.specs.declared.Going.{Going}
-use Rattle.decide.specs.Entry.{Known, goes, root-place, AtRoot, parent-place, Sited, FoundSited, UnderParent}
-use Rattle.decide.proofs.Deleting.{at-none}
-use Rattle.decide.proofs.Leading.{slot-is}
+use Rattle.update_decide.specs.declared.Going.{Going}
+use Rattle.update_decide.specs.Entry.{Known, goes, root-place, AtRoot, parent-place, Sited, FoundSited, UnderParent}
+use Rattle.update_decide.proofs.Deleting.{at-none}
+use Rattle.update_decide.proofs.Leading.{slot-is}
 use Rattle.update_schema.specs.Base.{Based}
 
 module _ (l : Lent) (xs is ks : List ℕ) (n : ℕ) (b : Based l xs is ks n) where

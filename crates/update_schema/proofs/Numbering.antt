@@ -16,10 +16,10 @@ use Rattle.tree.specs.declared.Walked.the-variants.{End, Refused}
 use Rattle.tree.specs.Read.{part}
 use Rattle.tree.proofs.Filled.{ended-ok}
 use Rattle.tree.proofs.Steps.{part-is, part-full, was-read}
-use Rattle.rebuild.proofs.Trees.{ended-no}
-use Rattle.decide.specs.declared.Fresh.{Fresh}
-use Rattle.decide.specs.declared.Fresh.the-variants as fresh
-use Rattle.decide.specs.Entry.{freshly}
+use Rattle.update_rebuild.proofs.Trees.{ended-no}
+use Rattle.update_decide.specs.declared.Fresh.{Fresh}
+use Rattle.update_decide.specs.declared.Fresh.the-variants as fresh
+use Rattle.update_decide.specs.Entry.{freshly}
 use Rattle.update_schema.specs.declared.Spotted.the-variants as spotted
 use Rattle.update_schema.specs.Additions.{Column, column-size, numbered}
 

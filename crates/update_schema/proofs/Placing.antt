@@ -24,11 +24,11 @@ use Rattle.record.specs.declared.Check.the-variants as check
 use Rattle.record.specs.Says.{refusal-of, checked}
 use Rattle.record.proofs.Testing.{checked-refused, checked-ok}
 use Rattle.plan.specs.Plan.{Lent, plan-fields}
-use Rattle.rebuild.specs.Sources.{parent}
-use Rattle.parents.specs.Target.{receiving, receiver-at, members-at}
-use Rattle.decide.specs.declared.Going.{Going}
-use Rattle.decide.specs.declared.Going.the-variants as going
-use Rattle.decide.specs.Entry.{unbarred, goes}
+use Rattle.update_rebuild.specs.Sources.{parent}
+use Rattle.update_parents.specs.Target.{receiving, receiver-at, members-at}
+use Rattle.update_decide.specs.declared.Going.{Going}
+use Rattle.update_decide.specs.declared.Going.the-variants as going
+use Rattle.update_decide.specs.Entry.{unbarred, goes}
 use Rattle.update_schema.specs.declared.Spotted.{Spotted}
 use Rattle.update_schema.specs.declared.Spotted.the-variants as spotted
 use Rattle.update_schema.specs.Base.{Based}

@@ -19,7 +19,7 @@ use Rattle.tree.specs.Read.{part, reads}
 use Rattle.paper.specs.Rebuild.{arrivals}
 use Rattle.laws.proofs.Natural.{mapped-all}
 use Rattle.plan.specs.Plan.{lent, planned-field}
-use Rattle.rebuild.specs.Sources.{parent, additions}
+use Rattle.update_rebuild.specs.Sources.{parent, additions}
 use Rattle.update_schema.specs.declared.Decided.{Decided}
 use Rattle.update_schema.specs.declared.Decided.the-variants as decided
 use Rattle.update_schema.specs.Base.{Entries}

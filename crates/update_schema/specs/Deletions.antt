@@ -11,8 +11,8 @@ use Rattle.paper.specs.Lists.{path-of}
 use Rattle.paper.specs.Update.{deleted}
 use Rattle.record.specs.declared.Check.{Check}
 use Rattle.record.specs.declared.Check.the-variants as check
-use Rattle.dropped.specs.declared.Dropped.{Dropped}
-use Rattle.dropped.specs.Set.{dropped-ids, Good}
+use Rattle.update_dropped.specs.declared.Dropped.{Dropped}
+use Rattle.update_dropped.specs.Set.{dropped-ids, Good}
 
 -- The first ids of an array, as the paper has them.
 unfoldable pub gone-ids : List ℕ → ℕ → List ℕ

@@ -11,13 +11,13 @@ use crate::schemas::numbered;
 
 const FACTOR: u32 = 16_777_619;
 
-/// The hash of a name, carried on from a seed: `hash_on` of crates/names.
+/// The hash of a name, carried on from a seed: `hash_on` of crates/index_names.
 fn hash(name: &[u8], seed: u32) -> u32 {
     name.iter()
         .fold(seed, |h, x| h.wrapping_add(u32::from(*x)).wrapping_add(1).wrapping_mul(FACTOR))
 }
 
-/// The bucket of a key: `bucket_of` of crates/chain.
+/// The bucket of a key: `bucket_of` of crates/index_ids.
 fn bucket(key: u32) -> u64 {
     u64::from(key) * 2_654_435_761 / 4_194_304 % 1_024
 }

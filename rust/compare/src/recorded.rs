@@ -18,7 +18,7 @@ const RANDOM: u64 = 3_000;
 
 /// Where the list stands in the repository.
 pub fn recorded_path() -> PathBuf {
-    PathBuf::from(env!("CARGO_MANIFEST_DIR")).join("../../crates/replay/data/recorded.txt")
+    PathBuf::from(env!("CARGO_MANIFEST_DIR")).join("../../crates/recorded/data/recorded.txt")
 }
 
 /// The whole list: a header, the named cases, then the random ones.

@@ -4,7 +4,7 @@ use cases::read_recorded;
 use compare::{iceberg, recorded_list, recorded_path, replay};
 
 fn text() -> String {
-    std::fs::read_to_string(recorded_path()).expect("crates/replay/data/recorded.txt")
+    std::fs::read_to_string(recorded_path()).expect("crates/recorded/data/recorded.txt")
 }
 
 #[test]

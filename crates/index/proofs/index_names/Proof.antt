@@ -5,9 +5,9 @@ use Rattle.index.proofs.index_names.Statement.{statement}
 use Rattle.index.proofs.index_names.Tie as tie
 use Rattle.index.proofs.index_names.Reads as reads
 use Rattle.index.proofs.index_names.Lts as lts
-use Rattle.chain.proofs.clear.Reads as clear-reads
-use Rattle.names.proofs.check_names.Reads as check-names-reads
-use Rattle.names.proofs.mark_row.Reads as mark-row-reads
+use Rattle.index_ids.proofs.clear.Reads as clear-reads
+use Rattle.index_names.proofs.check_names.Reads as check-names-reads
+use Rattle.index_names.proofs.mark_row.Reads as mark-row-reads
 
 pub index-names-spec : {M : Type 1} → statement M
 index-names-spec = tie.close (tie.spec

@@ -7,7 +7,7 @@ use Rattle.index.proofs.look_id.Statement.{statement}
 use Rattle.index.proofs.look_id.Tie as tie
 use Rattle.index.proofs.look_id.Reads as reads
 use Rattle.index.proofs.look_id.Lts as lts
-use Rattle.chain.proofs.find_id.Reads as find-id-reads
+use Rattle.index_ids.proofs.find_id.Reads as find-id-reads
 use Rattle.index.proofs.found_place.Reads as found-place-reads
 
 pub look-id-spec : {M : Type 1} → statement M

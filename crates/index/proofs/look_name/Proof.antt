@@ -9,8 +9,8 @@ use Rattle.index.proofs.look_name.Reads as reads
 use Rattle.index.proofs.look_name.Lts as lts
 use Rattle.index.proofs.found_place.Reads as found-place-reads
 use Rattle.index.proofs.look_short.Reads as look-short-reads
-use Rattle.lookup.proofs.has_dot.Reads as has-dot-reads
-use Rattle.names.proofs.find_full.Reads as find-full-reads
+use Rattle.index_short_names.proofs.has_dot.Reads as has-dot-reads
+use Rattle.index_names.proofs.find_full.Reads as find-full-reads
 
 pub look-name-spec : {M : Type 1} → statement M
 look-name-spec =

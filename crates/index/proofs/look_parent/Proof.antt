@@ -6,8 +6,8 @@ use Rattle.index.proofs.look_parent.Statement.{statement}
 use Rattle.index.proofs.look_parent.Tie as tie
 use Rattle.index.proofs.look_parent.Reads as reads
 use Rattle.index.proofs.look_parent.Lts as lts
-use Rattle.chain.proofs.find_id.Reads as find-id-reads
-use Rattle.chain.proofs.place.Reads as place-reads
+use Rattle.index_ids.proofs.find_id.Reads as find-id-reads
+use Rattle.index_ids.proofs.place.Reads as place-reads
 use Rattle.index.proofs.look_id.Reads as look-id-reads
 
 pub look-parent-spec : {M : Type 1} → statement M

@@ -7,7 +7,7 @@ use Rattle.index.proofs.look_short.Tie as tie
 use Rattle.index.proofs.look_short.Reads as reads
 use Rattle.index.proofs.look_short.Lts as lts
 use Rattle.index.proofs.found_place.Reads as found-place-reads
-use Rattle.lookup.proofs.seek.Reads as seek-reads
+use Rattle.index_short_names.proofs.seek.Reads as seek-reads
 
 pub look-short-spec : {M : Type 1} → statement M
 look-short-spec =

@@ -9,7 +9,7 @@ use Rattle.prune.proofs.carry_out.Statement.{statement}
 use Rattle.prune.proofs.carry_out.Tie as tie
 use Rattle.prune.proofs.carry_out.Reads as reads
 use Rattle.prune.proofs.carry_out.Lts as lts
-use Rattle.based.proofs.index_base.Reads as index-base-reads
+use Rattle.index_base.proofs.index_base.Reads as index-base-reads
 use Rattle.prune.proofs.choose.Reads as choose-reads
 
 pub carry-out-spec : {M : Type 1} → statement M

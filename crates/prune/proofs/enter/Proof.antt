@@ -5,8 +5,8 @@ use Rattle.prune.proofs.enter.Statement.{statement}
 use Rattle.prune.proofs.enter.Tie as tie
 use Rattle.prune.proofs.enter.Reads as reads
 use Rattle.prune.proofs.enter.Lts as lts
-use Rattle.limits.proofs.room.Reads as room-reads
-use Rattle.limits.proofs.sized_selected.Reads as sized-selected-reads
+use Rattle.record_limits.proofs.room.Reads as room-reads
+use Rattle.record_limits.proofs.sized_selected.Reads as sized-selected-reads
 use Rattle.tree.proofs.check_tree.Reads as check-tree-reads
 
 pub enter-spec : {M : Type 1} → statement M

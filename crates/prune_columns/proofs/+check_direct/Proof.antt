@@ -1,6 +1,6 @@
 -- The siblings that are left say what all say; levels left fall. Assumes nothing.
 use borrow.Author.Needs.{needs}
-use Rattle.walk.proofs.Standing.{standing}
+use Rattle.tree_walk.proofs.Standing.{standing}
 use Rattle.prune_columns.proofs.Directing.{Left, directing}
 use Prim.Native.Nat.{ℕ, _<_}
 use borrow.Fn.Kinds.{In}

@@ -2,7 +2,7 @@
 use mathlib.Core.Path.{refl}
 use native.Mathlib.Omega.{arith}
 use borrow.Author.Needs.{needs}
-use Rattle.walk.proofs.Standing.{standing}
+use Rattle.tree_walk.proofs.Standing.{standing}
 use Rattle.prune_columns.proofs.Planning.{planning}
 use Rattle.prune_columns.proofs.Projecting.{Going, going, single, typing, list-kept, pairing, field-nothing, field-yields, map-span, map-sum, map-nothing}
 use Prim.Native.Nat.{ℕ, _<_, _+_, _*_}
@@ -33,8 +33,8 @@ use Rattle.prune_columns.proofs.project_whole.Reads as project-whole-re
 use Rattle.prune_columns.proofs.put_record.Reads as put-record-reads
 use Rattle.record.proofs.kids_at.Reads as kids-at-reads
 use Rattle.record.proofs.kind_at.Reads as kind-at-reads
-use Rattle.walk.proofs.is_map.Reads as is-map-reads
-use Rattle.walk.proofs.row_past.Reads as row-past-reads
+use Rattle.tree_walk.proofs.is_map.Reads as is-map-reads
+use Rattle.tree_walk.proofs.row_past.Reads as row-past-reads
 use Rattle.prune_columns.proofs.+project_field+project_fields+project_list+project_map+project_selected_struct+project_type.{
   statement,
 }

@@ -5,8 +5,8 @@ use Rattle.renumber.proofs.enter.Statement.{statement}
 use Rattle.renumber.proofs.enter.Tie as tie
 use Rattle.renumber.proofs.enter.Reads as reads
 use Rattle.renumber.proofs.enter.Lts as lts
-use Rattle.limits.proofs.room_with_identifiers.Reads as room-with-identifiers-reads
-use Rattle.limits.proofs.sized_identifiers.Reads as sized-identifiers-reads
+use Rattle.record_limits.proofs.room_with_identifiers.Reads as room-with-identifiers-reads
+use Rattle.record_limits.proofs.sized_identifiers.Reads as sized-identifiers-reads
 use Rattle.tree.proofs.check_tree.Reads as check-tree-reads
 
 -- src/lib.rt:30:9

@@ -5,8 +5,8 @@ use Rattle.renumber.proofs.finish.Statement.{statement}
 use Rattle.renumber.proofs.finish.Tie as tie
 use Rattle.renumber.proofs.finish.Reads as reads
 use Rattle.renumber.proofs.finish.Lts as lts
-use Rattle.identifiers.proofs.apply_to_identifier_fields.Reads as apply-to-identifier-fields-reads
-use Rattle.renumbered.proofs.write_renumbered.Reads as write-renumbered-reads
+use Rattle.renumber_identifiers.proofs.apply_to_identifier_fields.Reads as apply-to-identifier-fields-reads
+use Rattle.renumber_write.proofs.write_renumbered.Reads as write-renumbered-reads
 
 -- src/lib.rt:68:9
 write-renumbered-requires : tie.Need-write-renumbered-requires

@@ -1,6 +1,6 @@
 -- What is left of the additions, behind the places in the array, is the whole.
 use Prim.Native.Nat.{_-_}
-use Rattle.dropped.specs.Set.{dropped-ids}
+use Rattle.update_dropped.specs.Set.{dropped-ids}
 use Rattle.plan.specs.Plan.{lent, plan-fields}
 use Rattle.update_schema.proofs.Columns.{Placing, place-starts, place-ends, column-here, addition-here, place-stops, place-goes, slot-small}
 use native.Mathlib.Omega.{arith}

@@ -1,0 +1,170 @@
+-- Chains of ids: equal bits are equal ids, so a chain by the bits finds what the paper's ids ask for. `search ids`.
+use mathlib.Core.Path.{_≡_, refl, sym, ap, _∙_}
+use mathlib.Core.Logic.{_⊎_, inl, inr}
+use mathlib.Core.Bool.{Bool, true, false, not}
+use mathlib.Core.List.{List}
+use mathlib.Core.Option.{none}
+use Prim.Native.Nat.{ℕ, _+_, _-_, _*_, _/_, _%_, _<_, _≤_}
+use native.Mathlib.Omega.{arith}
+use borrow.Author.Tests.{eqb-true, eq-eqb, ne-eqb}
+use lib.Dec.{eqb}
+use lib.ListN.{length, getD, set, length-set}
+use lib.Seq.{getD-set-same, getD-set-other}
+use Rattle.paper.specs.Answer.{among, lowest}
+use Rattle.paper.specs.Bytes.{turned, word32}
+use Rattle.paper.specs.Lists.{id-at, id-list}
+use Rattle.laws.proofs.Words.{turned-twice}
+use Rattle.record.specs.declared.Check.the-variants.{Fine, Refused}
+use Rattle.record.specs.Says.{tested, refusal-of}
+use Rattle.record.proofs.Lowest.{look-starts, look-goes, look-stops, look-ends}
+use Rattle.index_ids.specs.Chain.{pick, lowest-below, Chained, Cleared, Entered}
+use Rattle.index_ids.specs.Ids.{bucket-of, id-in, id-bucket, is-id, new-id, ids-in, rule-7, rule-9, Indexed}
+use Rattle.index_ids.proofs.Chains.{Left, eqb-cases, chain-starts, chain-goes, chain-falls, chain-ends, chain-enters, chain-fresh}
+use Rattle.index_ids.proofs.Repeats.{repeats, any-found, place-lowest}
+
+-- ---- clearing
+
+-- The heads below b are cleared.
+pub record Clearing (heads : List ℕ) (b : ℕ) : Type 0 where
+  pub room : length heads ≡ 1024
+  pub small : b ≤ 1024
+  pub none : (c : ℕ) → c < b → getD heads c 0 ≡ 0
+
+pub clear-starts : (heads : List ℕ) → length heads ≡ 1024 → Clearing heads 0
+clear-starts heads e = record { room = e; small = omega arith; none = λ c l. absurd (omega arith) }
+
+pub clear-goes : (heads : List ℕ) (b : ℕ) → Clearing heads b → b < 1024 → Clearing (set heads b 0) (b + 1)
+clear-goes heads b h l =
+    record {
+      room = length-set heads b 0 ∙ h .room;
+      small = omega arith;
+      none = λ c q. go c q (eqb-cases b c);
+    }
+  where
+    go : (c : ℕ) → c < b + 1 → (b ≡ c) ⊎ (b ≡ c → ⊥) → getD (set heads b 0) c 0 ≡ 0
+    go c q (inl e) = rw (← e) (getD-set-same heads b 0 0 (let z = h .room in omega arith))
+    go c q (inr e) = getD-set-other heads b c 0 0 (λ z. e (sym z)) ∙ h .none c (omega arith)
+
+pub clear-ends : (heads : List ℕ) (b : ℕ) → Clearing heads b → 1024 ≤ b → Cleared heads
+clear-ends heads b h l = record { room = h .room; none = λ c q. h .none c (omega arith) }
+
+pub ruleset clearing = (clear-starts, clear-goes, clear-ends)
+
+-- ---- one id
+
+pub turned-same : (a b : ℕ) → a < 4294967296 → b < 4294967296 → turned a ≡ turned b → a ≡ b
+turned-same a b la lb e = sym (turned-twice a la) ∙ ap turned e ∙ turned-twice b lb
+
+pub same-is : (a b : ℕ) → a < 4294967296 → b < 4294967296 → eqb a b ≡ eqb (turned a) (turned b)
+same-is a b la lb = go (eqb-cases a b)
+  where
+    go : (a ≡ b) ⊎ (a ≡ b → ⊥) → eqb a b ≡ eqb (turned a) (turned b)
+    go (inl e) = eq-eqb a b e ∙ sym (eq-eqb (turned a) (turned b) (ap turned e))
+    go (inr e) = ne-eqb a b e ∙ sym (ne-eqb (turned a) (turned b) (λ z. e (turned-same a b la lb z)))
+
+pub better-is : (t r : Bool) (at best : ℕ) → r ≡ t → r ≡ true → at ≡ pick t at best
+better-is t r at best e h = rw (sym e ∙ h)
+
+pub better-not : (t r : Bool) (at best : ℕ) → r ≡ t → r ≡ false → best ≡ pick t at best
+better-not t r at best e h = rw (sym e ∙ h)
+
+pub bucket-is : (x : ℕ) → x < 4294967296 → x * 2654435761 / 4194304 % 1024 ≡ bucket-of (turned x)
+unfolding bucket-of
+bucket-is x l = rw (turned-twice x l)
+
+module _ (is heads next : List ℕ) (k id b : ℕ) (eb : b ≡ bucket-of (turned id)) (ch : Chained (id-bucket is) heads next k) where
+  only : (j : ℕ) → is-id is (turned id) j ≡ true → id-bucket is j ≡ b
+  only j h = sym (eb ∙ ap bucket-of (eqb-true (turned id) (id-in is j) h))
+
+  pub id-starts : (at h : ℕ) → b < 1024 → at ≡ h → h ≡ getD heads b 0 → Left (id-bucket is) (is-id is (turned id)) b k (lowest-below (is-id is (turned id)) 0 k) 0 at
+  id-starts at h l e f = chain-starts (id-bucket is) (is-id is (turned id)) b k only heads next ch at l (e ∙ f)
+
+  pub id-goes : (W best best′ at at′ : ℕ) → Left (id-bucket is) (is-id is (turned id)) b k W best at → 0 < at → best′ ≡ pick (is-id is (turned id) (at - 1)) at best → at′ ≡ getD next (at - 1) 0 → Left (id-bucket is) (is-id is (turned id)) b k W best′ at′
+  id-goes = chain-goes (id-bucket is) (is-id is (turned id)) b k only heads next ch
+
+  pub id-falls : (W best at at′ : ℕ) → Left (id-bucket is) (is-id is (turned id)) b k W best at → 0 < at → at′ ≡ getD next (at - 1) 0 → at′ < at
+  id-falls = chain-falls (id-bucket is) (is-id is (turned id)) b k only heads next ch
+
+  pub id-ends : (W best at : ℕ) → Left (id-bucket is) (is-id is (turned id)) b k W best at → at ≤ 0 → best ≡ W
+  id-ends = chain-ends (id-bucket is) (is-id is (turned id)) b k only heads next ch
+
+pub id-new : (is : List ℕ) (k id r : ℕ) → turned id ≡ id-in is k → r ≡ lowest-below (is-id is (turned id)) 0 k → eqb r 0 ≡ new-id is k
+id-new is k id r e h = rw (h, e)
+
+pub ruleset ids = (same-is, better-is, better-not, bucket-is, id-starts, id-goes, id-falls, id-ends, id-new)
+
+-- ---- 7
+
+-- What holds at the loop's head.
+pub record Checking (is : List ℕ) (m : ℕ) (heads next : List ℕ) (k : ℕ) : Type 0 where
+  pub small : k ≤ m
+  pub whole : lowest (new-id is) 0 m ≡ lowest (new-id is) k (m - k)
+  pub index : Chained (id-bucket is) heads next k
+
+pub checking-starts : (is : List ℕ) (m : ℕ) (heads next : List ℕ) → Cleared heads → length next ≡ 1024 → Checking is m heads next 0
+checking-starts is m heads next c e = record { small = omega arith; whole = look-starts (new-id is) m; index = chain-fresh (id-bucket is) heads next c e }
+
+all-new : (list : ℕ) (is : List ℕ) (m : ℕ) → rule-7 list is m ≡ tested 7 list (lowest (new-id is) 0 m)
+unfolding rule-7
+all-new list is m = ap (tested 7 list) (repeats eqb (id-in is) 0 m)
+
+module _ (is : List ℕ) (m list : ℕ) (heads next : List ℕ) (k : ℕ) (h : Checking is m heads next k) (t : Bool) (l : k < m) (et : t ≡ new-id is k) where
+  pub checking-goes : (heads′ next′ : List ℕ) (b id : ℕ) → turned id ≡ id-in is k → m ≤ 1024 → not t ≡ false → b ≡ bucket-of (turned id) → b < 1024 → Entered heads next b k heads′ next′ → Checking is m heads′ next′ (k + 1)
+  checking-goes heads′ next′ b id ei n q eb lb en =
+      record {
+        small = omega arith;
+        whole = look-goes (new-id is) (lowest (new-id is) 0 m) k m t (h .whole) l et q;
+        index = chain-enters (id-bucket is) k heads next heads′ next′ b (h .index) en (omega arith) lb (eb ∙ ap bucket-of ei);
+      }
+
+  pub checking-stops : not t ≡ true → Indexed is m list (Refused (refusal-of 7 list k)) heads next
+  checking-stops q =
+      record {
+        answer = look-stops (new-id is) 7 list (lowest (new-id is) 0 m) k m t (h .whole) l et q ∙ sym (all-new list is m);
+        index = λ e. absurd (let z : _≡_ {A = ℕ} 0 1 = cc in omega arith);
+      }
+
+pub checking-ends : (is : List ℕ) (m list : ℕ) (heads next : List ℕ) (k : ℕ) → Checking is m heads next k → m ≤ k → Indexed is m list Fine heads next
+checking-ends is m list heads next k h l =
+    let e : k ≡ m = let z = h .small in omega arith in
+    record { answer = look-ends (new-id is) 7 list (lowest (new-id is) 0 m) k m (h .whole) l ∙ sym (all-new list is m); index = λ z. rw e at (h .index) }
+
+pub ruleset checking = (checking-starts, checking-goes, checking-stops, checking-ends)
+
+-- ---- 9
+
+unfoldable pub there : (s is : List ℕ) (m : ℕ) → ℕ → Bool
+there s is m i = among (id-at s i) (ids-in is m)
+
+pub nine-is : (s is : List ℕ) (m : ℕ) → rule-9 s is m ≡ tested 9 5 (lowest (there s is m) 0 (length s / 4))
+unfolding rule-9 id-list there
+nine-is s is m = ap (tested 9 5) (place-lowest (λ i. among i (ids-in is m)) (id-at s) 0 (length s / 4))
+
+pub there-is : (s is : List ℕ) (m i id r : ℕ) → id ≡ word32 s (i * 4) → r ≡ lowest-below (is-id is (turned id)) 0 m → not (eqb r 0) ≡ there s is m i
+unfolding there
+there-is s is m i id r ei e = sym (any-found (eqb (id-at s i)) (id-in is) m r (rw ei at e))
+
+-- What holds at the loop's head: n identifiers, of which i were found.
+pub record Naming (s is : List ℕ) (m n i : ℕ) : Type 0 where
+  pub count : n ≡ length s / 4
+  pub small : i ≤ n
+  pub whole : lowest (there s is m) 0 n ≡ lowest (there s is m) i (n - i)
+
+pub nine-starts : (s is : List ℕ) (m : ℕ) → Naming s is m (length s / 4) 0
+nine-starts s is m = record { count = refl; small = omega arith; whole = look-starts (there s is m) (length s / 4) }
+
+module _ (s is : List ℕ) (m n i : ℕ) (h : Naming s is m n i) where
+  pub nine-room : length s ≤ 256 → i < n → i * 4 + 4 ≤ length s
+  nine-room l q = let z = h .count in omega arith
+
+  module _ (id r : ℕ) (l : i < n) (ei : id ≡ word32 s (i * 4)) (er : r ≡ lowest-below (is-id is (turned id)) 0 m) where
+    pub nine-goes : (r ≡ 0 → ⊥) → Naming s is m n (i + 1)
+    nine-goes q = record { count = h .count; small = omega arith; whole = look-goes (there s is m) (lowest (there s is m) 0 n) i n (not (eqb r 0)) (h .whole) l (there-is s is m i id r ei er) (rw (ne-eqb r 0 q)) }
+
+    pub nine-stops : r ≡ 0 → Refused (refusal-of 9 5 i) ≡ rule-9 s is m
+    nine-stops q = look-stops (there s is m) 9 5 (lowest (there s is m) 0 n) i n (not (eqb r 0)) (h .whole) l (there-is s is m i id r ei er) (rw q) ∙ sym (nine-is s is m ∙ rw (← (h .count)))
+
+  pub nine-ends : n ≤ i → Fine ≡ rule-9 s is m
+  nine-ends l = look-ends (there s is m) 9 5 (lowest (there s is m) 0 n) i n (h .whole) l ∙ sym (nine-is s is m ∙ rw (← (h .count)))
+
+pub ruleset nine = (nine-starts, nine-room, nine-goes, nine-stops, nine-ends)

@@ -1,0 +1,164 @@
+-- The walk that looks for a short name: each turn of the loop over siblings leaves what is to be answered to the rest of the row.
+use mathlib.Core.Path.{_≡_, refl, sym, ap, _∙_}
+use mathlib.Core.Bool.{Bool, true, false, not, _&&_, cond}
+use mathlib.Core.List.{List}
+use mathlib.Core.Option.{Option, none, some}
+use Prim.Native.Nat.{ℕ, _+_, _-_, _<_, _≤_}
+use native.Mathlib.Numerals.{add-one}
+use native.Mathlib.Omega.{arith}
+use borrow.Author.Tests.{ltb-true, ltb-false}
+use lib.Dec.{ltb, eqb}
+use lib.ListN.{length, drop}
+use Rattle.paper.specs.declared.Kind.{Kind}
+use Rattle.paper.specs.declared.Role.{Role}
+use Rattle.paper.specs.Answer.{or-else}
+use Rattle.paper.specs.Forest.{Forest, empty, node}
+use Rattle.paper.specs.Field.{first, after}
+use Rattle.paper.specs.Layout.{Part, nothing, before}
+use Rattle.paper.specs.Rows.{skipped, late}
+use Rattle.laws.proofs.Basics.{or-else-none}
+use Rattle.index_ids.specs.Chain.{pick}
+use Rattle.index_names.specs.Walk.{walk}
+use Rattle.index_names.proofs.Walks.{walk-none, walk-deep, walk-past, walk-in}
+use Rattle.index_short_names.specs.declared.Sighting.{Sighting}
+use Rattle.index_short_names.specs.declared.Sighting.the-variants.{Found, Past}
+use Rattle.index_short_names.specs.Seek.{left-at, inside, fits, own, seek-in, seen, outcome, sighting}
+use Rattle.index_short_names.proofs.Fitting.{own-is, left-out}
+
+pub past-is : (o : Option ℕ) (m j : ℕ) → Past j ≡ outcome o m → (o ≡ none) × (j ≡ m)
+unfolding outcome
+past-is none m j e = (refl, cc)
+past-is (some k) m j e = absurd (let z : _≡_ {A = ℕ} 0 1 = cc in omega arith)
+
+pub found-is : (o : Option ℕ) (m j : ℕ) → Found j ≡ outcome o m → o ≡ some j
+unfolding outcome
+found-is none m j e = absurd (let z : _≡_ {A = ℕ} 0 1 = cc in omega arith)
+found-is (some k) m j e = let z : k ≡ j = cc in ap some z
+
+module _ (name : ℕ → List ℕ) (kind : ℕ → Kind) where
+  -- with nothing left to look for, only what waits is found
+  pub seek-nothing : (f : Forest ℕ) (role : Role) (wait : Option ℕ) → seek-in name kind role none wait f ≡ wait
+  unfolding seek-in
+  seek-nothing empty role wait = refl
+  seek-nothing (node k f g) role wait =
+      rw (in-nothing (skipped role (kind k)), seek-nothing f (first (kind k)) none, or-else-none wait, seek-nothing g (after role) wait) (both (late role))
+    where
+      in-nothing : (b : Bool) → inside b none (name k) ≡ none
+      in-nothing true = refl
+      in-nothing false = refl
+
+      both : (b : Bool) → cond b wait wait ≡ wait
+      both true = refl
+      both false = refl
+
+  module _ (role : Role) (left : Option (List ℕ)) (wait : Option ℕ) (k : ℕ) (f g : Forest ℕ) where
+    abbrev inner : Option ℕ
+    inner = seek-in name kind (first (kind k)) (inside (skipped role (kind k)) left (name k)) none f
+
+    node-found : (j : ℕ) → inner ≡ some j → seek-in name kind role left wait (node k f g) ≡ some j
+    unfolding seek-in
+    node-found j e = rw e
+
+    node-waits : inner ≡ none → late role ≡ true → seek-in name kind role left wait (node k f g) ≡ seek-in name kind (after role) left (or-else wait (own left (name k) k)) g
+    unfolding seek-in
+    node-waits e l = rw (e, l)
+
+    node-own : inner ≡ none → late role ≡ false → own left (name k) k ≡ some k → seek-in name kind role left wait (node k f g) ≡ some k
+    unfolding seek-in
+    node-own e l q = rw (e, l, q)
+
+    node-on : inner ≡ none → late role ≡ false → own left (name k) k ≡ none → seek-in name kind role left wait (node k f g) ≡ seek-in name kind (after role) left wait g
+    unfolding seek-in
+    node-on e l q = rw (e, l, q)
+
+nothing-sighted : (name : ℕ → List ℕ) (kind : ℕ → Kind) (role : Role) (left : Option (List ℕ)) (wait : Option ℕ) (p : Part) (k : ℕ) (r : Sighting) → p ≡ nothing k → r ≡ outcome wait k → r ≡ sighting name kind role left wait p
+unfolding seek-in sighting
+nothing-sighted name kind role left wait p k r e h = rw e h
+
+module _ (name : ℕ → List ℕ) (kind : ℕ → Kind) (kids : ℕ → ℕ) (x : List ℕ) (n lv c k : ℕ) (role : Role) (pos wait : ℕ) where
+  pub seek-out : (r : Sighting) (j : ℕ) → length x < pos → j ≡ walk kids n lv c k .next → r ≡ outcome (seen wait) j → r ≡ sighting name kind role (left-at x pos) (seen wait) (walk kids n lv c k)
+  unfolding sighting
+  seek-out r j l ej e = rw (left-out x pos l, seek-nothing name kind (walk kids n lv c k .trees) role (seen wait), ← ej) e
+
+  pub seek-deep : (r : Sighting) → lv ≡ 0 → r ≡ outcome (seen wait) k → r ≡ sighting name kind role (left-at x pos) (seen wait) (walk kids n lv c k)
+  seek-deep r e h = nothing-sighted name kind role (left-at x pos) (seen wait) (walk kids n lv c k) k r (walk-deep kids n lv c k e) h
+
+  -- leaving the loop; W is the whole answer
+  module _ (W r : Sighting) (eW : W ≡ sighting name kind role (left-at x pos) (seen wait) (walk kids n lv c k)) (er : r ≡ outcome (seen wait) k) where
+    pub leave-past : n ≤ k → r ≡ W
+    leave-past l = nothing-sighted name kind role (left-at x pos) (seen wait) (walk kids n lv c k) k r (walk-past kids n lv c k l) er ∙ sym eW
+
+    pub leave-done : c ≤ 0 → r ≡ W
+    leave-done l = nothing-sighted name kind role (left-at x pos) (seen wait) (walk kids n lv c k) k r (walk-none kids n lv c k (omega arith)) er ∙ sym eW
+
+  module _ (m : ℕ) (kd : Kind) (f deep : ℕ) (rl : Role) (me : ℕ) (nm : List ℕ) (sk : Bool) (w : Sighting) (el : lv ≡ 0 → ⊥) (ec : 0 < c) (l : k < n) (pin : pos ≤ length x) (em : m ≡ kids k) (ekd : kd ≡ kind k) (enm : nm ≡ name k) (ef : f ≡ fits nm (drop pos x)) (esk : sk ≡ skipped role kd) (ed : left-at x deep ≡ inside sk (left-at x pos) nm) (erl : rl ≡ first kd) (eme : me ≡ pick (eqb f 1) (k + 1) 0)
+      (ew : w ≡ sighting name kind rl (left-at x deep) (seen 0) (walk kids n (lv - 1) m (k + 1))) where
+    abbrev inside-part : Part
+    inside-part = walk kids n (lv - 1) m (k + 1)
+
+    abbrev rest : Part
+    rest = walk kids n lv (c - 1) (walk kids n (lv - 1) m (k + 1) .next)
+
+    whole : walk kids n lv c k ≡ before k inside-part rest
+    whole = walk-in kids n lv c k m el (λ z. omega arith) l em
+
+    inner-is : inner name kind role (left-at x pos) (seen wait) k (inside-part .trees) (rest .trees) ≡ seek-in name kind rl (left-at x deep) none (inside-part .trees)
+    inner-is = rw (erl, ed, esk, ekd, enm)
+
+    mine : seen me ≡ own (left-at x pos) (name k) k
+    mine = ap seen eme ∙ own-is nm x pos f pin ef k ∙ ap (λ z. own (left-at x pos) z k) enm
+
+    passed : (j : ℕ) → w ≡ Past j → (inner name kind role (left-at x pos) (seen wait) k (inside-part .trees) (rest .trees) ≡ none) × (j ≡ inside-part .next)
+    unfolding sighting seen outcome
+    passed j e = let z = past-is _ _ j (sym e ∙ ew) in (inner-is ∙ z .0, z .1)
+
+    seek-found : (j : ℕ) → w ≡ Found j → Found j ≡ sighting name kind role (left-at x pos) (seen wait) (walk kids n lv c k)
+    unfolding sighting seen outcome
+    seek-found j e =
+        let z = found-is _ _ j (sym e ∙ ew) in
+        rw (whole, node-found name kind role (left-at x pos) (seen wait) k (inside-part .trees) (rest .trees) j (inner-is ∙ z))
+
+    seek-waits : (j e : ℕ) (nr : Role) → w ≡ Past j → late role ≡ true → nr ≡ after role → seen e ≡ or-else (seen wait) (seen me) → sighting name kind nr (left-at x pos) (seen e) (walk kids n lv (c - 1) j) ≡ sighting name kind role (left-at x pos) (seen wait) (walk kids n lv c k)
+    unfolding sighting seen outcome
+    seek-waits j e nr q t en ee =
+        let z = passed j q in
+        rw (z .1, en, ee, mine) (sym (rw (whole, node-waits name kind role (left-at x pos) (seen wait) k (inside-part .trees) (rest .trees) (z .0) t)))
+
+    seek-own : (j : ℕ) → w ≡ Past j → late role ≡ false → 0 < me → Found k ≡ sighting name kind role (left-at x pos) (seen wait) (walk kids n lv c k)
+    unfolding sighting seen outcome
+    seek-own j q t p =
+        let z = passed j q in
+        rw (whole, node-own name kind role (left-at x pos) (seen wait) k (inside-part .trees) (rest .trees) (z .0) t (sym mine ∙ yes))
+      where
+        go : (t : Bool) → me ≡ pick t (k + 1) 0 → seen me ≡ some k
+        go true e = ap seen (e ∙ add-one k)
+        go false e = absurd (omega arith)
+
+        yes : seen me ≡ some k
+        yes = go (eqb f 1) eme
+
+    seek-on : (j : ℕ) (nr : Role) → w ≡ Past j → late role ≡ false → me ≤ 0 → nr ≡ after role → sighting name kind nr (left-at x pos) (seen wait) (walk kids n lv (c - 1) j) ≡ sighting name kind role (left-at x pos) (seen wait) (walk kids n lv c k)
+    unfolding sighting seen outcome
+    seek-on j nr q t p en =
+        let z = passed j q in
+        let me0 : me ≡ 0 = omega arith in
+        rw (z .1, en) (sym (rw (whole, node-on name kind role (left-at x pos) (seen wait) k (inside-part .trees) (rest .trees) (z .0) t (sym mine ∙ ap seen me0))))
+
+    -- as the loop over the siblings asks them; W is the whole answer, b whether the record waits
+    module _ (W : Sighting) (eW : W ≡ sighting name kind role (left-at x pos) (seen wait) (walk kids n lv c k)) where
+      pub turn-found : (j : ℕ) → w ≡ Found j → Found j ≡ W
+      turn-found j e = seek-found j e ∙ sym eW
+
+      pub turn-own : (j : ℕ) (b t : Bool) → w ≡ Past j → b ≡ late role → t ≡ (not b && ltb 0 me) → t ≡ true → Found k ≡ W
+      turn-own j b t e eb et q = go b eb (sym et ∙ q)
+        where
+          go : (b : Bool) → b ≡ late role → (not b && ltb 0 me) ≡ true → Found k ≡ W
+          go true f h = absurd (let z : _≡_ {A = ℕ} 0 1 = cc in omega arith)
+          go false f h = seek-own j e (sym f) (ltb-true 0 me h) ∙ sym eW
+
+      pub turn-on : (j v : ℕ) (nr : Role) (b t : Bool) → w ≡ Past j → b ≡ late role → t ≡ (not b && ltb 0 me) → t ≡ false → seen v ≡ cond b (or-else (seen wait) (seen me)) (seen wait) → nr ≡ after role → W ≡ sighting name kind nr (left-at x pos) (seen v) (walk kids n lv (c - 1) j)
+      turn-on j v nr b t e eb et q ev en = go b eb (sym et ∙ q) ev
+        where
+          go : (b : Bool) → b ≡ late role → (not b && ltb 0 me) ≡ false → seen v ≡ cond b (or-else (seen wait) (seen me)) (seen wait) → W ≡ sighting name kind nr (left-at x pos) (seen v) (walk kids n lv (c - 1) j)
+          go true f h y = eW ∙ sym (seek-waits j v nr e (sym f) en y)
+          go false f h y = eW ∙ sym (ap (λ o. sighting name kind nr (left-at x pos) o (walk kids n lv (c - 1) j)) y ∙ seek-on j nr e (sym f) (ltb-false 0 me h) en)

@@ -1,0 +1,270 @@
+// Look-up of a short name: a walk that carries how much of the asked name is matched, and builds no name.
+use index_names::name_of;
+use paper::Kind;
+use paper::Role;
+use paper::first_role;
+use paper::is_struct;
+use paper::next_role;
+use plan::planned_kind;
+ghost use mathlib.Core.Path.{_≡_};
+ghost use mathlib.Core.Bool.{not, _&&_, cond};
+ghost use Prim.Native.Nat.{_+_, _≤_, _<_};
+ghost use lib.Dec.{eqb, ltb};
+ghost use lib.ListN.{length, drop};
+ghost use Rattle.paper.specs.Answer.{among, or-else};
+ghost use Rattle.paper.specs.Rows.{skipped, late};
+ghost use Rattle.plan.specs.Plan.{lent, kids-in};
+ghost use Rattle.index_ids.specs.Chain.{pick};
+ghost use Rattle.index_names.specs.Walk.{walk};
+ghost use Rattle.index_names.specs.Told.{name-in, kind-in, Sources};
+ghost use Rattle.index_short_names.specs.Seek.{left-at, fits, inside, seen, outcome, sighting};
+
+// A slot that was found, or the slot behind a row in which there is none.
+pub enum Sighting {
+    Found(usize),
+    Past(usize),
+}
+
+// Whether a name has a dot. One without is no short name of a record below a root.
+pub fn has_dot(name: &[u8]) -> bool
+    ensures { λ r. ⌜ r ≡ among 46 (now (name .entry)) ⌝ }
+{
+    let mut i = 0;
+    while i < name.len() {
+        if name[i] == 46 {
+            return true;
+        }
+        i += 1;
+    }
+    false
+}
+
+fn wide(x: u16) -> u32
+    ensures { λ r. ⌜ r ≡ x ⌝ }
+{
+    x as u32
+}
+
+// Where a row ends. A loop over the siblings, so the stack holds a frame for each level only.
+pub fn row_next(kids: &[u16; 1024], m: usize, slot: usize, count: u32, levels: usize) -> usize
+    requires { ⌜ m ≤ 1024 ⌝ }
+    ensures { λ r. ⌜ r ≡ walk (kids-in (now (kids .entry))) m levels count slot .next ⌝ }
+{
+    if levels == 0 {
+        return slot;
+    }
+    let mut at = slot;
+    let mut left = count;
+    while 0 < left {
+        if m <= at {
+            return at;
+        }
+        let inner = wide(kids[at]);
+        at = row_next(kids, m, at + 1, inner, levels - 1);
+        left -= 1;
+    }
+    at
+}
+
+// Whether a record of this role waits for the row's end: a map's key and value do.
+fn is_late(role: Role) -> bool
+    ensures { λ r. ⌜ r ≡ late role ⌝ }
+{
+    match role {
+        Role::Member => false,
+        Role::Element => false,
+        Role::Key => true,
+        Role::Value => true,
+    }
+}
+
+// Whether short names below leave the record out: a list element or map value of kind struct. A key stays.
+fn skips(role: Role, kind: Kind) -> bool
+    ensures { λ r. ⌜ r ≡ skipped role kind ⌝ }
+{
+    match role {
+        Role::Member => false,
+        Role::Element => is_struct(kind),
+        Role::Key => false,
+        Role::Value => is_struct(kind),
+    }
+}
+
+fn kind_of<'a>(
+    pool: &'a [u8],
+    base: &[u8],
+    request: &'a [u8],
+    added: &[u8],
+    slots: &[u16; 1024],
+    m: usize,
+    k: usize,
+) -> Kind
+    requires { ⌜ (k < m) × Sources (lent (now pool) (now base) (now request) (now added)) (now slots) m ⌝ }
+    ensures { λ r. ⌜ r ≡ kind-in (lent (now (pool .entry)) (now (base .entry)) (now (request .entry)) (now (added .entry))) (now (slots .entry)) k ⌝ }
+{
+    planned_kind(base, added, slots[k])
+}
+
+// A name against x from `pos` on: 1 it is that, 2 it and a dot begin it, 0 neither.
+fn fit(name: &[u8], x: &[u8], pos: usize) -> u8
+    requires { ⌜ pos ≤ length (now x) ⌝ }
+    ensures { λ r. ⌜ r ≡ fits (now (name .entry)) (drop pos (now (x .entry))) ⌝ }
+{
+    let mut i = 0;
+    let mut at = pos;
+    while i < name.len() {
+        if x.len() <= at {
+            return 0;
+        }
+        let a = name[i];
+        let b = x[at];
+        if a != b {
+            return 0;
+        }
+        i += 1;
+        at += 1;
+    }
+    if x.len() <= at {
+        return 1;
+    }
+    let b = x[at];
+    if b == 46 {
+        return 2;
+    }
+    0
+}
+
+// Where to look on inside the record: behind x's end where nothing there can match.
+fn deeper(f: u8, skip: bool, name: &[u8], x: &[u8], pos: usize) -> usize
+    requires { ⌜ (pos ≤ length (now x)) × (f ≡ fits (now name) (drop pos (now x))) ⌝ }
+    ensures { λ r. ⌜ left-at (now (x .entry)) r ≡ inside skip (left-at (now (x .entry)) pos) (now (name .entry)) ⌝ }
+{
+    if skip {
+        return pos;
+    }
+    if f == 2 {
+        return pos + name.len() + 1;
+    }
+    x.len() + 1
+}
+
+// The place of the record itself, if its name is what is left.
+fn own_place(f: u8, slot: usize) -> usize
+    requires { ⌜ slot ≤ 1024 ⌝ }
+    ensures { λ r. ⌜ r ≡ pick (eqb f 1) (slot + 1) 0 ⌝ }
+{
+    if f == 1 {
+        return slot + 1;
+    }
+    0
+}
+
+fn either(a: usize, b: usize) -> usize
+    ensures { λ r. ⌜ seen r ≡ or-else (seen a) (seen b) ⌝ }
+{
+    if a == 0 {
+        return b;
+    }
+    a
+}
+
+fn ended(wait: usize, next: usize) -> Sighting
+    ensures { λ r. ⌜ r ≡ outcome (seen wait) next ⌝ }
+{
+    if wait == 0 {
+        return Sighting::Past(next);
+    }
+    Sighting::Found(wait - 1)
+}
+
+// Whether the record itself is the answer.
+fn takes(late_one: bool, me: usize) -> bool
+    ensures { λ r. ⌜ r ≡ (not «late_one» && ltb 0 me) ⌝ }
+{
+    !late_one & (0 < me)
+}
+
+// What waits behind the record.
+fn waiting(late_one: bool, wait: usize, me: usize) -> usize
+    ensures { λ r. ⌜ seen r ≡ cond «late_one» (or-else (seen wait) (seen me)) (seen wait) ⌝ }
+{
+    if late_one {
+        return either(wait, me);
+    }
+    wait
+}
+
+// The record of a row of trees whose short name is what is left of x from `pos` on, in the order of entry: a record after its inside,
+// a key and a value after both insides. `wait` is a place that waits for the row's end. A subtree is entered where the prefix fits.
+pub fn seek<'a>(
+    pool: &'a [u8],
+    base: &[u8],
+    request: &'a [u8],
+    added: &[u8],
+    slots: &[u16; 1024],
+    kids: &[u16; 1024],
+    m: usize,
+    slot: usize,
+    count: u32,
+    levels: usize,
+    role: Role,
+    x: &[u8],
+    pos: usize,
+    wait: usize,
+) -> Sighting
+    requires { ⌜ (slot ≤ m) × Sources (lent (now pool) (now base) (now request) (now added)) (now slots) m ⌝ }
+    ensures { λ r. ⌜ r ≡ sighting (name-in (lent (now (pool .entry)) (now (base .entry)) (now (request .entry)) (now (added .entry))) (now (slots .entry))) (kind-in (lent (now (pool .entry)) (now (base .entry)) (now (request .entry)) (now (added .entry))) (now (slots .entry))) role (left-at (now (x .entry)) pos) (seen wait) (walk (kids-in (now (kids .entry))) m levels count slot) ⌝ }
+{
+    if x.len() < pos {
+        return ended(wait, row_next(kids, m, slot, count, levels));
+    }
+    if levels == 0 {
+        return ended(wait, slot);
+    }
+    let mut at = slot;
+    let mut left = count;
+    let mut part = role;
+    let mut first = wait;
+    while 0 < left {
+        if m <= at {
+            return ended(first, at);
+        }
+        let inner = wide(kids[at]);
+        let kind = kind_of(pool, base, request, added, slots, m, at);
+        let name = name_of(pool, base, request, added, slots, m, at);
+        let f = fit(name, x, pos);
+        let deep = deeper(f, skips(part, kind), name, x, pos);
+        let me = own_place(f, at);
+        match seek(
+            pool,
+            base,
+            request,
+            added,
+            slots,
+            kids,
+            m,
+            at + 1,
+            inner,
+            levels - 1,
+            first_role(kind),
+            x,
+            deep,
+            0,
+        ) {
+            Sighting::Found(k) => {
+                return Sighting::Found(k);
+            }
+            Sighting::Past(next) => {
+                let late_one = is_late(part);
+                if takes(late_one, me) {
+                    return Sighting::Found(at);
+                }
+                first = waiting(late_one, first, me);
+                part = next_role(part);
+                at = next;
+            }
+        }
+        left -= 1;
+    }
+    ended(first, at)
+}

@@ -1,0 +1,93 @@
+-- A chosen id marks the one slot that has it, and an unknown one none. `search marking`.
+use Prim.Native.Nat.{ℕ, zero, suc, _+_, _-_, _/_, _≤_, _<_}
+use mathlib.Core.Path.{_≡_, refl, sym, ap, _∙_}
+use mathlib.Core.Bool.{Bool, true, false, _||_}
+use mathlib.Core.List.{List}
+use native.Mathlib.Nat.{zero-add}
+use native.Mathlib.Omega.{arith}
+use lib.Dec.{eqb}
+use lib.ListN.{length, getD, set, length-set}
+use lib.Seq.{getD-set-same, getD-set-other}
+use borrow.Author.Tests.{eqb-true, eqb-false, eq-eqb, ne-eqb}
+use Rattle.paper.specs.Answer.{any, place-of}
+use Rattle.paper.specs.Bytes.{turned, from}
+use Rattle.paper.specs.Lists.{id-at, id-list}
+use Rattle.laws.proofs.Finding.{place-none, place-some, any-more, one-place, eqb-flip}
+use Rattle.index_ids.specs.Chain.{lowest-below}
+use Rattle.index_ids.specs.Ids.{id-in, is-id}
+use Rattle.index_ids.proofs.Repeats.{slot-at, found-below}
+use Rattle.prune_columns.specs.Projected.{marked}
+use Rattle.prune_marks.specs.Marks.{mark-at, Unmarked, Distinct-ids, Marks}
+
+pub mark-some : (place : ℕ) (l : List ℕ) → (place ≡ 0 → ⊥) → set l (place - 1) 1 ≡ mark-at place l
+mark-some zero l e = absurd (e refl)
+mark-some (suc k) l e = let q : suc k - 1 ≡ k = omega arith in rw q
+
+-- The first i chosen ids are marked.
+pub record Marking (sel is : List ℕ) (m : ℕ) (marks : List ℕ) (i : ℕ) : Type 0 where
+  pub room : length marks ≡ 1024
+  pub so-far : (k : ℕ) → k < m → marked marks k ≡ any (eqb (id-in is k)) (from (id-at sel) 0 i)
+
+pub marking-starts : (sel is : List ℕ) (m : ℕ) (marks : List ℕ) → Unmarked marks → Marking sel is m marks 0
+unfolding from marked
+marking-starts sel is m marks h = record { room = h .room; so-far = λ k l. rw (h .none-marked k) }
+
+pub marking-done : (sel is : List ℕ) (m : ℕ) (marks : List ℕ) (n i : ℕ) → Marking sel is m marks i → n ≡ length sel / 4 → n ≤ i → i ≤ n → Marks sel is m marks
+unfolding id-list
+marking-done sel is m marks n i h e l g = let q : i ≡ length sel / 4 = omega arith in record { exactly = λ k b. h .so-far k b ∙ ap (λ (z : ℕ). any (eqb (id-in is k)) (from (id-at sel) 0 z)) q }
+
+module _ (sel is : List ℕ) (m : ℕ) (marks : List ℕ) (i : ℕ) (h : Marking sel is m marks i) (few : m ≤ 1024) (d : Distinct-ids is m) (v : ℕ) (ev : id-at sel i ≡ turned v) (r : ℕ) (er : r ≡ lowest-below (is-id is (turned v)) 0 m) where
+  found : slot-at r ≡ place-of (eqb (turned v)) 0 (from (id-in is) 0 m)
+  found = ap slot-at er ∙ found-below (eqb (turned v)) (id-in is) m
+
+  -- one mark more
+  by-place : (r : ℕ) → slot-at r ≡ place-of (eqb (turned v)) 0 (from (id-in is) 0 m) → (k : ℕ) → k < m → marked (mark-at r marks) k ≡ (marked marks k || eqb (id-in is k) (turned v))
+  unfolding marked
+  by-place zero q k l = rw (eqb-flip (id-in is k) (turned v), place-none (eqb (turned v)) (id-in is) 0 m (sym q) k (omega arith) (omega arith)) (sym (or-false (eqb (getD marks k 0) 1)))
+    where
+      or-false : (b : Bool) → (b || false) ≡ b
+      or-false true = refl
+      or-false false = refl
+  by-place (suc j) q k l =
+      let p = place-some (eqb (turned v)) (id-in is) 0 m j (sym q) in
+      let w = h .room in
+      let b = p .2 in
+      let e : turned v ≡ id-in is j = eqb-true (turned v) (id-in is j) (p .0) in
+      go (eqb k j) refl e b
+    where
+      or-true : (b : Bool) → (b || true) ≡ true
+      or-true true = refl
+      or-true false = refl
+
+      or-false : (b : Bool) → (b || false) ≡ b
+      or-false true = refl
+      or-false false = refl
+
+      go : (b : Bool) → eqb k j ≡ b → turned v ≡ id-in is j → j < 0 + m → eqb (getD (set marks j 1) k 0) 1 ≡ (eqb (getD marks k 0) 1 || eqb (id-in is k) (turned v))
+      go true z e b =
+          let y : k ≡ j = eqb-true k j z in
+          let w = h .room in
+          rw (y, getD-set-same marks j 1 0 (omega arith), eq-eqb (id-in is j) (turned v) (sym e)) (sym (or-true (eqb (getD marks j 0) 1)))
+      go false z e b =
+          let y = eqb-false k j z in
+          rw (getD-set-other marks j k 1 0 y, ne-eqb (id-in is k) (turned v) (λ t. y (one-place (id-in is) m (d .tested) k j l (omega arith) (t ∙ e)))) (sym (or-false (eqb (getD marks k 0) 1)))
+
+  pub marking-goes : (marks′ : List ℕ) → marks′ ≡ mark-at r marks → Marking sel is m marks′ (i + 1)
+  marking-goes marks′ e =
+      record {
+        room = ap length e ∙ kept r ∙ h .room;
+        so-far = λ k l. ap (λ (z : List ℕ). marked z k) e ∙ by-place r found k l ∙ rw (any-more (eqb (id-in is k)) (id-at sel) 0 i, zero-add i, ev, h .so-far k l);
+      }
+    where
+      kept : (r : ℕ) → length (mark-at r marks) ≡ length marks
+      kept zero = refl
+      kept (suc j) = length-set marks j 1
+
+  pub marking-fits : r ≤ 1024
+  marking-fits = go r found
+    where
+      go : (r : ℕ) → slot-at r ≡ place-of (eqb (turned v)) 0 (from (id-in is) 0 m) → r ≤ 1024
+      go zero q = omega arith
+      go (suc j) q = let p = place-some (eqb (turned v)) (id-in is) 0 m j (sym q) in let b = p .2 in omega arith
+
+pub ruleset marking = (mark-some, marking-starts, marking-done, marking-goes, marking-fits)

@@ -1,0 +1,14 @@
+-- One rule or the other.
+use borrow.Author.Needs.{needs}
+use Rattle.record_entries.proofs.entry_ok.Statement.{statement}
+use Rattle.record_entries.proofs.entry_ok.Tie as tie
+
+pub entry-ok-spec : {M : Type 1} → statement M
+entry-ok-spec =
+    tie.close
+    (tie.spec
+    (λ c κs. search needs)  -- deletion-ok-requires
+    (λ c. cc)  -- returns
+    (λ c κs. search needs)  -- addition-ok-requires
+    (λ c. cc)  -- returns-2
+    )

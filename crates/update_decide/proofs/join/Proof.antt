@@ -1,0 +1,20 @@
+-- A dropped struct asks no name.
+use Rattle.update_decide.proofs.Placing.{joining}
+use borrow.Author.Needs.{needs}
+use Rattle.update_decide.proofs.join.Statement.{statement}
+use Rattle.update_decide.proofs.join.Tie as tie
+
+pub join-spec : {M : Type 1} → statement M
+join-spec =
+    tie.close
+    (tie.spec
+    (λ c. search needs)  -- mul-le32
+    (λ c κs. search needs)  -- le32-requires
+    (λ c κs. search needs)  -- contains-requires
+    (λ c κs. search needs)  -- under-of-requires
+    (λ c. search (joining, needs))  -- returns
+    (λ c κs. search needs)  -- name-taken-requires
+    (λ c. search (joining, needs))  -- returns-2
+    (λ c κs. search needs)  -- under-of-requires-2
+    (λ c. search (joining, needs))  -- returns-3
+    )

@@ -1,0 +1,98 @@
+-- One deletion and one addition, as the paper decides them once the look-up has answered.
+use Prim.Native.Nat.{ℕ, suc, _+_, _<_}
+use mathlib.Core.Path.{_≡_}
+use mathlib.Core.Bool.{true, not, _&&_, cond}
+use mathlib.Core.List.{List}
+use mathlib.Core.Option.{Option, none, some}
+use lib.Dec.{eqb, ltb}
+use lib.ListN.{length}
+use Rattle.paper.specs.Answer.{Answer, ok, refused, _>>=_, _>>_, among, lowest}
+use Rattle.paper.specs.Refusals.{found-column, no-identifier, dotless, fillable, found-parent, found-struct, free-name}
+use Rattle.paper.specs.Field.{highest}
+use Rattle.paper.specs.Rows.{Row}
+use Rattle.paper.specs.Bytes.{turned, rec-at, name-of, in-pool, ok-bytes}
+use Rattle.paper.specs.Update.{root-taken, member-taken, receiver}
+use Rattle.record.specs.declared.FieldId.{FieldId}
+use Rattle.record.specs.declared.Slot.{Slot}
+use Rattle.record.specs.declared.Found.{Found}
+use Rattle.record.specs.declared.Found.the-variants as found
+use Rattle.record.specs.Says.{refusal-of, found-row}
+use Rattle.update_parents.specs.Target.{members-at, Standing, Stands}
+use Rattle.update_decide.specs.declared.Dropping.{Dropping}
+use Rattle.update_decide.specs.declared.Dropping.the-variants as dropping
+use Rattle.update_decide.specs.declared.Going.{Going}
+use Rattle.update_decide.specs.declared.Going.the-variants as going
+use Rattle.update_decide.specs.declared.Fresh.{Fresh}
+use Rattle.update_decide.specs.declared.Fresh.the-variants as fresh
+
+-- The id of a row has 32 bits.
+unfoldable pub Known : Option Row → Type 0
+Known none = Unit {0}
+Known (some r) = r .field .id < 4294967296
+
+-- ---- a deletion: 11 finds no column, 12 finds an identifier
+
+unfoldable pub dropped-id : Option Row → (identifiers : List ℕ) → (k : ℕ) → Answer ℕ
+dropped-id o identifiers k = do
+  r ← found-column k o
+  no-identifier k (among (r .field .id) identifiers)
+  ok (r .field .id)
+
+unfoldable pub drops : Answer ℕ → Dropping
+drops (ok i) = dropping.Gone (record { 0 = turned i })
+drops (refused n l p) = dropping.Refused (refusal-of n l p)
+
+pub record Deleted (f : Found) (identifiers : List ℕ) (k : ℕ) (r : Dropping) : Type 0 where
+  pub says : (o : Option Row) → Known o → f ≡ found-row o → r ≡ drops (dropped-id o identifiers k)
+
+-- ---- an addition
+
+-- 13 and 14 of the added column at a slot
+unfoldable pub unbarred : (pool s : List ℕ) (slot k : ℕ) → Answer (Unit {0})
+unbarred pool s slot k = do
+  dotless k (among 46 (name-of pool s slot))
+  fillable k (eqb (rec-at s slot .flags) 1)
+
+unfoldable pub goes : Answer (Option ℕ) → Going
+goes (ok none) = going.Under 0
+goes (ok (some i)) = going.Under (suc (turned i))
+goes (refused n l p) = going.Refused (refusal-of n l p)
+
+-- 17 at the root
+unfoldable pub root-place : Option Row → (ds : List ℕ) → (k : ℕ) → Answer (Option ℕ)
+root-place o ds k = do
+  free-name k (root-taken o ds)
+  ok none
+
+pub record AtRoot (f : Found) (ds : List ℕ) (k : ℕ) (r : Going) : Type 0 where
+  pub says : (o : Option Row) → Known o → f ≡ found-row o → r ≡ goes (root-place o ds k)
+
+-- 17 under the struct at a slot
+unfoldable pub under-place : (pool s : List ℕ) (n slot : ℕ) (ds : List ℕ) (k : ℕ) (x : List ℕ) → Answer (Option ℕ)
+under-place pool s n slot ds k x = do
+  free-name k (not (among (turned (rec-at s slot .id)) ds) && member-taken (members-at pool s n slot) x ds)
+  ok (some (turned (rec-at s slot .id)))
+
+-- A record at a slot, in a list whose names are in their pool.
+pub record Sited (pool s : List ℕ) (n slot : ℕ) : Type 0 where
+  pub stands : Standing s n slot
+  pub named : lowest (in-pool (length pool) s) 0 n ≡ none
+
+-- 15 the path finds nothing, 16 leads to no struct, then 17
+unfoldable pub parent-place : Option Row → (ds : List ℕ) → (k : ℕ) → (x : List ℕ) → Answer (Option ℕ)
+parent-place o ds k x = do
+  r ← found-parent k o
+  s ← found-struct k (receiver (r .field) (r .inside) (r .field .kind))
+  free-name k (not (among (s .id) ds) && member-taken (s .members) x ds)
+  ok (some (s .id))
+
+-- What was found is a record of the list, and its bytes are in order.
+pub record FoundSited (pool s : List ℕ) (n : ℕ) (f : Found) : Type 0 where
+  pub at : (x : FieldId) (p : Slot) → f ≡ found.At x p → Sited pool s n (p .0) × (ok-bytes s (p .0) ≡ true)
+
+pub record UnderParent (f : Found) (pool s : List ℕ) (n : ℕ) (ds : List ℕ) (k : ℕ) (x : List ℕ) (r : Going) : Type 0 where
+  pub says : (o : Option Row) → ((row : Row) → o ≡ some row → Stands pool s n row) → f ≡ found-row o → r ≡ goes (parent-place o ds k x)
+
+-- 18; ids from last + 1 on
+unfoldable pub freshly : (last records k : ℕ) → Fresh
+freshly last records k = cond (ltb highest (last + records)) (fresh.Refused (refusal-of 18 3 k)) (fresh.Ids (turned (suc last)) (last + records))

@@ -1,0 +1,62 @@
+-- The struct that receives additions, by its slot, and what stands at a slot.
+use Prim.Native.Nat.{ℕ, _+_, _*_, _≤_, _<_}
+use mathlib.Core.Path.{_≡_}
+use mathlib.Core.Bool.{true, cond}
+use mathlib.Core.List.{List}
+use mathlib.Core.Option.{Option, none, some}
+use lib.ListN.{length}
+use Rattle.paper.specs.declared.Kind.{Kind}
+use Rattle.paper.specs.declared.Kind.the-variants.{Primitive, Structure, Listing, Mapping}
+use Rattle.paper.specs.Forest.{Forest}
+use Rattle.paper.specs.Field.{Field, is-struct}
+use Rattle.paper.specs.Bytes.{turned, rec-at, kind-at, kids-at, field-at}
+use Rattle.paper.specs.Decode.{fields}
+use Rattle.paper.specs.Rows.{Row}
+use Rattle.paper.specs.Update.{Receiver}
+use Rattle.tree.specs.Read.{part, reads}
+use Rattle.update_parents.specs.declared.Target.{Target}
+use Rattle.update_parents.specs.declared.Target.the-variants as target
+
+abbrev pub struct-at : List ℕ → ℕ → Option ℕ
+struct-at s j = cond (is-struct (kind-at s j)) (some j) none
+
+-- After the key, which has its inside, comes the value.
+unfoldable pub value-slot : (s : List ℕ) (n k : ℕ) → ℕ
+value-slot s n k = part 0 (kids-at s) n 14 (kids-at s (k + 1)) (k + 1 + 1) .next
+
+abbrev pub step-from : (s : List ℕ) (n k : ℕ) → Kind → Option ℕ
+step-from s n k Primitive = none
+step-from s n k Structure = some k
+step-from s n k Listing = struct-at s (k + 1)
+step-from s n k Mapping = struct-at s (value-slot s n k)
+
+-- The slot of the struct that receives additions under the record at slot k: itself, a list's element, a map's value.
+unfoldable pub receiving : (s : List ℕ) (n k : ℕ) → Option ℕ
+receiving s n k = step-from s n k (kind-at s k)
+
+unfoldable pub targeted : Option ℕ → Target
+targeted none = target.Nothing
+targeted (some k) = target.Struct (record { 0 = k })
+
+-- The members of the struct at slot k.
+unfoldable pub members-at : (pool s : List ℕ) (n k : ℕ) → Forest Field
+members-at pool s n k = fields pool s (part 0 (kids-at s) n 15 (kids-at s k) (k + 1) .trees)
+
+-- What the paper says of it.
+abbrev pub receiver-at : (pool s : List ℕ) (n : ℕ) → Option ℕ → Option Receiver
+receiver-at pool s n none = none
+receiver-at pool s n (some k) = some (record { id = turned (rec-at s k .id); members = members-at pool s n k })
+
+-- A record at slot k of n, whose inside was read.
+pub record Standing (s : List ℕ) (n k : ℕ) : Type 0 where
+  pub whole : n * 24 ≤ length s
+  pub small : n ≤ 1024
+  pub there : k < n
+  pub read : reads 0 (kids-at s) n 15 (kids-at s k) (k + 1) ≡ true
+
+-- A row is the record at its slot, whose inside was read.
+pub record Stands (pool s : List ℕ) (n : ℕ) (r : Row) : Type 0 where
+  pub there : r .slot < n
+  pub read : reads 0 (kids-at s) n 15 (kids-at s (r .slot)) (r .slot + 1) ≡ true
+  pub field : r .field ≡ field-at pool s (r .slot)
+  pub inside : r .inside ≡ fields pool s (part 0 (kids-at s) n 15 (kids-at s (r .slot)) (r .slot + 1) .trees)

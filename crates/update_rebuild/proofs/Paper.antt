@@ -1,0 +1,70 @@
+-- What is planned, as fields, is the paper's rebuild: a source stands for its record, and what the rebuild asks of one is the same of the other.
+use Prim.Native.Nat.{ℕ, suc, _+_, _-_, _<_, _≤_}
+use mathlib.Core.Path.{_≡_, refl, sym, ap, _∙_}
+use mathlib.Core.Bool.{true}
+use mathlib.Core.List.{List}
+use mathlib.Core.Option.{none}
+use native.Mathlib.Omega.{arith}
+use borrow.Author.Tests.{lt-ltb, le-ltb}
+use Rattle.paper.specs.Answer.{ok, among}
+use Rattle.paper.specs.Forest.{Forest, empty, node, size, mapped}
+use Rattle.paper.specs.Field.{id-of, kind-of, with-id}
+use Rattle.paper.specs.Bytes.{kids-at, field-at}
+use Rattle.paper.specs.Layout.{Part, roots}
+use Rattle.paper.specs.Decode.{fields}
+use Rattle.paper.specs.Rebuild.{Addition, fresh, rebuilt}
+use Rattle.laws.proofs.Words.{turned-twice}
+use Rattle.laws.proofs.Taken.{roots-take}
+use Rattle.laws.proofs.Natural.{mapped-all, rebuilt-mapped}
+use Rattle.laws.proofs.Preorder.{mapped-mapped}
+use Rattle.laws.proofs.Pointwise.{Each, each-more, each-mapped, each-slot, mapped-same, rebuilt-same}
+use Rattle.plan.specs.Plan.{Lent, Source, source-field, planned-field}
+use Rattle.update_rebuild.specs.Sources.{base-source, added-source, source-id, source-kind, rebuilt-row, rebuilt-base}
+
+module _ (l : Lent) where
+  -- ---- a source is its record
+
+  base-field : (k : ℕ) → k < 1024 → planned-field l (base-source (l .base) k) ≡ field-at (l .pool) (l .base) k
+  unfolding planned-field source-field field-at
+  base-field k h = rw (lt-ltb k 1024 h)
+
+  source-id-is : (a : Source) → source-id a ≡ id-of (planned-field l a)
+  unfolding planned-field
+  source-id-is a = refl
+
+  source-kind-is : (k : ℕ) → k < 1024 → source-kind (l .base) (base-source (l .base) k) ≡ kind-of (planned-field l (base-source (l .base) k))
+  unfolding field-at
+  source-kind-is k h = ap kind-of (sym (base-field k h))
+
+  added-field : (i k : ℕ) → i < 4294967296 → planned-field l (added-source i k) ≡ with-id i (field-at (l .request) (l .added) k)
+  unfolding planned-field source-field
+  added-field i k h = let e : 1024 + k - 1024 ≡ k = omega arith in rw (le-ltb (1024 + k) 1024 (omega arith), e, turned-twice i h)
+
+  -- ---- an added tree
+
+  pub fresh-fields : (c : ℕ) (t : Forest ℕ) → c + size t ≤ 4294967296 → mapped (planned-field l) (fresh added-source c t) ≡ fresh with-id c (fields (l .request) (l .added) t)
+  unfolding fields mapped fresh size
+  fresh-fields c empty h = refl
+  fresh-fields c (node k m n) h = rw (added-field c k (omega arith), fresh-fields (suc c) m (omega arith), fresh-fields (suc (c + size m)) n (omega arith), size-fields m)
+    where
+      size-fields : (t : Forest ℕ) → size (mapped (field-at (l .request) (l .added)) t) ≡ size t
+      size-fields empty = refl
+      size-fields (node j a b) = rw (size-fields a, size-fields b)
+
+  -- ---- the base
+
+  pub rebuilt-fields : (n : ℕ) (p : Part) (ds ds′ : List ℕ) (adds : List (Addition Source)) → n ≤ 1024 → roots 0 (kids-at (l .base)) n n 0 ≡ ok p → ((x : ℕ) → among x ds ≡ among x ds′)
+      → mapped (planned-field l) (rebuilt-base (l .base) n ds adds) ≡ rebuilt id-of kind-of ds′ (mapped-all (planned-field l) adds) none true (fields (l .pool) (l .base) (p .trees))
+  unfolding rebuilt-base rebuilt-row fields
+  rebuilt-fields n p ds ds′ adds h e drops =
+      let s = l .base in
+      let g = planned-field l in
+      let t = p .trees in
+      let small : Each (λ j. j < n) t = each-slot (kids-at s) n 0 t (roots-take 0 (kids-at s) n n 0 p e .laid) in
+      let asked : Each (λ a. (source-id a ≡ id-of (g a)) × (source-kind s a ≡ kind-of (g a))) (mapped (base-source s) t)
+      = each-mapped _ (base-source s) t (each-more _ _ (λ k i. (source-id-is (base-source s k), source-kind-is k (omega arith))) t small) in
+      let there : mapped g (mapped (base-source s) t) ≡ mapped (field-at (l .pool) s) t
+      = mapped-mapped (base-source s) g t ∙ mapped-same (λ k. g (base-source s k)) (field-at (l .pool) s) t (each-more _ _ (λ k i. base-field k (omega arith)) t small) in
+      rw e (ap (mapped g) (rebuilt-same source-id (λ a. id-of (g a)) (source-kind s) (λ a. kind-of (g a)) ds ds′ adds drops none true (mapped (base-source s) t) asked)
+      ∙ sym (rebuilt-mapped g id-of kind-of ds′ adds none true (mapped (base-source s) t))
+      ∙ ap (rebuilt id-of kind-of ds′ (mapped-all g adds) none true) there)

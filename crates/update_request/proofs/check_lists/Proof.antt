@@ -1,0 +1,17 @@
+-- The deletions refuse, or the additions tell.
+use Rattle.update_request.proofs.Opening.{openings}
+use borrow.Author.Needs.{needs}
+use Rattle.update_request.proofs.check_lists.Statement.{statement}
+use Rattle.update_request.proofs.check_lists.Tie as tie
+
+pub check-lists-spec : {M : Type 1} → statement M
+check-lists-spec =
+    tie.close
+    (tie.spec
+    (λ c κs. search needs)  -- check-deletions-requires
+    (λ c. search needs)  -- enum-known-r
+    (λ c. search (openings, needs))  -- returns
+    (λ c. search needs)  -- enum-told
+    (λ c κs. search needs)  -- check-additions-requires
+    (λ c. search (openings, needs))  -- returns-2
+    )
