@@ -4,12 +4,13 @@ use std::fs::File;
 use std::io::{self, IsTerminal, Read};
 use std::path::Path;
 
-use braidhurdle::layout::{NAME_ROOM, RECORD_BYTES, RECORD_ROOM};
-use braidhurdle::{Columns, Field, FieldId, Mode, Overlong, Request, Slot, Tree};
+use braidhurdle::files::{FileFault, Over, Stored, Why};
+use braidhurdle::layout::RECORD_BYTES;
+use braidhurdle::{Columns, Field, FieldId, Mode, Overlong, Request, Slot, Tree, names};
 
 use crate::arguments::{Added, Addition, Ask, Of, Out};
 use crate::words::{Asked, Given};
-use crate::{Fault, files, names, picture};
+use crate::{Fault, picture};
 
 /// More bytes than the picture of 1,024 columns needs.
 const MOST_PICTURE: u64 = 1 << 22;
@@ -41,7 +42,7 @@ pub fn answer(ask: Ask) -> Result<Vec<u8>, Fault> {
 
 fn list(given: &Given, plain: bool) -> Result<Vec<u8>, Fault> {
     let columns = given.tree.columns().map_err(|why| given.refused(why))?;
-    Ok(if plain { lines(columns) } else { picture::draw(columns).into() })
+    Ok(if plain { lines(columns) } else { given.tree.to_string().into() })
 }
 
 /// The lister's lines: slot, id, parent id or `-`, full name. Names stand as they are, but not on
@@ -197,13 +198,21 @@ fn overlong(why: Overlong) -> Fault {
     Fault::Given(why.to_string())
 }
 
-/// The tree of a stem. Of a longer file than a tree may have, so much is read that the library
-/// sees it.
+/// The tree of a stem.
 fn read(stem: &Path) -> Result<Tree, Fault> {
-    let [records, pool] = files::read(stem, [RECORD_ROOM, NAME_ROOM])?;
-    Ok(Tree::new(records, pool))
+    Stored::read(stem).map(|stored| stored.tree).map_err(of_file)
 }
 
 fn write(tree: Tree, out: &Out) -> Result<(), Fault> {
-    files::write(&out.stem, &[tree.records, tree.pool], out.force)
+    let over = if out.force { Over::Files } else { Over::Nothing };
+    Stored { tree, last_id: None }.write(&out.stem, over).map_err(of_file)
+}
+
+fn of_file(fault: FileFault) -> Fault {
+    let hint = match fault.why {
+        Why::Missing => "; a tree is named by the common stem of its two files",
+        Why::AlreadyThere => "; --force overwrites files",
+        _ => "",
+    };
+    Fault::Given(format!("{fault}{hint}"))
 }

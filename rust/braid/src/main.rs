@@ -3,7 +3,6 @@
 
 mod arguments;
 mod commands;
-mod files;
 mod names;
 mod picture;
 mod words;

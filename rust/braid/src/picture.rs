@@ -1,31 +1,8 @@
-//! A tree as an indented picture, and back. docs/FORMAT.md has its grammar.
+//! A picture read back to a tree. docs/FORMAT.md has its grammar; the library draws it.
 
-use braidhurdle::{Column, Columns, Field, FieldId, Kind};
+use braidhurdle::{Field, FieldId, Kind};
 
 use crate::names;
-
-/// The picture of a tree: a line for each column, two spaces for each level above it.
-pub fn draw(columns: Columns) -> String {
-    columns.map(|column| line(&column)).collect()
-}
-
-fn line(column: &Column) -> String {
-    let indent = "  ".repeat(column.level - 1);
-    let mut line = format!("{indent}{} {}: {}", column.id, names::shown(column.name), column.kind);
-    if column.kind == Kind::Primitive {
-        line += &format!(" {}", column.type_code);
-    }
-    if column.required {
-        line += " required";
-    }
-    if column.default {
-        line += " default";
-    }
-    if column.attribute != 0 {
-        line += &format!(" attribute {}", column.attribute);
-    }
-    line + "\n"
-}
 
 /// The roots of a picture, or the line that is none and why.
 pub fn read(text: &str) -> Result<Vec<Field>, String> {

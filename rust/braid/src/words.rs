@@ -3,11 +3,11 @@
 use std::path::Path;
 
 use braidhurdle::layout::{NAME_ROOM, RECORD_BYTES, RECORD_ROOM, Record};
+use braidhurdle::names::quoted;
 use braidhurdle::{Field, FieldId, Refusal, Request, Tree};
 
 use crate::Fault;
 use crate::arguments::Addition;
-use crate::names::quoted;
 
 /// What the library was given.
 pub struct Given<'a> {

@@ -81,7 +81,8 @@
 //! # Ok::<(), Box<dyn std::error::Error>>(())
 //! ```
 //!
-//! The module [`c`] has the very calls, on your own buffers. The crate needs no standard library.
+//! The module [`c`] has the very calls, on your own buffers. Without its feature `std`, which is on
+//! unless turned off, the crate needs no standard library.
 //!
 //! # The archive
 //!
@@ -95,13 +96,19 @@
 #![deny(unsafe_op_in_unsafe_fn)]
 
 extern crate alloc;
+#[cfg(feature = "std")]
+extern crate std;
 
 #[allow(unsafe_code)] // the calls themselves; nowhere else
 pub mod c;
 mod columns;
 mod field;
+#[cfg(feature = "std")]
+pub mod files;
 pub mod layout;
+pub mod names;
 mod numbers;
+mod picture;
 mod refusal;
 mod request;
 mod room;

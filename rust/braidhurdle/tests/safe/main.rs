@@ -2,6 +2,8 @@
 
 mod any_bytes;
 mod building;
+mod files;
+mod picture;
 mod reading;
 mod refusals;
 mod t;

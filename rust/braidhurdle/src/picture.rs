@@ -1,0 +1,48 @@
+//! A tree as an indented picture, for people.
+
+use core::fmt;
+
+use crate::names::shown;
+use crate::{Column, Kind, Tree, TreeRef};
+
+impl fmt::Display for Tree {
+    /// The picture, as [`TreeRef`] has it.
+    fn fmt(&self, f: &mut fmt::Formatter<'_>) -> fmt::Result {
+        self.lent().fmt(f)
+    }
+}
+
+impl fmt::Display for TreeRef<'_> {
+    /// The picture: a line for each column, two spaces for each level above it. Of a tree that is
+    /// refused, one line with the refusal in words.
+    fn fmt(&self, f: &mut fmt::Formatter<'_>) -> fmt::Result {
+        match self.columns() {
+            Err(refusal) => writeln!(f, "{refusal}"),
+            Ok(mut columns) => columns.try_for_each(|column| {
+                let indent = 2 * (column.level - 1);
+                writeln!(f, "{:indent$}{column}", "")
+            }),
+        }
+    }
+}
+
+impl fmt::Display for Column<'_> {
+    /// Its line of the picture, without what stands before and behind: id, name and kind, the type
+    /// code of a primitive, and what is set of required, default and attribute.
+    fn fmt(&self, f: &mut fmt::Formatter<'_>) -> fmt::Result {
+        write!(f, "{} {}: {}", self.id, shown(self.name), self.kind)?;
+        if self.kind == Kind::Primitive {
+            write!(f, " {}", self.type_code)?;
+        }
+        if self.required {
+            f.write_str(" required")?;
+        }
+        if self.default {
+            f.write_str(" default")?;
+        }
+        if self.attribute != 0 {
+            write!(f, " attribute {}", self.attribute)?;
+        }
+        Ok(())
+    }
+}
