@@ -261,7 +261,7 @@ fn front(file: &Path, most: usize) -> Result<Vec<u8>, FileFault> {
 
 /// The last id of a file's bytes. The newline is its end: without it digits may be missing.
 fn last_id(bytes: &[u8]) -> Option<FieldId> {
-    str::from_utf8(bytes).ok()?.strip_suffix('\n')?.parse().ok().map(FieldId)
+    core::str::from_utf8(bytes).ok()?.strip_suffix('\n')?.parse().ok()
 }
 
 /// Does a stem end with a name, so that its files do too?

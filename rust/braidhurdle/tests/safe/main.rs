@@ -3,9 +3,12 @@
 mod any_bytes;
 mod building;
 mod files;
+mod numbers;
 mod picture;
 mod reading;
 mod refusals;
+mod room;
 mod t;
+mod tables;
 mod text;
 mod worked;
