@@ -4,6 +4,7 @@ mod any_bytes;
 mod building;
 mod files;
 mod numbers;
+mod package;
 mod picture;
 mod reading;
 mod refusals;
