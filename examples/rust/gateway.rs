@@ -5,9 +5,9 @@ use std::error::Error;
 
 use braidhurdle::{Field, FieldId, Mode, Request, Tree, Updated};
 
-/// Type codes are the host's own; the library keeps them and looks at none.
-const INT: u32 = 1;
-const DATE: u32 = 2;
+/// Type codes are the host's own, here those of all examples; the library looks at none.
+const INT: u32 = 2;
+const DATE: u32 = 4;
 
 fn main() -> Result<(), Box<dyn Error>> {
     let (tree, last_id) = first()?;
