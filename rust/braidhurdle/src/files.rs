@@ -110,7 +110,8 @@ impl Stored {
     ///
     /// Each file is first written whole beside its place. Old files are moved aside, and the new
     /// ones put in place, the last id behind the tree. So at no moment do old and new files stand
-    /// together; after a failure the old ones stand again.
+    /// together; after a failure the old ones stand again. Where the process ends in between, the
+    /// old ones stand beside, as `.STEM.rec.PID.old` and so on.
     ///
     /// # Errors
     ///

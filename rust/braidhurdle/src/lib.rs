@@ -41,7 +41,8 @@
 //! # Read one
 //!
 //! Store and send [`Tree::records`] and [`Tree::pool`] as they are. Bytes from elsewhere need no
-//! check: [`Tree::new`] takes any, and whatever is asked of them tests them first.
+//! check: [`Tree::new`] takes any, and whatever is asked of them tests them first. The module
+//! `files` keeps a tree and its last id as files.
 //!
 //! ```
 //! # use braidhurdle::{Field, FieldId};
@@ -94,6 +95,7 @@
 //! the steps.
 #![no_std]
 #![deny(missing_docs)]
+#![deny(missing_debug_implementations)]
 #![deny(clippy::missing_errors_doc, clippy::must_use_candidate, clippy::return_self_not_must_use)]
 #![deny(unsafe_code)]
 #![deny(unsafe_op_in_unsafe_fn)]

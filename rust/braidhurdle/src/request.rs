@@ -7,7 +7,8 @@ use crate::layout::entry;
 use crate::{Field, FieldId, Overlong};
 
 /// What an update is asked to do: the columns to drop and to add, in this order, the last id that
-/// was handed out, and the ids of the identifier fields.
+/// was handed out, and the ids of the identifier fields. Later versions may have more to ask for;
+/// what is not named has a default.
 ///
 /// ```
 /// use braidhurdle::{Field, FieldId, Request};
