@@ -91,7 +91,7 @@
 //!
 //! The build takes `libbraidhurdle.a` from the folder that the variable `BRAIDHURDLE_ARCHIVE`
 //! names; else from `target/staticlib` of the checkout that this crate stands in; else it has the
-//! toolchain make it there, which proves the library first and takes minutes. `docs/GUIDE.md` has
+//! toolchain make it there, which proves the library first and takes minutes. `docs/USING.md` has
 //! the steps.
 #![no_std]
 #![deny(missing_docs)]
