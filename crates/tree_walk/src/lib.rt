@@ -19,6 +19,7 @@ pub fn row_past(recs: &[u8], slot: usize, count: u32, levels: usize) -> usize
     at
 }
 
+// Whether a kind is that of maps.
 pub fn is_map(k: Kind) -> bool
     ensures { λ a. ⌜ a ≡ is-map k ⌝ }
 {
