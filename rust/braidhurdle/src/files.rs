@@ -34,7 +34,7 @@ use crate::{FieldId, Tree, Updated};
 
 /// The endings, in the order in which the files are put in place. The last id comes behind the
 /// tree, so at no moment does it stand beside another one.
-const ENDINGS: [&str; 3] = ["rec", "names", "last"];
+pub const ENDINGS: [&str; 3] = ["rec", "names", "last"];
 
 /// The length of the longest last id, with its newline.
 const MOST_LAST: usize = "-2147483648\n".len();
@@ -272,7 +272,8 @@ fn has_name(stem: &Path) -> bool {
 }
 
 /// The file of a stem. The stem may have dots of its own.
-fn with_ending(stem: &Path, ending: &str) -> PathBuf {
+#[must_use]
+pub fn with_ending(stem: &Path, ending: &str) -> PathBuf {
     let mut file = OsString::from(stem);
     file.push(".");
     file.push(ending);
