@@ -8,6 +8,8 @@ use clap::builder::{OsStringValueParser, TypedValueParser};
 use clap::error::ErrorKind;
 use clap::{Arg, ArgAction, ArgMatches, Command, value_parser};
 
+use crate::explain::LAST;
+
 const ABOUT: &str = "Schema trees kept as files: STEM.rec holds the records, STEM.names the names, \
                      STEM.last the last id";
 
@@ -197,7 +199,8 @@ fn parent() -> Command {
         .arg(path("IN", "The tree to look in"))
         .arg(an_id(Arg::new("ID")).help("The id of the column below").required(true))
         .after_help(
-            "Prints id, slot and full name. Status 1 for a root, and where no column has the id.\n\n\
+            "Prints id, slot and full name. Status 1 for a root, and where no column has the\n\
+             id.\n\n\
              Example:\n  braid parent examples/T 7",
         )
 }
@@ -210,10 +213,10 @@ fn prune() -> Command {
         .arg(flag("full", "Keeps a chosen column with all that is inside it"))
         .args(out_arguments())
         .after_help(
-            "In --keep a number is an id and all else a full or short name; a column whose name is\n\
-             a number, or has a comma, is chosen by its id. --keep '' keeps nothing. An id that\n\
-             the tree has not is told and ignored; a name that finds nothing ends with status 1. A\n\
-             chosen list or map is refused (20) without --full: choose columns inside it.\n\
+            "In --keep a number is an id and all else a full or short name; a column whose name\n\
+             is a number, or has a comma, is chosen by its id. --keep '' keeps nothing. An id that\n\
+             the tree has not is told and ignored; a name that finds nothing ends with status 1.\n\
+             A chosen list or map is refused (20) without --full: choose columns inside it.\n\
              Prints how many records were kept. A pruned tree is for reading, so no OUT.last is\n\
              written.\n\n\
              Example:\n  braid prune examples/T --keep 5,visits.day --out report\n  \
@@ -301,7 +304,7 @@ fn explain() -> Command {
         .arg(
             Arg::new("N")
                 .help("The refusal's number, 1 to 20; without it all are listed")
-                .value_parser(value_parser!(u32).range(1..=20)),
+                .value_parser(value_parser!(u32).range(1..=LAST.into())),
         )
         .after_help("What it prints stands in docs/REFUSALS.md.\n\nExample:\n  braid explain 17")
 }

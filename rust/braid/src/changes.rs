@@ -152,7 +152,8 @@ impl<'a> Changes<'a> {
     }
 }
 
-/// The slot of the struct that takes what is added under a column: itself, its element or its value.
+/// The slot of the struct that takes what is added under a column: the column itself, a list's
+/// element or a map's value.
 pub fn receiver(columns: &[Column], slot: usize) -> Option<usize> {
     let last_child = || {
         let below =

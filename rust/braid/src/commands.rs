@@ -13,7 +13,7 @@ use crate::arguments::{Added, Addition, Ask, Named, Of, Out};
 use crate::changes::{self, Changes};
 use crate::outline::told;
 use crate::words::{Asked, Given};
-use crate::{Fault, explain, names, picture, streams};
+use crate::{Fault, explain, names, near, picture, streams};
 
 /// More bytes than the picture of 1,024 columns needs.
 const MOST_PICTURE: u64 = 1 << 22;
@@ -92,7 +92,10 @@ fn check(given: &Given, kept: Option<FieldId>) -> Result<Vec<u8>, Fault> {
 fn by_name(given: &Given, name: &[u8]) -> Result<Slot, Fault> {
     match given.tree.find_name(name).map_err(|why| given.refused(why))? {
         Some((_, slot)) => Ok(slot),
-        None => Err(Fault::Nothing(format!("no column is named {}", quoted(name)))),
+        None => {
+            let near = near::question(given.tree, name);
+            Err(Fault::Nothing(format!("no column is named {}{near}", quoted(name))))
+        }
     }
 }
 
@@ -271,10 +274,10 @@ fn request(identifiers: &[FieldId], asked: changes::Asked) -> Result<Request, Ov
 }
 
 fn make(picture: &Path, last_id: Option<FieldId>, out: &Out) -> Result<Vec<u8>, Fault> {
-    let fault = |why: String| Fault::Given(format!("{}: {why}", names::file(picture)));
+    let fault = |why: String| Fault::Given(format!("{}: {why}", names::picture(picture)));
     let mut text = vec![];
     let file: io::Result<Box<dyn Read>> = match picture.to_str() {
-        Some("-") if streams::no_input() => return Err(fault("standard input is closed".into())),
+        Some("-") if streams::no_input() => return Err(fault("closed".into())),
         Some("-") => Ok(Box::new(io::stdin())),
         _ => File::open(picture).map(|file| Box::new(file) as Box<dyn Read>),
     };
@@ -336,7 +339,7 @@ fn of_file(FileFault { file, why }: FileFault) -> Fault {
         Why::Missing => "; a tree is named by the common stem of its files",
         Why::AlreadyThere => "; --force replaces files",
         Why::NoFile => "; --force replaces files and links alone",
-        Why::NoName => ", as in DIR/T",
+        Why::NoName => "; DIR/T is one",
         _ => "",
     };
     Fault::Given(format!("{}: {why}{hint}", names::file(&file)))

@@ -1,21 +1,23 @@
 //! The page about refusals, part by part.
 
-/// Each refusal has one part, with a heading of one form.
+use braidhurdle::Refusal;
+
 const PAGE: &str = include_str!("../../../docs/REFUSALS.md");
+/// Each refusal has one part, with a heading of this form.
 const HEADING: &str = "## Refusal ";
 
-/// The parts, by number from 1 on: what stands behind the word of the heading.
-fn parts() -> impl Iterator<Item = &'static str> {
-    PAGE.split(HEADING).skip(1)
-}
+/// The last refusal of 01.
+pub const LAST: u32 = 20;
 
 /// What the page says of a refusal, or a line of each.
 pub fn told(number: Option<u32>) -> String {
+    let line = |number| {
+        let meaning = Refusal { number, list: 0, place: 0 }.meaning();
+        format!("{number}: {meaning}\n")
+    };
     match number {
         Some(number) => format!("Refusal {}\n", part(number).trim_end()),
-        None => {
-            parts().filter_map(|part| part.lines().next()).map(|line| format!("{line}\n")).collect()
-        }
+        None => (1..=LAST).map(line).collect(),
     }
 }
 
@@ -28,6 +30,8 @@ pub fn cure(number: u32) -> &'static str {
         .trim_end()
 }
 
+/// The part of a refusal, from its number on.
 fn part(number: u32) -> &'static str {
-    parts().nth(number as usize - 1).unwrap_or_default()
+    let heading = format!("{number}\n");
+    PAGE.split(HEADING).find(|part| part.starts_with(&heading)).unwrap_or_default()
 }

@@ -6,6 +6,7 @@ mod changes;
 mod commands;
 mod explain;
 mod names;
+mod near;
 mod outline;
 mod picture;
 mod streams;

@@ -9,6 +9,11 @@ pub fn file(path: &Path) -> String {
     printed(path.as_os_str().as_encoded_bytes())
 }
 
+/// A picture's file for people.
+pub fn picture(path: &Path) -> String {
+    if path == Path::new("-") { "standard input".into() } else { file(path) }
+}
+
 /// The name at the start of a text, as [`shown`] has it, and the text behind it.
 pub fn read(text: &str) -> Result<(Vec<u8>, &str), String> {
     if let Some(inside) = text.strip_prefix('"') {

@@ -7,12 +7,12 @@ use braidhurdle::layout::{
     MOST_IDENTIFIERS, MOST_LEVELS, MOST_RECORDS, MOST_SELECTED, NAME_ROOM, RECORD_BYTES, Record,
 };
 use braidhurdle::names::quoted;
-use braidhurdle::{Column, Field, FieldId, Kind, Refusal, Request, Tree};
+use braidhurdle::{Column, Field, FieldId, Kind, Refusal, Request, Slot, Tree};
 
 use crate::arguments::Addition;
 use crate::changes::{self, Changes, receiver};
 use crate::outline::{Outline, told};
-use crate::{Fault, explain, names};
+use crate::{Fault, explain, names, near};
 
 /// Most deletions, and most additions.
 const MOST_ENTRIES: usize = 64;
@@ -74,7 +74,7 @@ impl<'a> Given<'a> {
         let Some(row) = outline.0.get(place) else { return self.counts(&outline) };
         let stands = self.at(&outline, place);
         let and = |earlier: Option<usize>| {
-            let earlier = earlier.map(|slot| self.at(&outline, slot)).unwrap_or_default();
+            let earlier = earlier.map(|slot| self.spot(&outline, slot)).unwrap_or_default();
             format!("{stands}, and before it {earlier}")
         };
         match number {
@@ -96,12 +96,24 @@ impl<'a> Given<'a> {
         }
     }
 
-    /// A record with where it stands: in which files at which slot, or in which line.
+    /// A record with where it stands: in which files, or in which line of a picture.
     fn at(&self, outline: &Outline, slot: usize) -> String {
-        let from = names::file(self.stem);
+        let between = if self.lines.is_some() { "," } else { ":" };
+        format!("{}{between} {}", self.from(), self.spot(outline, slot))
+    }
+
+    fn spot(&self, outline: &Outline, slot: usize) -> String {
         match self.lines {
-            Some(lines) => format!("{from}, line {}: {}", lines[slot], outline.told(slot)),
-            None => format!("{from}: {}", outline.told(slot)),
+            Some(lines) => format!("line {}: {}", lines[slot], outline.told(slot)),
+            None => outline.told(slot),
+        }
+    }
+
+    /// Where the tree comes from.
+    fn from(&self) -> String {
+        match self.lines {
+            Some(_) => names::picture(self.stem),
+            None => names::file(self.stem),
         }
     }
 
@@ -132,7 +144,7 @@ impl<'a> Given<'a> {
         let id = self.identifiers[place];
         let words = format!("identifier {place}, id {id}");
         let Ok(Some(slot)) = self.tree.find_id(id) else {
-            return format!("{words}: no column of {} has it", names::file(self.stem));
+            return format!("{words}: no column of {} has it", self.from());
         };
         let Asked::Update { asked, .. } = self.ask else { return words };
         let Some(changes) = Changes::of(self.tree, asked) else { return words };
@@ -150,9 +162,16 @@ impl<'a> Given<'a> {
     fn deletion(&self, place: usize, dropped: &[Vec<u8>]) -> String {
         let words = format!("deletion {place}, path {}", quoted(&dropped[place]));
         match self.found(&dropped[place]) {
-            Some((_, told)) => format!("{words}: {told}"),
-            None => words,
+            Some((slot, told)) => format!("{words}: {told}{}", self.as_identifier(slot)),
+            None => words + &near::question(self.tree, &dropped[place]),
         }
+    }
+
+    /// Which identifier a column is, if it is one.
+    fn as_identifier(&self, slot: usize) -> String {
+        let is_it = |id: &FieldId| self.tree.find_id(*id) == Ok(Some(Slot(slot as u32)));
+        let which = self.identifiers.iter().position(is_it);
+        which.map_or(String::new(), |which| format!(", which is identifier {which}"))
     }
 
     fn addition(&self, number: u32, place: usize, asked: &changes::Asked) -> String {
@@ -167,16 +186,21 @@ impl<'a> Given<'a> {
         let why = match (number, parent) {
             (15, _) => {
                 let is_new = |earlier: &Addition<Field>| Some(&earlier.what.name) == under.as_ref();
-                asked.added.iter().any(is_new).then(|| {
-                    "this update adds it, and paths are looked up in the tree as it was".into()
-                })
+                if asked.added.iter().any(is_new) {
+                    Some(
+                        "this update adds it, and paths are looked up in the tree as it was".into(),
+                    )
+                } else {
+                    let path = under.as_deref().unwrap_or_default();
+                    return words + &near::question(self.tree, path);
+                }
             }
             (16, Some((slot, told))) => Some(format!("{told}, a {}", self.kinds(slot))),
             (17, _) => self.taken(under.as_ref(), &what.name),
             (18, _) => {
                 let asked: usize = asked.added[..=place].iter().map(|a| columns(&a.what)).sum();
                 let last = self.last_id();
-                Some(format!("{asked} new ids up to it, behind the last id {last}"))
+                Some(format!("new ids up to it: {asked}; the last id: {last}"))
             }
             _ => None,
         };
@@ -243,7 +267,7 @@ impl<'a> Given<'a> {
 
     /// Every limit that what was given passes.
     fn passed(&self) -> Vec<String> {
-        let from = names::file(self.stem);
+        let from = self.from();
         let outline = Outline::of(self.tree);
         let mut passed = sizes(&from, &outline);
         let more = self.tree.records.len() % RECORD_BYTES;
