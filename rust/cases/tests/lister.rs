@@ -1,8 +1,10 @@
-//! The lister, on files: what it writes, what it says where it can't, and its status. It runs
-//! where `rt check lister` has built it; with CI=true in the environment it must be there.
+//! The lister, on files: what it writes, what it says where it can't, and its status. It is built
+//! where the toolchain is there; with CI=true in the environment it must be.
 
+use std::ops::Range;
 use std::path::{Path, PathBuf};
 use std::process::Command;
+use std::sync::OnceLock;
 use std::{env, fs};
 
 use cases::{Generator, Random, Sizes, list_of, packed, prim, strukt, the_tree};
@@ -19,13 +21,25 @@ struct Left {
 /// A folder of one test, gone when the test ends.
 struct Room(PathBuf);
 
+/// Is the lister there? The first that asks has it built, if it is not.
+fn is_built() -> bool {
+    static BUILT: OnceLock<bool> = OnceLock::new();
+    *BUILT.get_or_init(|| {
+        let path = env::var_os("PATH").unwrap_or_default();
+        if env::split_paths(&path).any(|folder| folder.join("rt").is_file()) {
+            Command::new(root().join("tools/lister")).output().expect("tools/lister runs");
+        }
+        root().join("target/bin/lister").exists()
+    })
+}
+
 impl Room {
     /// None where the lister is not built.
     fn new(test: &str) -> Option<Room> {
-        if !root().join("target/bin/lister").exists() {
+        if !is_built() {
             let gate = env::var("CI").is_ok_and(|ci| ci == "true");
             assert!(!gate, "CI=true asks for the lister: rt check lister");
-            println!("The lister did not run: it is not built");
+            println!("The lister did not run: it is not built, and there is no toolchain");
             return None;
         }
         let room = env::temp_dir().join(format!("lister-{test}-{}", std::process::id()));
@@ -149,10 +163,42 @@ fn a_file_past_its_limit_is_refused_and_not_cut_short() {
     let two = refused("refused 2 at 0 0\n");
     assert_eq!(room.list((records.clone(), names.clone())), two);
     names.pop();
-    records.extend([0; RECORD_BYTES]);
+    // one byte too long, and so by one byte no whole number of records
+    records.push(0);
+    assert_eq!(room.list((records.clone(), names.clone())), two);
+    records.extend([0; RECORD_BYTES - 1]);
     assert_eq!(room.list((records.clone(), names.clone())), two);
     records.resize(1_000_000, 0);
     assert_eq!(room.list((records, names)), two);
+}
+
+/// A tree whose listing has this many bytes.
+fn listed_in(bytes: usize) -> (Vec<u8>, Vec<u8>) {
+    let leaves = |ids: Range<i32>| ids.map(|id| prim(id, &format!("{id}"))).collect::<Vec<Node>>();
+    let mut tree = [vec![strukt(0, "s", leaves(200..900))], leaves(100..200)].concat();
+    let missing = |tree: &[Node]| bytes - judged(&packed(tree)).written.len();
+    // the struct's name is written with each of its leaves too, that of a leaf once
+    let longer = missing(&tree) / 701;
+    tree[0].name.extend(vec![b's'; longer]);
+    let mut left = missing(&tree);
+    for leaf in &mut tree[1..] {
+        let longer = left.min(200);
+        leaf.name.extend(vec![b'x'; longer]);
+        left -= longer;
+    }
+    packed(&tree)
+}
+
+#[test]
+fn a_listing_is_written_whole_around_each_end_of_the_buffer() {
+    let Some(room) = Room::new("buffer") else { return };
+    let buffer = 65_536;
+    for bytes in [buffer - 1, buffer, buffer + 1, 2 * buffer - 1, 2 * buffer, 2 * buffer + 1] {
+        let files = listed_in(bytes);
+        let left = room.list(files.clone());
+        assert_eq!(left.written.len(), bytes);
+        assert!(left == judged(&files), "{bytes} bytes that differ");
+    }
 }
 
 #[test]
@@ -178,6 +224,20 @@ fn a_file_that_cant_be_read_is_named_and_nothing_is_listed() {
     assert_eq!(room.run(&[]), said("tree.names: No such file or directory\n"));
     assert_eq!(room.run(&["tree.rec", "."]), said(".: Is a directory\n"));
     assert_eq!(room.run(&["tree.rec"]), said("usage: lister [RECORDS NAMES]\n"));
+}
+
+#[test]
+fn help_is_given_with_an_example_that_runs() {
+    let Some(room) = Room::new("help") else { return };
+    let help = room.run(&["--help"]);
+    assert_eq!((help.status, help.said.as_str()), (0, ""));
+    let help = String::from_utf8(help.written).expect("text");
+    assert!(help.contains("Usage: tools/lister [RECORDS NAMES]\n"), "{help}");
+    let (_, example) = help.split_once("Example:\n").expect("an example");
+    let mut shell = Command::new("sh");
+    let left = shell.args(["-ec", example]).current_dir(root()).output().expect("a shell");
+    let names = "node\nnode.button\nnode.cost\nvisits\n";
+    assert!(left.status.success() && left.stdout.starts_with(names.as_bytes()), "{example}");
 }
 
 #[test]
