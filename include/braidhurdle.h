@@ -2,7 +2,8 @@
  *
  * This header is the manual of the C boundary. Every function is a thin layer over a proved library: what it says here of
  * sizes, of what is written and of what a refusal leaves is proved of the Rattle source (docs/PROMISES.md). What is not proved
- * is this declaration itself: keep it as it is. examples/c/calls.c calls every function; docs/GUIDE.md says how to link.
+ * is this declaration itself: keep it as it is. examples/c/calls.c calls every function; examples/c/revise.c takes a tree in files
+ * through a board revision; docs/USING.md says how to link.
  *
  * Calls. No function has a state, allocates, or keeps a pointer: each may be called from any thread at any time. No call needs a
  * check first: any bytes at all get an answer. Each list is a pointer and a length in BYTES, and its pointer needs no alignment.
@@ -20,6 +21,8 @@
  *   0-3 id, signed            9  kind: 0 primitive, 1 struct, 2 list, 3 map     12-13 direct children
  *   4-7 name offset           10 bit 0 required, bit 1 has an initial default   16-19 type code, 0 unless primitive
  *   8   name length           11 is 0                                          20-23 attribute number (14-15 are 0)
+ * Type codes are the host's own numbers: the library keeps them and looks at none. In all examples 1 is boolean, 2 int, 3 long,
+ * 4 date, 5 float, 6 double, 7 timestamp, 8 timestamp_ns and 9 string.
  * A path entry is 8 bytes: offset (4), length (2), has-path (1), then 0 (1). has-path is 1; or 0, with offset and length 0, for
  * an addition at the root. A list of ids is 4 bytes an id.
  *
@@ -30,18 +33,8 @@
  * acceptance the answer stands at the start of each buffer, and bytes beyond it are unchanged. On a refusal no byte of any
  * buffer is changed.
  *
- * Refusals have a number (1 to 20), a list (0 base, 1 additions tree, 2 deletions, 3 additions, 4 rebuilt tree, 5 identifiers)
- * and a place in it:
- *    1 an output buffer is below its size           11 a deletion finds no column
- *    2 a limit is passed, or a list is not whole     12 a deletion finds an identifier
- *    3 a byte rule of a record or entry is broken    13 the added column's own name has a dot
- *    4 a name or path lies outside its pool          14 the added column is required, without initial default
- *    5 level 17, or counts past the end              15 the parent path finds nothing
- *    6 an element, key or value is named otherwise   16 the parent leads to no struct
- *    7 an id equals an earlier one                   17 the name is taken
- *    8 a full name equals an earlier one             18 an id would pass 2,147,483,647
- *    9 an identifier id is not in the tree           19 the rebuilt tree passes a limit on trees
- *   10 roots of the additions tree differ            20 pruning meets a list or map chosen directly, not in full mode
+ * Refusals have a number, a list and a place in it. BRAIDHURDLE_REFUSALS and BRAIDHURDLE_LISTS below have the numbers and their
+ * meaning. The place is a slot of a tree, or a place in a list of entries or ids, counted from 0.
  */
 #ifndef BRAIDHURDLE_H
 #define BRAIDHURDLE_H
@@ -54,6 +47,46 @@
 /* The least output buffers, in bytes. */
 #define BRAIDHURDLE_RECORD_ROOM 24576
 #define BRAIDHURDLE_NAME_ROOM 32768
+
+/* Every refusal: X(number, name, what it says). Later versions may have more of them. */
+#define BRAIDHURDLE_REFUSALS(X) \
+    X(1, SMALL_BUFFER, "an output buffer is below its size") \
+    X(2, PAST_LIMIT, "a limit on an input count, length or name sum is passed, or a list is no whole number of records") \
+    X(3, BROKEN_BYTE, "a byte rule of a record or entry is broken") \
+    X(4, OUTSIDE_POOL, "a name or path has offset + length above its pool's length") \
+    X(5, BAD_SHAPE, "level 17 is reached, or counts need records past the end") \
+    X(6, BAD_LABEL, "an element, key or value is named otherwise") \
+    X(7, ID_TWICE, "an id equals an earlier one") \
+    X(8, NAME_TWICE, "a full name equals an earlier one") \
+    X(9, UNKNOWN_IDENTIFIER, "an identifier id is not in the tree") \
+    X(10, UNMATCHED_ROOTS, "roots of the additions tree differ from additions") \
+    X(11, NO_SUCH_COLUMN, "a deletion finds no column") \
+    X(12, DROPS_IDENTIFIER, "a deletion finds an identifier") \
+    X(13, DOTTED_NAME, "the added column's own name has a dot") \
+    X(14, NO_DEFAULT, "the added column is required, without initial default") \
+    X(15, NO_SUCH_PARENT, "the parent path finds nothing") \
+    X(16, NO_STRUCT, "the parent leads to no struct") \
+    X(17, NAME_TAKEN, "the name is taken") \
+    X(18, NO_IDS_LEFT, "an id would pass 2,147,483,647") \
+    X(19, REBUILT_PAST_LIMIT, "the rebuilt tree passes a limit on trees (records, levels or name sum)") \
+    X(20, LIST_OR_MAP_CHOSEN, "pruning meets a list or map chosen directly, not in full mode")
+
+/* Every list that a refusal may speak of: X(number, name, what it is). Later versions may have more of them. */
+#define BRAIDHURDLE_LISTS(X) \
+    X(0, BASE, "base") \
+    X(1, ADDITIONS_TREE, "additions tree") \
+    X(2, DELETIONS, "deletions") \
+    X(3, ADDITIONS, "additions") \
+    X(4, REBUILT_TREE, "rebuilt tree") \
+    X(5, IDENTIFIERS, "identifiers")
+
+/* The values of `refusal`: BRAIDHURDLE_ACCEPTED, BRAIDHURDLE_SMALL_BUFFER, .. */
+#define BRAIDHURDLE_REFUSAL(number, name, says) BRAIDHURDLE_##name = number,
+enum braidhurdle_refusal { BRAIDHURDLE_ACCEPTED = 0, BRAIDHURDLE_REFUSALS(BRAIDHURDLE_REFUSAL) };
+
+/* The values of `list`: BRAIDHURDLE_LIST_BASE, .. */
+#define BRAIDHURDLE_LIST(number, name, what) BRAIDHURDLE_LIST_##name = number,
+enum braidhurdle_list { BRAIDHURDLE_LISTS(BRAIDHURDLE_LIST) };
 
 #ifdef __cplusplus
 extern "C" {

@@ -1,13 +1,15 @@
-//! A gateway's table through one board revision: built, changed, read by name, cut to what a reader
-//! asked for, and refused. docs/GUIDE.md has the steps to a project of your own.
+//! A gateway's table through one board revision: built, changed, stored, read by name, cut to what a
+//! reader asked for, and refused. docs/USING.md has the steps to a project of your own.
 
 use std::error::Error;
+use std::{env, fs, process};
 
-use braidhurdle::{Field, FieldId, Mode, Request, Tree, Updated};
+use braidhurdle::files::{Over, Stored};
+use braidhurdle::{Field, FieldId, Mode, RefusalKind, Request, Tree, Updated};
 
-/// Type codes are the host's own; the library keeps them and looks at none.
-const INT: u32 = 1;
-const DATE: u32 = 2;
+/// Type codes are the host's own, here those of all examples; the library looks at none.
+const INT: u32 = 2;
+const DATE: u32 = 4;
 
 fn main() -> Result<(), Box<dyn Error>> {
     let (tree, last_id) = first()?;
@@ -18,27 +20,44 @@ fn main() -> Result<(), Box<dyn Error>> {
         .identifiers(&[FieldId(1)])
         .drop("floor")?
         .add_under("visits", Field::primitive("fault", INT))?;
-    let Updated { tree, last_id } = tree.update(&request)?;
-    print("after the update", &tree)?;
+    let updated = tree.update(&request)?;
+    print("after the update", &updated.tree)?;
 
-    // The bytes and the last id are what to store. Bytes that come back need no check first.
-    let stored = (tree.records, tree.pool, last_id);
-    let (tree, last_id) = (Tree::new(stored.0, stored.1), stored.2);
+    // The next update needs the tree and its last id. What was stored needs no check first.
+    let (tree, last_id) = stored_and_read(updated)?;
 
     // Look up by name, then keep that column and what stands above it.
-    let (fault, slot) = tree.find_name("visits.fault")?.ok_or("no such column")?;
-    println!("visits.fault is column {fault}, today at slot {slot}");
-    print("cut to it", &tree.prune(&[fault], Mode::Plain)?)?;
+    let fault = tree
+        .column_by_name("visits.fault")?
+        .ok_or("no such column")?;
+    println!(
+        "visits.fault is column {}, today at slot {}",
+        fault.id, fault.slot
+    );
+    print("cut to it", &tree.prune(&[fault.id], Mode::Plain)?)?;
 
     // A request that can't be done says why; the tree is as it was.
     let again = Request::new(last_id).drop("floor")?;
-    match tree.update(&again) {
-        Ok(_) => Err("a column can't be dropped twice".into()),
-        Err(refusal) => {
-            println!("{refusal}");
-            Ok(())
-        }
+    let Err(refusal) = tree.update(&again) else {
+        return Err("a column can't be dropped twice".into());
+    };
+    match refusal.kind() {
+        Some(RefusalKind::NoSuchColumn) => println!("{refusal}"),
+        _ => return Err(refusal.into()),
     }
+    Ok(())
+}
+
+/// Puts a tree and its last id into files, all of them or none, and reads them again.
+fn stored_and_read(updated: Updated) -> Result<(Tree, FieldId), Box<dyn Error>> {
+    let folder = env::temp_dir().join(format!("gateway-{}", process::id()));
+    fs::create_dir_all(&folder)?;
+    let stem = folder.join("board-2");
+    Stored::from(updated).write(&stem, Over::Nothing)?;
+    let stored = Stored::read(&stem);
+    fs::remove_dir_all(&folder)?;
+    let Stored { tree, last_id } = stored?;
+    Ok((tree, last_id.ok_or("no last id was stored")?))
 }
 
 /// A first schema, with ids of our own, and its last id.

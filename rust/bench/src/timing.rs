@@ -68,15 +68,7 @@ impl Room {
         let (base, pool) = (&case.records[..], &case.pool[..]);
         let (r, n, i) = (&mut self.records[..], &mut self.names[..], &mut self.identifiers[..]);
         Some(match &case.ask {
-            Ask::Update {
-                identifiers,
-                last_id,
-                deletions: d,
-                additions: a,
-                added_records: t,
-                request_pool: q,
-                ..
-            } => by.update(base, pool, identifiers, *last_id, d, a, t, q, r, n).refusal,
+            Ask::Update { .. } => by.update(&case.update_call()?, r, n).refusal,
             Ask::Prune { selected, full, .. } => {
                 by.prune(base, pool, selected, *full, r, n).refusal
             }

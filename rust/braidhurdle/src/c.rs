@@ -1,6 +1,6 @@
 //! The six C functions as they are: slices in, six numbers out, nothing allocated and nothing
 //! kept. What a function writes and what a refusal leaves is told in `include/braidhurdle.h`.
-//! This is the one file with unsafe code.
+//! The unsafe code of the crate is here, but for the room that is made on the heap.
 //!
 //! The other modules are built on this one. Call it where the bytes come from elsewhere and the
 //! buffers are your own:
@@ -16,7 +16,7 @@
 
 /// The answer of update, prune and renumber. On a refusal the last three are 0.
 #[repr(C)]
-#[derive(Clone, Copy, Debug, Default, PartialEq, Eq)]
+#[derive(Clone, Copy, Debug, Default, PartialEq, Eq, Hash)]
 pub struct Changed {
     /// 0 where accepted, else 01's number.
     pub refusal: u32,
@@ -34,7 +34,7 @@ pub struct Changed {
 
 /// The answer of a look-up. Where nothing is found, or on a refusal, id and slot are 0.
 #[repr(C)]
-#[derive(Clone, Copy, Debug, Default, PartialEq, Eq)]
+#[derive(Clone, Copy, Debug, Default, PartialEq, Eq, Hash)]
 pub struct Found {
     /// 0 where the tree was accepted, else 01's number.
     pub refusal: u32,
@@ -60,6 +60,7 @@ macro_rules! function {
         ) -> $answer:ty
     ) => {
         $(#[$doc])*
+        #[must_use]
         #[allow(clippy::too_many_arguments)] // the C function's own
         pub fn $name(
             $($list: &[u8],)* $($number: $type,)? $($more: &[u8],)* $($out: &mut [u8],)*

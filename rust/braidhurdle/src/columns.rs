@@ -35,8 +35,15 @@ pub struct Column<'a> {
     names: [&'a [u8]; MOST_LEVELS],
 }
 
-impl Column<'_> {
+impl<'a> Column<'a> {
+    /// Its own name as text; none where it is not UTF-8.
+    #[must_use]
+    pub fn name_str(&self) -> Option<&'a str> {
+        core::str::from_utf8(self.name).ok()
+    }
+
     /// The names from its root down to it, joined by dots.
+    #[must_use]
     pub fn full_name(&self) -> Vec<u8> {
         self.names[..self.level].join(&b'.')
     }
@@ -44,6 +51,7 @@ impl Column<'_> {
 
 /// The columns of an accepted tree, in slot order.
 #[derive(Clone, Debug)]
+#[must_use]
 pub struct Columns<'a> {
     tree: TreeRef<'a>,
     next: usize,
@@ -54,29 +62,59 @@ pub struct Columns<'a> {
 }
 
 impl Tree {
-    /// The columns in slot order, or why the tree is refused.
+    /// The columns in slot order.
     ///
     /// ```
     /// # use braidhurdle::{Field, FieldId, Tree};
     /// let day = Field::primitive("day", 4).id(FieldId(2));
     /// let tree = Tree::build(&[Field::structure("visit", [day]).id(FieldId(1))])?;
     /// let columns: Vec<_> = tree.columns()?.collect();
-    /// assert_eq!(columns[1].name, b"day");
+    /// assert_eq!(columns[1].name_str(), Some("day"));
     /// assert_eq!(columns[1].full_name(), b"visit.day");
     /// assert_eq!(columns[1].parent, Some((FieldId(1), columns[0].slot)));
     /// # Ok::<(), Box<dyn std::error::Error>>(())
     /// ```
+    ///
+    /// # Errors
+    ///
+    /// Refusals 2 to 8.
     pub fn columns(&self) -> Result<Columns<'_>, Refusal> {
         self.lent().columns()
     }
 
-    /// The column at a slot, or why the tree is refused. A slot behind the last has none.
+    /// The column at a slot. A slot behind the last has none.
+    ///
+    /// # Errors
+    ///
+    /// Refusals 2 to 8.
     pub fn column(&self, slot: Slot) -> Result<Option<Column<'_>>, Refusal> {
-        Ok(self.columns()?.nth(slot.0 as usize))
+        self.lent().column(slot)
     }
 
-    /// The roots with all that is inside them, as [`Tree::build`] takes them, or why the tree is
-    /// refused.
+    /// The column of a full name, or else of a short name, as [`Tree::find_name`] finds it.
+    ///
+    /// ```
+    /// # use braidhurdle::{Field, FieldId, Kind, Tree};
+    /// # let day = Field::primitive("day", 4).id(FieldId(3));
+    /// # let element = Field::structure("element", [day]).id(FieldId(2));
+    /// # let tree = Tree::build(&[Field::list("visits", element).id(FieldId(1))])?;
+    /// let day = tree.column_by_name("visits.day")?.ok_or("no such column")?;
+    /// assert_eq!((day.id, day.kind, day.type_code), (FieldId(3), Kind::Primitive, 4));
+    /// # Ok::<(), Box<dyn std::error::Error>>(())
+    /// ```
+    ///
+    /// # Errors
+    ///
+    /// Refusals 2 to 8.
+    pub fn column_by_name(&self, name: impl AsRef<[u8]>) -> Result<Option<Column<'_>>, Refusal> {
+        self.lent().column_by_name(name)
+    }
+
+    /// The roots with all that is inside them, as [`Tree::build`] takes them.
+    ///
+    /// # Errors
+    ///
+    /// Refusals 2 to 8.
     pub fn fields(&self) -> Result<Vec<Field>, Refusal> {
         let columns: Vec<Column> = self.columns()?.collect();
         // from the last column on: when one is met, its children are the last that were made
@@ -100,11 +138,41 @@ impl Tree {
 }
 
 impl<'a> TreeRef<'a> {
-    /// The columns in slot order, or why the tree is refused.
+    /// The columns in slot order.
+    ///
+    /// # Errors
+    ///
+    /// Refusals 2 to 8.
     pub fn columns(self) -> Result<Columns<'a>, Refusal> {
         self.check()?;
+        Ok(Columns::of_accepted(self))
+    }
+
+    /// The column at a slot. A slot behind the last has none.
+    ///
+    /// # Errors
+    ///
+    /// Refusals 2 to 8.
+    pub fn column(self, slot: Slot) -> Result<Option<Column<'a>>, Refusal> {
+        Ok(self.columns()?.nth(slot.0 as usize))
+    }
+
+    /// The column of a full name, or else of a short name.
+    ///
+    /// # Errors
+    ///
+    /// Refusals 2 to 8.
+    pub fn column_by_name(self, name: impl AsRef<[u8]>) -> Result<Option<Column<'a>>, Refusal> {
+        let found = self.find_name(name)?;
+        Ok(found.and_then(|(_, slot)| Columns::of_accepted(self).nth(slot.0 as usize)))
+    }
+}
+
+impl<'a> Columns<'a> {
+    /// The columns of a tree that passed 2 to 8.
+    fn of_accepted(tree: TreeRef<'a>) -> Columns<'a> {
         let above = [(FieldId(0), Slot(0), 0); MOST_LEVELS];
-        Ok(Columns { tree: self, next: 0, above, names: [&[]; MOST_LEVELS], level: 0 })
+        Columns { tree, next: 0, above, names: [&[]; MOST_LEVELS], level: 0 }
     }
 }
 

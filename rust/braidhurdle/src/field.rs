@@ -56,49 +56,67 @@ impl Field {
     }
 
     /// An optional primitive of this type code, with id 0.
+    #[must_use]
     pub fn primitive(name: impl AsRef<[u8]>, type_code: u32) -> Field {
         Field::new(name, Kind::Primitive, type_code, vec![])
     }
 
     /// An optional struct of these members, with id 0.
+    #[must_use]
     pub fn structure(name: impl AsRef<[u8]>, members: impl IntoIterator<Item = Field>) -> Field {
         Field::new(name, Kind::Struct, 0, members.into_iter().collect())
     }
 
     /// An optional list, with id 0.
+    #[must_use]
     pub fn list(name: impl AsRef<[u8]>, element: Field) -> Field {
         Field::new(name, Kind::List, 0, vec![element])
     }
 
     /// An optional map, with id 0.
+    #[must_use]
     pub fn map(name: impl AsRef<[u8]>, key: Field, value: Field) -> Field {
         Field::new(name, Kind::Map, 0, vec![key, value])
     }
 
     /// The same column with this id.
+    #[must_use]
     pub fn id(self, id: FieldId) -> Field {
         Field { id, ..self }
     }
 
     /// The same column, required.
+    #[must_use]
     pub fn required(self) -> Field {
         Field { required: true, ..self }
     }
 
     /// The same column with an initial default.
+    #[must_use]
     pub fn default(self) -> Field {
         Field { default: true, ..self }
     }
 
     /// The same column with this attribute number.
+    #[must_use]
     pub fn attribute(self, attribute: u32) -> Field {
         Field { attribute, ..self }
+    }
+
+    /// The name as text; none where it is not UTF-8.
+    #[must_use]
+    pub fn name_str(&self) -> Option<&str> {
+        core::str::from_utf8(&self.name).ok()
     }
 }
 
 impl Tree {
     /// The tree of these roots, its names packed in record order. What passes a limit of 01 is
-    /// built all the same, and refused when it is used; what the layout can't hold is told here.
+    /// built all the same, and refused when it is used.
+    ///
+    /// # Errors
+    ///
+    /// What the layout can't hold.
     pub fn build(roots: &[Field]) -> Result<Tree, Overlong> {
         let mut tree = Tree::default();
         write(roots, &mut tree.records, &mut tree.pool)?;

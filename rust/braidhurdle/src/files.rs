@@ -110,7 +110,8 @@ impl Stored {
     ///
     /// Each file is first written whole beside its place. Old files are moved aside, and the new
     /// ones put in place, the last id behind the tree. So at no moment do old and new files stand
-    /// together; after a failure the old ones stand again.
+    /// together; after a failure the old ones stand again. Where the process ends in between, the
+    /// old ones stand beside, as `.STEM.rec.PID.old` and so on.
     ///
     /// # Errors
     ///
@@ -261,7 +262,7 @@ fn front(file: &Path, most: usize) -> Result<Vec<u8>, FileFault> {
 
 /// The last id of a file's bytes. The newline is its end: without it digits may be missing.
 fn last_id(bytes: &[u8]) -> Option<FieldId> {
-    str::from_utf8(bytes).ok()?.strip_suffix('\n')?.parse().ok().map(FieldId)
+    core::str::from_utf8(bytes).ok()?.strip_suffix('\n')?.parse().ok()
 }
 
 /// Does a stem end with a name, so that its files do too?

@@ -38,6 +38,7 @@ pub enum Kind {
 
 impl Kind {
     /// The kind's number in a record.
+    #[must_use]
     pub fn number(self) -> u8 {
         match self {
             Kind::Primitive => 0,
@@ -48,10 +49,31 @@ impl Kind {
     }
 
     /// The kind of a number.
+    #[must_use]
     pub fn from_number(number: u8) -> Option<Kind> {
         [Kind::Primitive, Kind::Struct, Kind::List, Kind::Map].get(usize::from(number)).copied()
     }
 }
+
+impl TryFrom<u8> for Kind {
+    type Error = NoKind;
+
+    fn try_from(number: u8) -> Result<Kind, NoKind> {
+        Kind::from_number(number).ok_or(NoKind(number))
+    }
+}
+
+/// A number that is no kind's.
+#[derive(Clone, Copy, Debug, PartialEq, Eq, PartialOrd, Ord, Hash)]
+pub struct NoKind(pub u8);
+
+impl fmt::Display for NoKind {
+    fn fmt(&self, f: &mut fmt::Formatter<'_>) -> fmt::Result {
+        write!(f, "{} is no kind, which is a number from 0 to 3", self.0)
+    }
+}
+
+impl core::error::Error for NoKind {}
 
 impl fmt::Display for Kind {
     fn fmt(&self, f: &mut fmt::Formatter<'_>) -> fmt::Result {
@@ -65,7 +87,7 @@ impl fmt::Display for Kind {
 }
 
 /// A record's fields, as its 24 bytes have them, whatever they hold.
-#[derive(Clone, Copy, Debug, PartialEq, Eq)]
+#[derive(Clone, Copy, Debug, PartialEq, Eq, Hash)]
 pub struct Record {
     /// Bytes 0-3.
     pub id: FieldId,
@@ -92,6 +114,7 @@ pub(crate) const DEFAULT: u8 = 2;
 
 impl Record {
     /// The record of 24 bytes; the bytes that must be 0 are not looked at.
+    #[must_use]
     pub fn read(b: &[u8; RECORD_BYTES]) -> Record {
         let word = |at: usize| u32::from_le_bytes([b[at], b[at + 1], b[at + 2], b[at + 3]]);
         Record {
@@ -107,6 +130,7 @@ impl Record {
     }
 
     /// The part of a pool that holds its name; none where that lies outside.
+    #[must_use]
     pub fn name(self, pool: &[u8]) -> Option<&[u8]> {
         let start = usize::try_from(self.offset).ok()?;
         pool.get(start..start.checked_add(self.length.into())?)

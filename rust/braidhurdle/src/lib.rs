@@ -13,11 +13,13 @@
 //! ```
 //! use braidhurdle::{Field, FieldId, Request, Tree, Updated};
 //!
-//! // A schema of two columns; the second has one inside. The type codes are your own.
+//! // A schema of two columns; the second has one inside. The type codes are your own; in all
+//! // examples 1 is boolean, 2 int, 3 long, 4 date, 5 float, 6 double, 7 timestamp,
+//! // 8 timestamp_ns and 9 string.
 //! let day = Field::primitive("day", 4).id(FieldId(3));
 //! let element = Field::structure("element", [day]).id(FieldId(4));
 //! let tree = Tree::build(&[
-//!     Field::primitive("button", 1).id(FieldId(1)).required(),
+//!     Field::primitive("button", 2).id(FieldId(1)).required(),
 //!     Field::list("visits", element).id(FieldId(2)),
 //! ])?;
 //!
@@ -26,7 +28,7 @@
 //! let request = Request::new(FieldId(4))
 //!     .drop("visits.day")?
 //!     .add_under("visits", Field::primitive("day", 9))?
-//!     .add(Field::primitive("floor", 4))?;
+//!     .add(Field::primitive("floor", 2))?;
 //! let Updated { tree, last_id } = tree.update(&request)?;
 //! assert_eq!(last_id, FieldId(6));
 //!
@@ -39,27 +41,28 @@
 //! # Read one
 //!
 //! Store and send [`Tree::records`] and [`Tree::pool`] as they are. Bytes from elsewhere need no
-//! check: [`Tree::new`] takes any, and whatever is asked of them tests them first.
+//! check: [`Tree::new`] takes any, and whatever is asked of them tests them first. The module
+//! `files` keeps a tree and its last id as files.
 //!
 //! ```
 //! # use braidhurdle::{Field, FieldId};
-//! use braidhurdle::{Mode, Refusal, Tree};
+//! use braidhurdle::{Mode, Refusal, RefusalKind, Tree};
 //!
-//! fn print(tree: &Tree) -> Result<(), Refusal> {
-//!     for column in tree.columns()? {
-//!         let name = String::from_utf8_lossy(column.name);
-//!         println!("{}{} {name}", "  ".repeat(column.level - 1), column.id);
-//!     }
-//!     Ok(())
-//! }
+//! let day = Field::primitive("day", 4).id(FieldId(2));
+//! let mut tree = Tree::build(&[Field::structure("visit", [day]).id(FieldId(1))])?;
 //!
-//! let mut tree = Tree::build(&[Field::primitive("a", 4).id(FieldId(1))])?;
-//! print(&tree)?;
+//! // For people, a tree is its picture. Programs read it column by column.
+//! assert_eq!(tree.to_string(), "1 visit: struct\n  2 day: primitive 4\n");
+//! let codes: Vec<u32> = tree.columns()?.map(|column| column.type_code).collect();
+//! assert_eq!(codes, [0, 4]);
+//! let day = tree.column_by_name("visit.day")?.ok_or("no such column")?;
+//! assert_eq!((day.id, day.name_str()), (FieldId(2), Some("day")));
 //!
 //! // A name that lies outside its pool is refused: 4, in the base, at slot 0.
 //! tree.pool.clear();
 //! let refusal = tree.prune(&[FieldId(1)], Mode::Full).unwrap_err();
 //! assert_eq!(refusal, Refusal { number: 4, list: 0, place: 0 });
+//! assert_eq!(refusal.kind(), Some(RefusalKind::OutsidePool));
 //! # Ok::<(), Box<dyn std::error::Error>>(())
 //! ```
 //!
@@ -88,10 +91,12 @@
 //!
 //! The build takes `libbraidhurdle.a` from the folder that the variable `BRAIDHURDLE_ARCHIVE`
 //! names; else from `target/staticlib` of the checkout that this crate stands in; else it has the
-//! toolchain make it there, which proves the library first and takes minutes. `docs/GUIDE.md` has
+//! toolchain make it there, which proves the library first and takes minutes. `docs/USING.md` has
 //! the steps.
 #![no_std]
 #![deny(missing_docs)]
+#![deny(missing_debug_implementations)]
+#![deny(clippy::missing_errors_doc, clippy::must_use_candidate, clippy::return_self_not_must_use)]
 #![deny(unsafe_code)]
 #![deny(unsafe_op_in_unsafe_fn)]
 
@@ -99,7 +104,7 @@ extern crate alloc;
 #[cfg(feature = "std")]
 extern crate std;
 
-#[allow(unsafe_code)] // the calls themselves; nowhere else
+#[allow(unsafe_code)] // the calls themselves
 pub mod c;
 mod columns;
 mod field;
@@ -116,9 +121,9 @@ mod tree;
 
 pub use columns::{Column, Columns};
 pub use field::{Field, Overlong};
-pub use layout::Kind;
+pub use layout::{Kind, NoKind};
 pub use numbers::{FieldId, Slot};
-pub use refusal::Refusal;
+pub use refusal::{Refusal, RefusalKind, RefusalList};
 pub use request::{Request, RequestRef};
 pub use room::Room;
 pub use tree::{Mode, Renumbered, Tree, TreeRef, Updated};

@@ -8,10 +8,12 @@ use crate::c;
 /// list at which the fault stands. Nothing was changed.
 ///
 /// ```
-/// use braidhurdle::{FieldId, Tree};
+/// use braidhurdle::{FieldId, RefusalKind, RefusalList, Tree};
 ///
 /// let refusal = Tree::new(vec![0; 23], vec![]).find_id(FieldId(1)).unwrap_err();
 /// assert_eq!((refusal.number, refusal.list, refusal.place), (2, 0, 0));
+/// assert_eq!(refusal.kind(), Some(RefusalKind::PastLimit));
+/// assert_eq!(refusal.in_list(), Some(RefusalList::Base));
 /// assert_eq!(
 ///     refusal.to_string(),
 ///     "refused 2 at 0 0: a limit on an input count, length or name sum is passed, or a list is \
@@ -20,53 +22,137 @@ use crate::c;
 /// ```
 #[derive(Clone, Copy, Debug, PartialEq, Eq, PartialOrd, Ord, Hash)]
 pub struct Refusal {
-    /// 1 to 20.
+    /// 01's number: [`RefusalKind`] has them all.
     pub number: u32,
-    /// 0 base, 1 additions tree, 2 deletions, 3 additions, 4 rebuilt tree, 5 identifiers.
+    /// The list's number: [`RefusalList`] has them all.
     pub list: u32,
     /// A slot in a tree, or a place in a list of entries or ids, counted from 0.
     pub place: u32,
 }
 
-/// 01's words, by number from 1 on.
-const MEANINGS: [&str; 20] = [
-    "an output buffer is below its size",
-    "a limit on an input count, length or name sum is passed, or a list is no whole number of \
-     records",
-    "a byte rule of a record or entry is broken",
-    "a name or path has offset + length above its pool's length",
-    "level 17 is reached, or counts need records past the end",
-    "an element, key or value is named otherwise",
-    "an id equals an earlier one",
-    "a full name equals an earlier one",
-    "an identifier id is not in the tree",
-    "roots of the additions tree differ from additions",
-    "a deletion finds no column",
-    "a deletion finds an identifier",
-    "the added column's own name has a dot",
-    "the added column is required, without initial default",
-    "the parent path finds nothing",
-    "the parent leads to no struct",
-    "the name is taken",
-    "an id would pass 2,147,483,647",
-    "the rebuilt tree passes a limit on trees (records, levels or name sum)",
-    "pruning meets a list or map chosen directly, not in full mode",
-];
+/// An enum of numbers, each with 01's words.
+macro_rules! numbered {
+    (
+        $(#[$doc:meta])*
+        $name:ident { $($variant:ident = $number:literal: $words:literal,)+ }
+    ) => {
+        $(#[$doc])*
+        #[derive(Clone, Copy, Debug, PartialEq, Eq, PartialOrd, Ord, Hash)]
+        #[non_exhaustive]
+        pub enum $name {
+            $(#[doc = concat!($number, ": ", $words, ".")] $variant = $number,)+
+        }
 
-/// 01's lists, by number from 0 on.
-const LISTS: [&str; 6] =
-    ["base", "additions tree", "deletions", "additions", "rebuilt tree", "identifiers"];
+        impl $name {
+            /// All of them, by number.
+            pub const ALL: &'static [$name] = &[$($name::$variant,)+];
+
+            /// 01's number.
+            #[must_use]
+            pub fn number(self) -> u32 {
+                self as u32
+            }
+
+            /// The one of a number; none where 01 does not have it.
+            #[must_use]
+            pub fn from_number(number: u32) -> Option<$name> {
+                match number {
+                    $($number => Some($name::$variant),)+
+                    _ => None,
+                }
+            }
+
+            /// 01's words.
+            #[must_use]
+            pub fn words(self) -> &'static str {
+                match self {
+                    $($name::$variant => $words,)+
+                }
+            }
+        }
+
+        impl fmt::Display for $name {
+            fn fmt(&self, f: &mut fmt::Formatter<'_>) -> fmt::Result {
+                f.pad(self.words())
+            }
+        }
+    };
+}
+
+numbered! {
+    /// What a refusal says. Later versions may have more of them.
+    ///
+    /// ```
+    /// use braidhurdle::{FieldId, RefusalKind, Request, Tree};
+    ///
+    /// let request = Request::new(FieldId(0)).drop("floor")?;
+    /// match Tree::default().update(&request).map_err(|refusal| refusal.kind()) {
+    ///     Err(Some(RefusalKind::NoSuchColumn)) => println!("it was dropped before"),
+    ///     other => panic!("{other:?}"),
+    /// }
+    /// # Ok::<(), braidhurdle::Overlong>(())
+    /// ```
+    RefusalKind {
+        SmallBuffer = 1: "an output buffer is below its size",
+        PastLimit = 2: "a limit on an input count, length or name sum is passed, or a list is no \
+            whole number of records",
+        BrokenByte = 3: "a byte rule of a record or entry is broken",
+        OutsidePool = 4: "a name or path has offset + length above its pool's length",
+        BadShape = 5: "level 17 is reached, or counts need records past the end",
+        BadLabel = 6: "an element, key or value is named otherwise",
+        IdTwice = 7: "an id equals an earlier one",
+        NameTwice = 8: "a full name equals an earlier one",
+        UnknownIdentifier = 9: "an identifier id is not in the tree",
+        UnmatchedRoots = 10: "roots of the additions tree differ from additions",
+        NoSuchColumn = 11: "a deletion finds no column",
+        DropsIdentifier = 12: "a deletion finds an identifier",
+        DottedName = 13: "the added column's own name has a dot",
+        NoDefault = 14: "the added column is required, without initial default",
+        NoSuchParent = 15: "the parent path finds nothing",
+        NoStruct = 16: "the parent leads to no struct",
+        NameTaken = 17: "the name is taken",
+        NoIdsLeft = 18: "an id would pass 2,147,483,647",
+        RebuiltPastLimit = 19: "the rebuilt tree passes a limit on trees (records, levels or name \
+            sum)",
+        ListOrMapChosen = 20: "pruning meets a list or map chosen directly, not in full mode",
+    }
+}
+
+numbered! {
+    /// The list that a refusal speaks of. Later versions may have more of them.
+    RefusalList {
+        Base = 0: "base",
+        AdditionsTree = 1: "additions tree",
+        Deletions = 2: "deletions",
+        Additions = 3: "additions",
+        RebuiltTree = 4: "rebuilt tree",
+        Identifiers = 5: "identifiers",
+    }
+}
 
 impl Refusal {
+    /// What the number says; none where 01 does not have it.
+    #[must_use]
+    pub fn kind(self) -> Option<RefusalKind> {
+        RefusalKind::from_number(self.number)
+    }
+
+    /// The list; none where 01 does not have it.
+    #[must_use]
+    pub fn in_list(self) -> Option<RefusalList> {
+        RefusalList::from_number(self.list)
+    }
+
     /// What the number says, in 01's words.
+    #[must_use]
     pub fn meaning(self) -> &'static str {
-        let at = self.number.wrapping_sub(1) as usize;
-        MEANINGS.get(at).copied().unwrap_or("a number that 01 does not have")
+        self.kind().map_or("a number that 01 does not have", RefusalKind::words)
     }
 
     /// The list's name, in 01's words.
+    #[must_use]
     pub fn list_name(self) -> &'static str {
-        LISTS.get(self.list as usize).copied().unwrap_or("a list that 01 does not have")
+        self.in_list().map_or("a list that 01 does not have", RefusalList::words)
     }
 
     fn none_or(number: u32, list: u32, place: u32) -> Result<(), Refusal> {
@@ -86,14 +172,22 @@ impl fmt::Display for Refusal {
 impl core::error::Error for Refusal {}
 
 impl c::Changed {
-    /// The numbers of an accepted answer, or why it was refused.
+    /// The numbers of an accepted answer.
+    ///
+    /// # Errors
+    ///
+    /// Why it was refused.
     pub fn accepted(self) -> Result<c::Changed, Refusal> {
         Refusal::none_or(self.refusal, self.list, self.place).map(|()| self)
     }
 }
 
 impl c::Found {
-    /// The numbers of a look-up in an accepted tree, or why it was refused.
+    /// The numbers of a look-up in an accepted tree.
+    ///
+    /// # Errors
+    ///
+    /// Why it was refused.
     pub fn accepted(self) -> Result<c::Found, Refusal> {
         Refusal::none_or(self.refusal, self.list, self.place).map(|()| self)
     }

@@ -7,15 +7,16 @@ use crate::layout::entry;
 use crate::{Field, FieldId, Overlong};
 
 /// What an update is asked to do: the columns to drop and to add, in this order, the last id that
-/// was handed out, and the ids of the identifier fields.
+/// was handed out, and the ids of the identifier fields. Later versions may have more to ask for;
+/// what is not named has a default.
 ///
 /// ```
 /// use braidhurdle::{Field, FieldId, Request};
 ///
 /// let request = Request::new(FieldId(10))
 ///     .drop("node.cost")?
-///     .add_under("node", Field::primitive("cost", 4))?
-///     .add(Field::primitive("floor", 4))?
+///     .add_under("node", Field::primitive("cost", 3))?
+///     .add(Field::primitive("floor", 2))?
 ///     .identifiers(&[FieldId(1)]);
 /// # Ok::<(), braidhurdle::Overlong>(())
 /// ```
@@ -55,11 +56,16 @@ pub struct RequestRef<'a> {
 
 impl Request {
     /// A request that asks for nothing yet. Ids will be handed out from `last_id` + 1.
+    #[must_use]
     pub fn new(last_id: FieldId) -> Request {
         Request { last_id, ..Request::default() }
     }
 
     /// Also drops the column of this name, with all that is inside it.
+    ///
+    /// # Errors
+    ///
+    /// What the layout can't hold.
     pub fn drop(mut self, path: impl AsRef<[u8]>) -> Result<Request, Overlong> {
         let entry = path_entry(path.as_ref(), &mut self.pool)?;
         self.deletions.extend(entry);
@@ -67,6 +73,10 @@ impl Request {
     }
 
     /// Also adds this column at the root.
+    ///
+    /// # Errors
+    ///
+    /// What the layout can't hold.
     #[allow(clippy::should_implement_trait)] // 01's word; nothing is summed
     pub fn add(mut self, column: Field) -> Result<Request, Overlong> {
         write(&[column], &mut self.added_records, &mut self.pool)?;
@@ -75,6 +85,10 @@ impl Request {
     }
 
     /// Also adds this column under a struct, or under a list or map of structs.
+    ///
+    /// # Errors
+    ///
+    /// What the layout can't hold.
     pub fn add_under(
         mut self,
         parent: impl AsRef<[u8]>,
@@ -87,12 +101,14 @@ impl Request {
     }
 
     /// The same request with these identifier fields. They can't be dropped.
+    #[must_use]
     pub fn identifiers(mut self, ids: &[FieldId]) -> Request {
         self.identifiers = ids.iter().flat_map(|id| id.0.to_le_bytes()).collect();
         self
     }
 
     /// The same request, lent.
+    #[must_use]
     pub fn lent(&self) -> RequestRef<'_> {
         RequestRef {
             last_id: self.last_id,

@@ -56,16 +56,21 @@ pub enum Mode {
 
 impl Tree {
     /// The tree of these bytes.
+    #[must_use]
     pub fn new(records: Vec<u8>, pool: Vec<u8>) -> Tree {
         Tree { records, pool }
     }
 
     /// The same tree, lent.
+    #[must_use]
     pub fn lent(&self) -> TreeRef<'_> {
         TreeRef { records: &self.records, pool: &self.pool }
     }
 
     /// Drops and adds columns. New ones come behind those that stay, in the order of the request.
+    ///
+    /// # Errors
+    ///
     /// Refusals 2 to 19.
     pub fn update(&self, request: &Request) -> Result<Updated, Refusal> {
         let mut room = Room::boxed();
@@ -74,6 +79,9 @@ impl Tree {
     }
 
     /// Keeps the chosen columns and what stands above them. Ids that the tree has not are ignored.
+    ///
+    /// # Errors
+    ///
     /// Refusals 2 to 8 and 20.
     pub fn prune(&self, chosen: &[FieldId], mode: Mode) -> Result<Tree, Refusal> {
         let mut room = Room::boxed();
@@ -81,8 +89,11 @@ impl Tree {
     }
 
     /// Numbers every column anew from `start` on, and maps the identifiers in the order given. The
-    /// old ids then mean nothing: no data file that carries them fits the new tree. Refusals 2 to 9
-    /// and 18.
+    /// old ids then mean nothing: no data file that carries them fits the new tree.
+    ///
+    /// # Errors
+    ///
+    /// Refusals 2 to 9 and 18.
     pub fn renumber(&self, start: FieldId, identifiers: &[FieldId]) -> Result<Renumbered, Refusal> {
         let mut room = Room::boxed();
         let renumbered = self.lent().renumber_in(start, identifiers, &mut room)?;
@@ -94,22 +105,38 @@ impl Tree {
 
     /// The column of a full name, or else of a short name, which leaves out the structs that are a
     /// list's element or a map's value: `visits.day` finds `visits.element.day`. Any bytes are a
-    /// name. Refusals 2 to 8.
+    /// name.
+    ///
+    /// # Errors
+    ///
+    /// Refusals 2 to 8.
     pub fn find_name(&self, name: impl AsRef<[u8]>) -> Result<Option<(FieldId, Slot)>, Refusal> {
         self.lent().find_name(name)
     }
 
-    /// The slot of an id. Refusals 2 to 8.
+    /// The slot of an id.
+    ///
+    /// # Errors
+    ///
+    /// Refusals 2 to 8.
     pub fn find_id(&self, id: FieldId) -> Result<Option<Slot>, Refusal> {
         self.lent().find_id(id)
     }
 
-    /// The column above that of an id. A root and an unknown id have none. Refusals 2 to 8.
+    /// The column above that of an id. A root and an unknown id have none.
+    ///
+    /// # Errors
+    ///
+    /// Refusals 2 to 8.
     pub fn find_parent(&self, id: FieldId) -> Result<Option<(FieldId, Slot)>, Refusal> {
         self.lent().find_parent(id)
     }
 
-    /// Would the tree be accepted as a base? Refusals 2 to 8.
+    /// Would the tree be accepted as a base?
+    ///
+    /// # Errors
+    ///
+    /// Refusals 2 to 8.
     pub fn check(&self) -> Result<(), Refusal> {
         self.lent().check()
     }
@@ -117,16 +144,22 @@ impl Tree {
 
 impl<'a> TreeRef<'a> {
     /// The tree of these bytes.
+    #[must_use]
     pub fn new(records: &'a [u8], pool: &'a [u8]) -> TreeRef<'a> {
         TreeRef { records, pool }
     }
 
     /// A copy that owns its bytes.
+    #[must_use]
     pub fn to_tree(self) -> Tree {
         Tree::new(self.records.to_vec(), self.pool.to_vec())
     }
 
     /// Drops and adds columns; the answer stands in the room.
+    ///
+    /// # Errors
+    ///
+    /// Refusals 2 to 19.
     pub fn update_in<'r>(
         self,
         request: RequestRef<'_>,
@@ -149,6 +182,10 @@ impl<'a> TreeRef<'a> {
     }
 
     /// Keeps the chosen columns; the answer stands in the room.
+    ///
+    /// # Errors
+    ///
+    /// Refusals 2 to 8 and 20.
     pub fn prune_in<'r>(
         self,
         chosen: &[FieldId],
@@ -164,6 +201,10 @@ impl<'a> TreeRef<'a> {
     }
 
     /// Numbers every column anew from `start` on; the answer stands in the room.
+    ///
+    /// # Errors
+    ///
+    /// Refusals 2 to 9 and 18.
     pub fn renumber_in<'r>(
         self,
         start: FieldId,
@@ -187,22 +228,38 @@ impl<'a> TreeRef<'a> {
     }
 
     /// The column of a full name, or else of a short name.
+    ///
+    /// # Errors
+    ///
+    /// Refusals 2 to 8.
     pub fn find_name(self, name: impl AsRef<[u8]>) -> Result<Option<(FieldId, Slot)>, Refusal> {
         found(c::find_name(self.records, self.pool, name.as_ref()))
     }
 
     /// The slot of an id.
+    ///
+    /// # Errors
+    ///
+    /// Refusals 2 to 8.
     pub fn find_id(self, id: FieldId) -> Result<Option<Slot>, Refusal> {
         let found = found(c::find_id(self.records, self.pool, id.0))?;
         Ok(found.map(|(_, slot)| slot))
     }
 
     /// The column above that of an id. A root and an unknown id have none.
+    ///
+    /// # Errors
+    ///
+    /// Refusals 2 to 8.
     pub fn find_parent(self, id: FieldId) -> Result<Option<(FieldId, Slot)>, Refusal> {
         found(c::find_parent(self.records, self.pool, id.0))
     }
 
-    /// Would the tree be accepted as a base? Refusals 2 to 8.
+    /// Would the tree be accepted as a base?
+    ///
+    /// # Errors
+    ///
+    /// Refusals 2 to 8.
     pub fn check(self) -> Result<(), Refusal> {
         // every look-up tests 2 to 8 of the whole tree before it looks
         self.find_id(FieldId(0)).map(|_| ())

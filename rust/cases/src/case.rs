@@ -1,6 +1,6 @@
 //! A case, and what came of it.
 
-use judge::{Changed, Found, Refusal};
+use judge::{Changed, Found, Refusal, UpdateCall};
 
 /// What an operation is lent: a base, and what is asked of it.
 #[derive(Clone, Debug, PartialEq, Eq)]
@@ -8,6 +8,34 @@ pub struct Case {
     pub records: Vec<u8>,
     pub pool: Vec<u8>,
     pub ask: Ask,
+}
+
+impl Case {
+    /// What an update is lent; none for the other operations.
+    pub fn update_call(&self) -> Option<UpdateCall<'_>> {
+        match &self.ask {
+            Ask::Update {
+                identifiers,
+                last_id,
+                deletions,
+                additions,
+                added_records,
+                request_pool,
+                out_records: _,
+                out_names: _,
+            } => Some(UpdateCall {
+                records: &self.records,
+                pool: &self.pool,
+                identifiers,
+                last_id: *last_id,
+                deletions,
+                additions,
+                added_records,
+                request_pool,
+            }),
+            _ => None,
+        }
+    }
 }
 
 /// An operation with what it takes beside the base. `out_` fields are buffer sizes.
@@ -107,20 +135,7 @@ pub struct Outcome {
 
 /// Somebody who does the operations: the second judge, or the port.
 pub trait Operations {
-    #[allow(clippy::too_many_arguments)] // the C function's own list
-    fn update(
-        &self,
-        records: &[u8],
-        pool: &[u8],
-        identifiers: &[u8],
-        last_id: i32,
-        deletions: &[u8],
-        additions: &[u8],
-        added_records: &[u8],
-        request_pool: &[u8],
-        out_records: &mut [u8],
-        out_names: &mut [u8],
-    ) -> Changed;
+    fn update(&self, call: &UpdateCall, out_records: &mut [u8], out_names: &mut [u8]) -> Changed;
     fn prune(
         &self,
         records: &[u8],
@@ -150,31 +165,8 @@ pub trait Operations {
 pub struct ByJudge;
 
 impl Operations for ByJudge {
-    fn update(
-        &self,
-        records: &[u8],
-        pool: &[u8],
-        identifiers: &[u8],
-        last_id: i32,
-        deletions: &[u8],
-        additions: &[u8],
-        added_records: &[u8],
-        request_pool: &[u8],
-        out_records: &mut [u8],
-        out_names: &mut [u8],
-    ) -> Changed {
-        judge::update(
-            records,
-            pool,
-            identifiers,
-            last_id,
-            deletions,
-            additions,
-            added_records,
-            request_pool,
-            out_records,
-            out_names,
-        )
+    fn update(&self, call: &UpdateCall, out_records: &mut [u8], out_names: &mut [u8]) -> Changed {
+        judge::update(call, out_records, out_names)
     }
     fn prune(
         &self,
@@ -223,29 +215,9 @@ pub fn outcome(case: &Case, by: &impl Operations) -> Option<Outcome> {
     let (mut r, mut n, mut i) = (vec![], vec![], vec![]);
     let (records, pool) = (&case.records[..], &case.pool[..]);
     let numbers = match &case.ask {
-        Ask::Update {
-            identifiers,
-            last_id,
-            deletions,
-            additions,
-            added_records,
-            request_pool,
-            out_records,
-            out_names,
-        } => {
+        Ask::Update { out_records, out_names, .. } => {
             (r, n) = (filled(*out_records), filled(*out_names));
-            Numbers::Changed(by.update(
-                records,
-                pool,
-                identifiers,
-                *last_id,
-                deletions,
-                additions,
-                added_records,
-                request_pool,
-                &mut r,
-                &mut n,
-            ))
+            Numbers::Changed(by.update(&case.update_call()?, &mut r, &mut n))
         }
         Ask::Prune { selected, full, out_records, out_names } => {
             (r, n) = (filled(*out_records), filled(*out_names));

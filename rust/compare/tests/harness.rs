@@ -2,7 +2,7 @@
 
 use cases::{Ask, ByJudge, Generator, Operations, Sizes, named, outcome, read_line};
 use compare::{Run, iceberg, replay};
-use judge::{Changed, Found, RECORD_BYTES};
+use judge::{Changed, Found, RECORD_BYTES, UpdateCall};
 use port::{Guarded, beside_paper};
 
 /// The second judge with its answers changed a little.
@@ -12,21 +12,8 @@ struct Altered {
 }
 
 impl Operations for Altered {
-    fn update(
-        &self,
-        records: &[u8],
-        pool: &[u8],
-        identifiers: &[u8],
-        last_id: i32,
-        deletions: &[u8],
-        additions: &[u8],
-        added_records: &[u8],
-        request_pool: &[u8],
-        r: &mut [u8],
-        n: &mut [u8],
-    ) -> Changed {
-        let (d, a, t, q) = (deletions, additions, added_records, request_pool);
-        let answer = ByJudge.update(records, pool, identifiers, last_id, d, a, t, q, r, n);
+    fn update(&self, call: &UpdateCall, r: &mut [u8], n: &mut [u8]) -> Changed {
+        let answer = ByJudge.update(call, r, n);
         (self.changed)(answer, r, n)
     }
     fn prune(

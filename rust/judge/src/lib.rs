@@ -2,7 +2,8 @@
 //!
 //! It is written from 01's text alone. It is slow, it allocates, and it never calls the
 //! port. It answers every operation on any bytes. The functions take what the port's C
-//! functions take, in the same order, and give the same numbers.
+//! functions take, in the same order, and give the same numbers; what an update reads is one
+//! value, [`UpdateCall`].
 //!
 //! Each rule of 01 that turns a request down is one function, named after its number:
 //! search for `refusal 16`.
@@ -35,4 +36,4 @@ pub use prune::{Unwrap, prune, prune_where_rust_panics};
 pub use read::read_tree;
 pub use renumber::renumber;
 pub use tree::{Node, Row, Tree};
-pub use update::update;
+pub use update::{UpdateCall, update};

@@ -12,50 +12,60 @@ use crate::read::{read_paths, read_tree};
 use crate::tree::{Node, Tree};
 use crate::write::write;
 
+/// What an update is lent to read, in the order of the C function. Whoever passes an update on
+/// passes this value, so that an argument more is a field more here.
+#[derive(Clone, Copy, Debug, PartialEq, Eq)]
+pub struct UpdateCall<'a> {
+    pub records: &'a [u8],
+    pub pool: &'a [u8],
+    pub identifiers: &'a [u8],
+    pub last_id: i32,
+    pub deletions: &'a [u8],
+    pub additions: &'a [u8],
+    pub added_records: &'a [u8],
+    pub request_pool: &'a [u8],
+}
+
 /// The tree after the deletions and additions, and the last id consumed.
-#[allow(clippy::too_many_arguments)] // the C function's own list
-pub fn update(
-    records: &[u8],
-    pool: &[u8],
-    identifiers: &[u8],
-    last_id: i32,
-    deletions: &[u8],
-    additions: &[u8],
-    added_records: &[u8],
-    request_pool: &[u8],
-    out_records: &mut [u8],
-    out_names: &mut [u8],
-) -> Changed {
+pub fn update(call: &UpdateCall, out_records: &mut [u8], out_names: &mut [u8]) -> Changed {
     let sizes = [(out_records.len(), OUT_RECORDS), (out_names.len(), OUT_NAMES)];
-    let lent = Request {
-        records,
-        pool,
-        identifiers,
-        last_id,
-        deletions,
-        additions,
-        added_records,
-        request_pool,
-    };
-    match refusal_1(&sizes).and_then(|()| lent.updated()) {
+    match refusal_1(&sizes).and_then(|()| call.updated()) {
         Err(refusal) => refusal.into(),
         Ok((tree, last_id)) => write(&tree, last_id, out_records, out_names),
     }
 }
 
-/// What an update is lent.
-struct Request<'a> {
-    records: &'a [u8],
-    pool: &'a [u8],
-    identifiers: &'a [u8],
-    last_id: i32,
-    deletions: &'a [u8],
-    additions: &'a [u8],
-    added_records: &'a [u8],
-    request_pool: &'a [u8],
-}
+impl<'a> UpdateCall<'a> {
+    /// Its lists.
+    pub fn lists(&self) -> [&'a [u8]; 7] {
+        let UpdateCall {
+            records,
+            pool,
+            identifiers,
+            last_id: _,
+            deletions,
+            additions,
+            added_records,
+            request_pool,
+        } = *self;
+        [records, pool, identifiers, deletions, additions, added_records, request_pool]
+    }
 
-impl Request<'_> {
+    /// The same call with other lists.
+    pub fn with_lists<'b>(&self, lists: [&'b [u8]; 7]) -> UpdateCall<'b> {
+        let [records, pool, identifiers, deletions, additions, added_records, request_pool] = lists;
+        UpdateCall {
+            records,
+            pool,
+            identifiers,
+            last_id: self.last_id,
+            deletions,
+            additions,
+            added_records,
+            request_pool,
+        }
+    }
+
     /// The order of 01: 2 for everything; base 3 to 6; additions tree 3 to 6; deletion
     /// entries 3, 4; addition entries 3, 4; base 7 to 9; 10; deletions one at a time;
     /// additions one at a time; 19; rebuilt tree 7 to 9.

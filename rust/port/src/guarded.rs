@@ -4,7 +4,7 @@
 use std::cell::RefCell;
 
 use cases::Operations;
-use judge::{Changed, Found};
+use judge::{Changed, Found, UpdateCall};
 
 use crate::plain::Port;
 
@@ -83,23 +83,11 @@ impl<O: Operations> Guarded<O> {
 }
 
 impl<O: Operations> Operations for Guarded<O> {
-    fn update(
-        &self,
-        records: &[u8],
-        pool: &[u8],
-        identifiers: &[u8],
-        last_id: i32,
-        deletions: &[u8],
-        additions: &[u8],
-        added_records: &[u8],
-        request_pool: &[u8],
-        out_records: &mut [u8],
-        out_names: &mut [u8],
-    ) -> Changed {
-        let lent = [records, pool, identifiers, deletions, additions, added_records, request_pool];
-        self.fenced(&lent, &mut [out_records, out_names], |l, out| {
+    fn update(&self, call: &UpdateCall, out_records: &mut [u8], out_names: &mut [u8]) -> Changed {
+        self.fenced(&call.lists(), &mut [out_records, out_names], |copies, out| {
             let [r, n] = out else { unreachable!("two buffers") };
-            self.by.update(l[0], l[1], l[2], last_id, l[3], l[4], l[5], l[6], r, n)
+            let copies = copies.try_into().expect("as many as the call has");
+            self.by.update(&call.with_lists(copies), r, n)
         })
     }
 

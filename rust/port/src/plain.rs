@@ -2,7 +2,7 @@
 
 use braidhurdle::c;
 use cases::Operations;
-use judge::{Changed, Found};
+use judge::{Changed, Found, UpdateCall};
 
 /// The port.
 pub struct Port;
@@ -20,21 +20,19 @@ fn found(f: c::Found) -> Found {
 }
 
 impl Operations for Port {
-    fn update(
-        &self,
-        records: &[u8],
-        pool: &[u8],
-        identifiers: &[u8],
-        last_id: i32,
-        deletions: &[u8],
-        additions: &[u8],
-        added_records: &[u8],
-        request_pool: &[u8],
-        r: &mut [u8],
-        n: &mut [u8],
-    ) -> Changed {
-        let (d, a, t, q) = (deletions, additions, added_records, request_pool);
-        changed(c::update(records, pool, identifiers, last_id, d, a, t, q, r, n))
+    fn update(&self, call: &UpdateCall, r: &mut [u8], n: &mut [u8]) -> Changed {
+        changed(c::update(
+            call.records,
+            call.pool,
+            call.identifiers,
+            call.last_id,
+            call.deletions,
+            call.additions,
+            call.added_records,
+            call.request_pool,
+            r,
+            n,
+        ))
     }
 
     fn prune(

@@ -3,9 +3,13 @@
 mod any_bytes;
 mod building;
 mod files;
+mod numbers;
+mod package;
 mod picture;
 mod reading;
 mod refusals;
+mod room;
 mod t;
+mod tables;
 mod text;
 mod worked;

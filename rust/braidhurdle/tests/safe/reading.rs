@@ -68,6 +68,29 @@ fn a_name_is_the_very_part_of_the_pool() -> Result<(), Box<dyn std::error::Error
 }
 
 #[test]
+fn a_column_is_found_by_its_full_or_short_name_in_one_call()
+-> Result<(), Box<dyn std::error::Error>> {
+    let tree = t();
+    for name in ["visits.element.day", "visits.day"] {
+        assert_eq!(tree.column_by_name(name)?, tree.column(Slot(5))?, "{name}");
+    }
+    assert_eq!(tree.column_by_name("day")?, None);
+    let refused = Tree::new(t().records, vec![]);
+    assert_eq!(refused.column_by_name("day").map(|_| ()), refused.check());
+    Ok(())
+}
+
+#[test]
+fn a_name_is_text_where_it_is_utf_8() -> Result<(), Box<dyn std::error::Error>> {
+    let fields = [primitive(1, "größe"), Field::primitive([0xFF], 9).id(FieldId(2))];
+    let names = [Some("größe"), None];
+    assert_eq!(fields.each_ref().map(Field::name_str), names);
+    let tree = Tree::build(&fields)?;
+    assert!(tree.columns()?.map(|column| column.name_str()).eq(names));
+    Ok(())
+}
+
+#[test]
 fn an_empty_tree_has_no_columns_and_a_refused_one_says_why() {
     assert_eq!(Tree::default().columns().map(|columns| columns.len()), Ok(0));
     let refusal = Tree::new(t().records, vec![]).columns().map(|_| ()).unwrap_err();

@@ -2,7 +2,7 @@
 
 use crate::t::{primitive, roots, t};
 use braidhurdle::layout::{MOST_IDENTIFIERS, MOST_SELECTED};
-use braidhurdle::{Field, FieldId, Mode, Refusal, Request, Tree, c};
+use braidhurdle::{Field, FieldId, Mode, Refusal, RefusalKind, RefusalList, Request, Tree, c};
 
 const SCOPE: &str = include_str!("../../../../docs/01-scope.md");
 
@@ -25,7 +25,8 @@ fn floor() -> Field {
 
 #[test]
 fn every_number_has_the_words_of_01s_table() {
-    for number in 1..=20 {
+    for kind in RefusalKind::ALL {
+        let number = kind.number();
         let meaning = refused(number, 0, 0).meaning();
         assert!(SCOPE.contains(&format!("| {number} | {meaning}")), "{number}: {meaning}");
     }
@@ -33,10 +34,18 @@ fn every_number_has_the_words_of_01s_table() {
 
 #[test]
 fn every_list_has_01s_name() {
-    for list in 0..=5 {
+    for list in RefusalList::ALL {
+        let list = list.number();
         let name = refused(3, list, 0).list_name();
         assert!(SCOPE.contains(&format!("{list} {name}")), "{list}: {name}");
     }
+}
+
+#[test]
+fn a_refusal_is_told_apart_by_its_kind_and_its_list() {
+    let refusal = update_refusal(request().identifiers(&[FieldId(99)]));
+    assert_eq!(refusal.kind(), Some(RefusalKind::UnknownIdentifier));
+    assert_eq!(refusal.in_list(), Some(RefusalList::Identifiers));
 }
 
 #[test]
@@ -50,11 +59,11 @@ fn a_refusal_says_number_list_and_place_in_words() {
 #[test]
 fn numbers_that_01_does_not_have_are_shown_all_the_same() {
     assert_eq!(
-        refused(0, 6, u32::MAX).to_string(),
-        "refused 0 at 6 4294967295: a number that 01 does not have (a list that 01 does not have, \
+        refused(0, 99, u32::MAX).to_string(),
+        "refused 0 at 99 4294967295: a number that 01 does not have (a list that 01 does not have, \
          place 4294967295)"
     );
-    assert_eq!(refused(21, 0, 0).meaning(), "a number that 01 does not have");
+    assert_eq!((refused(0, 99, 0).kind(), refused(0, 99, 0).in_list()), (None, None));
 }
 
 #[test]

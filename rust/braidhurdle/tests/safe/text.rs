@@ -31,19 +31,16 @@ fn safe(case: &Case, room: &mut Room) -> Option<Result<Answer, Refusal>> {
         {
             return None;
         }
-        Ask::Update {
-            identifiers,
-            last_id,
-            deletions,
-            additions,
-            added_records,
-            request_pool,
-            ..
-        } => {
-            let last_id = FieldId(*last_id);
-            let pool = request_pool;
-            let request =
-                RequestRef { last_id, identifiers, deletions, additions, added_records, pool };
+        Ask::Update { .. } => {
+            let call = case.update_call()?;
+            let request = RequestRef {
+                last_id: FieldId(call.last_id),
+                identifiers: call.identifiers,
+                deletions: call.deletions,
+                additions: call.additions,
+                added_records: call.added_records,
+                pool: call.request_pool,
+            };
             tree.update_in(request, room).map(|updated| {
                 let (records, names) = bytes(updated.tree);
                 Answer::Updated { records, names, last_id: updated.last_id.0 }
