@@ -3,12 +3,10 @@
 use std::ffi::OsString;
 use std::path::PathBuf;
 
-use braidhurdle::{Field, FieldId};
+use braidhurdle::{Field, FieldId, RefusalKind};
 use clap::builder::{OsStringValueParser, TypedValueParser};
 use clap::error::ErrorKind;
 use clap::{Arg, ArgAction, ArgMatches, Command, value_parser};
-
-use crate::explain::LAST;
 
 const ABOUT: &str = "Schema trees kept as files: STEM.rec holds the records, STEM.names the names, \
                      STEM.last the last id";
@@ -214,11 +212,11 @@ fn prune() -> Command {
         .args(out_arguments())
         .after_help(
             "In --keep a number is an id and all else a full or short name; a column whose name\n\
-             is a number, or has a comma, is chosen by its id. --keep '' keeps nothing. An id that\n\
-             the tree has not is told and ignored; a name that finds nothing ends with status 1.\n\
-             A chosen list or map is refused (20) without --full: choose columns inside it.\n\
-             Prints how many records were kept. A pruned tree is for reading, so no OUT.last is\n\
-             written.\n\n\
+             is a number, or has a comma, is chosen by its id. --keep '' keeps nothing. An id\n\
+             that the tree has not is told and ignored; a name that finds nothing ends with\n\
+             status 1. A chosen list or map is refused (20) without --full: choose columns inside\n\
+             it. Prints how many records were kept. A pruned tree is for reading, so no OUT.last\n\
+             is written.\n\n\
              Example:\n  braid prune examples/T --keep 5,visits.day --out report\n  \
              braid prune examples/T --keep 1 --keep 3 --full --out whole",
         )
@@ -299,12 +297,15 @@ fn make() -> Command {
 }
 
 fn explain() -> Command {
+    let number = value_parser!(u32).try_map(|number| {
+        RefusalKind::from_number(number).map(|_| number).ok_or("no refusal has this number")
+    });
     Command::new("explain")
         .about("Tells of a refusal: its rule, an example, its cause and cure")
         .arg(
             Arg::new("N")
-                .help("The refusal's number, 1 to 20; without it all are listed")
-                .value_parser(value_parser!(u32).range(1..=LAST.into())),
+                .help("The refusal's number; without it all are listed")
+                .value_parser(number),
         )
         .after_help("What it prints stands in docs/REFUSALS.md.\n\nExample:\n  braid explain 17")
 }
@@ -345,7 +346,7 @@ fn bytes(arg: Arg) -> Arg {
 }
 
 fn an_id(arg: Arg) -> Arg {
-    arg.value_parser(value_parser!(i32).map(FieldId)).allow_negative_numbers(true)
+    arg.value_parser(value_parser!(FieldId)).allow_negative_numbers(true)
 }
 
 /// Columns by ids and paths. With a hyphen in front it is still such a list.
@@ -356,7 +357,7 @@ fn some(arg: Arg) -> Arg {
 
 fn ids_and_paths(given: OsString) -> Result<Vec<Named>, &'static str> {
     let named = |part: &[u8]| match std::str::from_utf8(part).ok().and_then(|id| id.parse().ok()) {
-        Some(id) => Ok(Named::Id(FieldId(id))),
+        Some(id) => Ok(Named::Id(id)),
         None if part.is_empty() => Err("between two commas stands an id or a path"),
         None if part.starts_with(b"--") => Err("this is an option, and no id or path"),
         None => Ok(Named::Path(part.to_vec())),

@@ -1,23 +1,18 @@
 //! The page about refusals, part by part.
 
-use braidhurdle::Refusal;
+use braidhurdle::RefusalKind;
 
 const PAGE: &str = include_str!("../../../docs/REFUSALS.md");
 /// Each refusal has one part, with a heading of this form.
 const HEADING: &str = "## Refusal ";
 
-/// The last refusal of 01.
-pub const LAST: u32 = 20;
-
 /// What the page says of a refusal, or a line of each.
 pub fn told(number: Option<u32>) -> String {
-    let line = |number| {
-        let meaning = Refusal { number, list: 0, place: 0 }.meaning();
-        format!("{number}: {meaning}\n")
-    };
     match number {
         Some(number) => format!("Refusal {}\n", part(number).trim_end()),
-        None => (1..=LAST).map(line).collect(),
+        None => {
+            RefusalKind::ALL.iter().map(|kind| format!("{}: {kind}\n", kind.number())).collect()
+        }
     }
 }
 

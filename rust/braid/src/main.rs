@@ -10,6 +10,8 @@ mod near;
 mod outline;
 mod picture;
 mod streams;
+#[cfg(test)]
+mod tests;
 mod words;
 
 use std::io::{self, ErrorKind, Write};

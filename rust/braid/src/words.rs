@@ -306,10 +306,9 @@ impl<'a> Given<'a> {
 
     /// The column that a path finds: its slot, and in words.
     fn found(&self, path: &Vec<u8>) -> Option<(usize, String)> {
-        let (id, slot) = self.tree.find_name(path).ok()??;
-        let column = self.tree.column(slot).ok()??;
-        let slot = slot.0 as usize;
-        Some((slot, told(id, slot, &column.full_name())))
+        let column = self.tree.column_by_name(path).ok()??;
+        let slot = column.slot.0 as usize;
+        Some((slot, told(column.id, slot, &column.full_name())))
     }
 }
 

@@ -54,8 +54,8 @@ fn a_tree_is_told_column_by_column() {
     let folder = Folder::with_t();
     folder.piped("make - --out s", b"1 s: struct\n  2 a: primitive 2\n3 t: primitive 2\n").answer();
     let said = folder.braid("update T --add-tree s --under visits --out U").answer();
-    let lines = "added 11 visits.element.s\nadded 12 visits.element.s.a\nadded 13 visits.element.t\n\
-                 last id 13\n";
+    let lines = "added 11 visits.element.s\nadded 12 visits.element.s.a\n\
+                 added 13 visits.element.t\nlast id 13\n";
     assert_eq!(said, lines);
     let said = folder.braid("update T --drop visits --add-tree s --under visits --out V").answer();
     assert!(

@@ -87,18 +87,18 @@ fn a_picture_is_told_by_its_line() {
     );
     drawn(
         "1 a: struct\n\n  2 b: list\n    3 item: primitive 0\n",
-        "6 at 0 2: an element, key or value is named otherwise: standard input, line 4: id 3 slot 2 \
-         a.b.item: a list's child is named \"element\"",
+        "6 at 0 2: an element, key or value is named otherwise: standard input, line 4: id 3 slot \
+         2 a.b.item: a list's child is named \"element\"",
     );
     drawn(
         "1 a: map\n  2 key: struct\n  3 key: struct\n",
-        "6 at 0 2: an element, key or value is named otherwise: standard input, line 3: id 3 slot 2 \
-         a.key: a map's second child is named \"value\"",
+        "6 at 0 2: an element, key or value is named otherwise: standard input, line 3: id 3 slot \
+         2 a.key: a map's second child is named \"value\"",
     );
     drawn(
         "1 a: map\n  2 value: struct\n  3 key: struct\n",
-        "6 at 0 1: an element, key or value is named otherwise: standard input, line 2: id 2 slot 1 \
-         a.value: a map's first child is named \"key\"",
+        "6 at 0 1: an element, key or value is named otherwise: standard input, line 2: id 2 slot \
+         1 a.value: a map's first child is named \"key\"",
     );
     drawn(
         "1 a: struct\n\n1 b: struct\n",
@@ -144,8 +144,8 @@ fn counts_past_the_end_are_told_with_those_who_count() {
     refused(
         &folder,
         "check X",
-        "5 at 0 3: level 17 is reached, or counts need records past the end: X: id 1 slot 0 a counts \
-         2 below it, and there are 1; X: id 2 slot 1 a.b counts 2 below it, and there are 1",
+        "5 at 0 3: level 17 is reached, or counts need records past the end: X: id 1 slot 0 a \
+         counts 2 below it, and there are 1; X: id 2 slot 1 a.b counts 2 below it, and there are 1",
     );
 }
 
@@ -182,7 +182,8 @@ fn a_label_an_id_and_a_full_name_are_told_with_their_columns() {
     refused(
         &folder,
         "check A",
-        "8 at 0 1: a full name equals an earlier one: A: id 2 slot 1 a, and before it id 1 slot 0 a",
+        "8 at 0 1: a full name equals an earlier one: A: id 2 slot 1 a, and before it id 1 slot 0 \
+         a",
     );
 }
 
@@ -245,8 +246,8 @@ fn a_file_without_end_is_refused_too() {
 #[test]
 fn an_identifier_that_is_not_there_is_told_with_its_id() {
     let folder = Folder::with_t();
-    let words = "9 at 5 1: an identifier id is not in the tree: identifier 1, id -3: no column of T \
-                 has it";
+    let words = "9 at 5 1: an identifier id is not in the tree: identifier 1, id -3: no column of \
+                 T has it";
     refused(&folder, "renumber T --from 1 --identifiers 4,-3 --out U", words);
     refused(&folder, "update T --identifiers 4,-3 --drop node --out U", words);
 }
@@ -328,8 +329,8 @@ fn an_addition_is_told_with_its_name_its_parent_and_what_is_in_the_way() {
     );
     says(
         &format!("--add a:0 --last-id {}", i32::MAX - 1),
-        "18 at 3 1: an id would pass 2,147,483,647: addition 1, \"a\" at the root: new ids up to it: \
-         2; the last id: 2147483646",
+        "18 at 3 1: an id would pass 2,147,483,647: addition 1, \"a\" at the root: new ids up to \
+         it: 2; the last id: 2147483646",
     );
 }
 
