@@ -18,6 +18,10 @@ output is closed, or can't be written.
 
 Every subcommand has an example in its own --help. docs/FORMAT.md has the layouts.";
 
+const FORCE: &str = "Replaces files and links that are there, never a folder";
+const FORCE_LAST: &str =
+    "Replaces files and links that are there, never a folder; takes a last id that is too low";
+
 /// A tree to be written.
 pub struct Out {
     pub stem: PathBuf,
@@ -32,10 +36,10 @@ pub enum Named {
     Path(Vec<u8>),
 }
 
-/// Something to add, with the path of its parent; none is the root.
-pub struct Addition<T> {
+/// Something to add, with its parent, by its path unless said otherwise; none is the root.
+pub struct Addition<T, U = Vec<u8>> {
     pub what: T,
-    pub under: Option<Vec<u8>>,
+    pub under: Option<U>,
 }
 
 /// What is added: a column, or each root of the tree of a stem.
@@ -73,7 +77,7 @@ pub enum Of {
         last_id: Option<FieldId>,
         identifiers: Vec<Named>,
         drop: Vec<Named>,
-        add: Vec<Addition<Added>>,
+        add: Vec<Addition<Added, Named>>,
         out: Out,
     },
 }
@@ -209,7 +213,7 @@ fn prune() -> Command {
         .arg(path("IN", "The tree to prune"))
         .arg(some(many("keep", "ID|PATH,..", "The chosen columns, by ids or names")).required(true))
         .arg(flag("full", "Keeps a chosen column with all that is inside it"))
-        .args(out_arguments())
+        .args(out_arguments(FORCE))
         .after_help(
             "In --keep a number is an id and all else a full or short name; a column whose name\n\
              is a number, or has a comma, is chosen by its id. --keep '' keeps nothing. An id\n\
@@ -228,7 +232,7 @@ fn renumber() -> Command {
         .arg(path("IN", "The tree to renumber"))
         .arg(an_id(option("from", "ID", "The first number")).required(true))
         .arg(some(many("identifiers", "ID|PATH,..", "Identifiers, to be mapped in this order")))
-        .args(out_arguments())
+        .args(out_arguments(FORCE))
         .after_help(
             "Prints the last id that was given, and the identifiers' new ids. The old ids mean\n\
              nothing any more, so the last id begins anew too: OUT.last has the one printed.\n\n\
@@ -257,18 +261,19 @@ fn update() -> Command {
                 .value_parser(value_parser!(PathBuf)),
         )
         .arg(bytes(many("under", "PATH", "The parent of the addition before it; else the root")))
+        .arg(an_id(many("under-id", "ID", "The same by the parent's id")))
         .arg(mark("required", "Makes the --add before it required"))
         .arg(mark("default", "Gives the --add before it an initial default"))
         .arg(
             many("attribute", "N", "The attribute number of the --add before it")
                 .value_parser(value_parser!(u32)),
         )
-        .args(out_arguments())
+        .args(out_arguments(FORCE_LAST))
         .after_help(
             "The order counts: --under belongs to the --add or --add-tree before it; --required,\n\
              --default and --attribute to the --add before them. Paths are full or short names,\n\
-             looked up in the tree as it was; a path may be a number, so an id has an option of\n\
-             its own. The last id is not the largest id present: a dropped id never returns. One\n\
+             looked up in the tree as it was; a path may be a number, so ids have options of\n\
+             their own. The last id is not the largest id present: a dropped id never returns. One\n\
              that is below an id of the tree, or below IN.last, is not taken without --force.\n\
              Prints what became of each column, and the new last id, which OUT.last keeps.\n\n\
              Example:\n  braid update examples/T --drop node.cost --drop-id 7 \\\n    \
@@ -281,7 +286,7 @@ fn make() -> Command {
         .about("Makes a tree from a picture, as list prints it")
         .arg(path("PICTURE", "The picture's file, or - for standard input"))
         .arg(an_id(option("last-id", "ID", "The last id, else the largest id of the picture")))
-        .args(out_arguments())
+        .args(out_arguments(FORCE_LAST))
         .after_help(
             "A picture has a line for each column, two spaces deeper for each level:\n\n  \
              1 visits: list\n    \
@@ -290,7 +295,8 @@ fn make() -> Command {
              The kind is primitive with its type code, struct, list or map. With it stand, in any\n\
              order, what is set of required, default and attribute N. Blank lines and lines that\n\
              begin with # are skipped. docs/FORMAT.md has the rest, names in quotes among it.\n\
-             Prints the last id, which OUT.last keeps.\n\n\
+             A picture has no last id: say it by --last-id, where a larger id than the largest of\n\
+             the picture was consumed. Prints the last id, which OUT.last keeps.\n\n\
              Example:\n  braid make examples/T.picture --out T\n  \
              braid list T | sed 's/cost/price/' | braid make - --last-id 10 --out U",
         )
@@ -332,11 +338,11 @@ fn mark(name: &'static str, help: &'static str) -> Arg {
     mark.num_args(0..=1).require_equals(true).default_missing_value("true")
 }
 
-fn out_arguments() -> [Arg; 3] {
-    let out = option("out", "OUT", "Where the answer is written, as OUT.rec, OUT.names, OUT.last");
+fn out_arguments(force: &'static str) -> [Arg; 3] {
+    let out = option("out", "OUT", "Where the answer is written: OUT.rec, OUT.names and OUT.last");
     [
         out.value_parser(value_parser!(PathBuf)).required(true),
-        flag("force", "Replaces files and links that are there, never a folder"),
+        flag("force", force),
         flag("quiet", "Prints nothing where all is well"),
     ]
 }
@@ -402,7 +408,7 @@ fn drops(of: &ArgMatches) -> Vec<Named> {
 /// A word about additions: a new one, or something about the last.
 enum Word {
     New(Added),
-    Under(Vec<u8>),
+    Under(Named),
     Of(Setting),
 }
 
@@ -414,12 +420,14 @@ enum Setting {
 }
 
 /// The additions in the order given, each with the words behind it.
-fn additions(of: &ArgMatches) -> Result<Vec<Addition<Added>>, &'static str> {
-    let mut additions: Vec<Addition<Added>> = vec![];
+fn additions(of: &ArgMatches) -> Result<Vec<Addition<Added, Named>>, &'static str> {
+    let mut additions: Vec<Addition<Added, Named>> = vec![];
     for word in words(of) {
         match (word, additions.last_mut()) {
             (Word::New(what), _) => additions.push(Addition { what, under: None }),
-            (Word::Under(path), Some(Addition { under: under @ None, .. })) => *under = Some(path),
+            (Word::Under(above), Some(Addition { under: under @ None, .. })) => {
+                *under = Some(above);
+            }
             (Word::Under(_), _) => {
                 return Err("each --under needs an --add or --add-tree before it");
             }
@@ -441,7 +449,8 @@ fn words(of: &ArgMatches) -> impl Iterator<Item = Word> {
     let primitive = |(name, code): (Vec<u8>, u32)| Added::Column(Field::primitive(name, code));
     gather(of, "add", |given| Word::New(primitive(given)), &mut words);
     gather(of, "add-tree", |stem| Word::New(Added::Tree(stem)), &mut words);
-    gather(of, "under", Word::Under, &mut words);
+    gather(of, "under", |path| Word::Under(Named::Path(path)), &mut words);
+    gather(of, "under-id", |id| Word::Under(Named::Id(id)), &mut words);
     gather(of, "required", |yes| Word::Of(Setting::Required(yes)), &mut words);
     gather(of, "default", |yes| Word::Of(Setting::Default(yes)), &mut words);
     gather(of, "attribute", |number| Word::Of(Setting::Attribute(number)), &mut words);

@@ -39,7 +39,9 @@ pub fn answer(ask: Ask) -> Result<Vec<u8>, Fault> {
             let mut said = String::new();
             let last_id = last_of(&given, last_id, kept, out.force, &mut said)?;
             let identifiers = ids(&given, &identifiers)?;
-            let (dropped, added) = (paths(&given, drop)?, added(add)?);
+            let dropped = drop.into_iter().map(|column| path(&given, column));
+            let dropped = dropped.collect::<Result<Vec<_>, _>>()?;
+            let added = added(&given, add)?;
             let asked = changes::Asked { last_id, dropped: &dropped, added: &added };
             let request = request(&identifiers, asked).map_err(overlong)?;
             let ask = Asked::Update { asked, request: &request };
@@ -136,14 +138,13 @@ fn ids(given: &Given, columns: &[Named]) -> Result<Vec<FieldId>, Fault> {
     columns.iter().map(id).collect()
 }
 
-/// The paths of columns. One that is given as a path need not be there; an id must, and its full
+/// The path of a column. One that is given as a path need not be there; an id must, and its full
 /// name finds it alone.
-fn paths(given: &Given, columns: Vec<Named>) -> Result<Vec<Vec<u8>>, Fault> {
-    let path = |named: Named| match named {
+fn path(given: &Given, named: Named) -> Result<Vec<u8>, Fault> {
+    match named {
         Named::Path(path) => Ok(path),
         Named::Id(id) => Ok(column(given, by_id(given, id)?)?.1),
-    };
-    columns.into_iter().map(path).collect()
+    }
 }
 
 fn prune(given: Given, keep: &[Named], full: bool, out: &Out) -> Result<Vec<u8>, Fault> {
@@ -243,9 +244,13 @@ fn largest(tree: &Tree) -> Option<FieldId> {
 }
 
 /// Each column to add. A tree of several roots is several additions.
-fn added(additions: Vec<Addition<Added>>) -> Result<Vec<Addition<Field>>, Fault> {
+fn added(
+    given: &Given,
+    additions: Vec<Addition<Added, Named>>,
+) -> Result<Vec<Addition<Field>>, Fault> {
     let mut added = vec![];
     for Addition { what, under } in additions {
+        let under = under.map(|above| path(given, above)).transpose()?;
         match what {
             Added::Column(what) => added.push(Addition { what, under }),
             Added::Tree(stem) => {

@@ -257,6 +257,7 @@ fn wrong_arguments_end_with_status_3_and_help_with_0() {
         "update T --add floor:-1 --out U",
         "update T --under node --add floor:0 --out U",
         "update T --add floor:0 --under node --under node --out U",
+        "update T --add floor:0 --under node --under-id 1 --out U",
         "update T --required --add floor:0 --out U",
         "update T --add-tree T --default --out U",
         "make T.picture",

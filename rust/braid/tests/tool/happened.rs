@@ -82,6 +82,18 @@ fn columns_are_dropped_by_id_too_in_the_order_given() {
 }
 
 #[test]
+fn a_parent_is_named_by_its_id_too() {
+    let folder = Folder::with_t();
+    let arguments = "update T --add a:1 --under-id 2 --required --default --add b:1 --under-id 1 \
+                     --add c:1 --out U";
+    let lines = "added 11 visits.element.a\nadded 12 node.b\nadded 13 c\nlast id 13\n";
+    assert_eq!(folder.braid(arguments).answer(), lines);
+    assert!(folder.braid("list U").answer().contains("11 a: primitive 1 required default\n"));
+    let said = folder.braid("update T --add a:1 --under-id 11 --out V").complaint(1);
+    assert_eq!(said, "no column has id 11\n");
+}
+
+#[test]
 fn columns_are_kept_by_id_and_by_name() {
     let folder = Folder::with_t();
     let ids = |stem: &str| {
