@@ -271,22 +271,23 @@ impl<'a> Given<'a> {
         let outline = Outline::of(self.tree);
         let mut passed = sizes(&from, &outline);
         let more = self.tree.records.len() % RECORD_BYTES;
-        if more > 0 && outline.0.len() < MOST_RECORDS {
+        // of a file that is too long one byte too many is read
+        if more > 0 && outline.0.len() == MOST_RECORDS {
+            passed.push(format!("{from}.rec has more than {MOST_RECORDS} records"));
+        } else if more > 0 {
             let whole = outline.0.len();
             passed.push(format!(
                 "{from}.rec has {whole} whole records and {more} bytes; a record has {RECORD_BYTES}"
             ));
-        } else if more > 0 {
-            passed.push(format!("{from}.rec has more than {MOST_RECORDS} records"));
+        }
+        if self.lines.is_none() && self.tree.pool.len() > NAME_ROOM {
+            passed.push(format!("{from}.names has more than {NAME_ROOM} bytes"));
         }
         let mut limit = |what: &str, size: usize, most: usize| {
             if size > most {
                 passed.push(format!("{size} {what}, and at most {most} may be given"));
             }
         };
-        if self.tree.pool.len() > NAME_ROOM {
-            limit("or more bytes in the pool of names", self.tree.pool.len(), NAME_ROOM);
-        }
         limit("identifiers", self.identifiers.len(), MOST_IDENTIFIERS);
         match &self.ask {
             Asked::LookUp | Asked::Renumber { .. } => {}

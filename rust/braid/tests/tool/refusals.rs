@@ -110,6 +110,13 @@ fn a_picture_is_told_by_its_line() {
         "8 at 0 2: a full name equals an earlier one: standard input, line 3: id 3 slot 2 a.b, and \
          before it line 2: id 2 slot 1 a.b",
     );
+    let long: String = (0..130).map(|id| format!("{id} {id:0>255}: struct\n")).collect();
+    drawn(
+        &long,
+        "2 at 0 0: a limit on an input count, length or name sum is passed, or a list is no whole \
+         number of records: standard input has 33150 bytes in all names together, and may have \
+         32768",
+    );
     let wide: String = (0..70_000).map(|id| format!("{id} a{id}: struct\n")).collect();
     drawn(
         &wide,
@@ -200,7 +207,7 @@ fn what_passes_a_limit_is_told_with_the_limit() {
     folder.put("T", &[0; 24_600], b"");
     says("list T", "T.rec has more than 1024 records");
     folder.put("T", b"", &[b'x'; 40_000]);
-    says("list T", "32769 or more bytes in the pool of names, and at most 32768 may be given");
+    says("list T", "T.names has more than 32768 bytes");
     let names: Vec<Node> = (0..130).map(|id| prim(id, &format!("{id:0>255}"))).collect();
     let (mut records, _) = packed(&names);
     records.chunks_exact_mut(24).for_each(|record| record[4..8].fill(0));
@@ -240,7 +247,7 @@ fn a_file_without_end_is_refused_too() {
     folder.put("Z", b"", b"");
     std::fs::remove_file(folder.file("Z.names")).expect("removed");
     std::os::unix::fs::symlink("/dev/zero", folder.file("Z.names")).expect("a link");
-    assert!(folder.braid("check Z").refusal()[0].contains("32769 or more bytes in the pool"));
+    assert!(folder.braid("check Z").refusal()[0].ends_with(": Z.names has more than 32768 bytes"));
 }
 
 #[test]
