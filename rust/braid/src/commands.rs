@@ -11,6 +11,7 @@ use braidhurdle::{Columns, Field, FieldId, Mode, Overlong, Request, Slot, Tree};
 
 use crate::arguments::{Added, Addition, Ask, Named, Of, Out};
 use crate::changes::{self, Changes};
+use crate::last::{self, Last};
 use crate::outline::told;
 use crate::words::{Asked, Given};
 use crate::{Fault, explain, names, near, picture, streams};
@@ -36,8 +37,7 @@ pub fn answer(ask: Ask) -> Result<Vec<u8>, Fault> {
         Of::Prune { keep, full, out } => prune(given, &keep, full, &out),
         Of::Renumber { from, identifiers, out } => renumber(given, from, &identifiers, &out),
         Of::Update { last_id, identifiers, drop, add, out } => {
-            let mut said = String::new();
-            let last_id = last_of(&given, last_id, kept, out.force, &mut said)?;
+            let Last { id: last_id, note } = last::of_update(&given, last_id, kept, out.force)?;
             let identifiers = ids(&given, &identifiers)?;
             let dropped = drop.into_iter().map(|column| path(&given, column));
             let dropped = dropped.collect::<Result<Vec<_>, _>>()?;
@@ -47,8 +47,8 @@ pub fn answer(ask: Ask) -> Result<Vec<u8>, Fault> {
             let ask = Asked::Update { asked, request: &request };
             let given = Given { identifiers: &identifiers, ask, ..given };
             let answer = given.tree.update(&request).map_err(|why| given.refused(why))?;
-            said += &Changes::of(&tree, asked).map(|changes| changes.lines()).unwrap_or_default();
-            said += &format!("last id {}\n", answer.last_id);
+            let lines = Changes::of(&tree, asked).map(|changes| changes.lines());
+            let said = format!("{note}{}last id {}\n", lines.unwrap_or_default(), answer.last_id);
             write(answer.into(), &out, said)
         }
     }
@@ -78,10 +78,10 @@ fn check(given: &Given, kept: Option<FieldId>) -> Result<Vec<u8>, Fault> {
     given.tree.check().map_err(|why| given.refused(why))?;
     let (records, names) = (records(given.tree), given.tree.pool.len());
     let accepted = format!("accepted: {records} records, {names} name bytes");
-    let file = file_of_last(given);
+    let file = last::file(given);
     let last = match kept {
         Some(last) => {
-            if let Some(above) = above(given.tree, last) {
+            if let Some(above) = last::above(given.tree, last) {
                 return Err(Fault::Given(format!("{file}: the last id {last} is below {above}")));
             }
             format!("last id {last}")
@@ -173,74 +173,13 @@ fn renumber(
     let given = Given { identifiers, ask: Asked::Renumber { from }, ..given };
     let answer = given.tree.renumber(from, identifiers).map_err(|why| given.refused(why))?;
     // of no column at all the next id is still the first number, where there is one below it
-    let last_id = largest(&answer.tree).unwrap_or(FieldId(from.0.saturating_sub(1)));
+    let last_id = last::largest(&answer.tree).unwrap_or(FieldId(from.0.saturating_sub(1)));
     let mut said = format!("last id {last_id}\n");
     if !identifiers.is_empty() {
         let ids: Vec<String> = answer.identifiers.iter().map(FieldId::to_string).collect();
         said += &format!("identifiers {}\n", ids.join(","));
     }
     write(Stored { tree: answer.tree, last_id: Some(last_id) }, out, said)
-}
-
-/// The last id for an update: what is said, or else what is kept beside the tree. One that would
-/// let an id be handed out twice is not taken, but by force.
-fn last_of(
-    given: &Given,
-    said: Option<FieldId>,
-    kept: Option<FieldId>,
-    force: bool,
-    notes: &mut String,
-) -> Result<FieldId, Fault> {
-    let file = file_of_last(given);
-    if given.tree.check().is_err() {
-        // the update is refused, whatever the last id
-        return Ok(said.or(kept).unwrap_or_default());
-    }
-    let (last, from) = match (said, kept) {
-        (Some(said), _) => (said, format!("--last-id {said}")),
-        (None, Some(kept)) => (kept, format!("{file}: the last id {kept}")),
-        (None, None) => {
-            let largest = match largest(given.tree) {
-                Some(id) => {
-                    format!("The largest id of the tree is {id}; one that was dropped since")
-                }
-                None => "An id that was dropped".into(),
-            };
-            return Err(Fault::Given(format!(
-                "{file}: not found, and no --last-id says the last id consumed so far. {largest} \
-                 may have been larger"
-            )));
-        }
-    };
-    let kept = kept.filter(|kept| *kept > last).map(|kept| format!("{kept}, which {file} keeps"));
-    low(&from, above(given.tree, last).or(kept), force, notes)?;
-    Ok(last)
-}
-
-/// Ends where a last id is below something, or goes on by force and tells it.
-fn low(from: &str, above: Option<String>, force: bool, notes: &mut String) -> Result<(), Fault> {
-    match above {
-        None => {}
-        Some(above) if force => *notes += &format!("by force: {from} is below {above}\n"),
-        Some(above) => {
-            return Err(Fault::Given(format!(
-                "{from} is below {above}: an id could be handed out twice. Nothing is written; \
-                 --force takes it all the same"
-            )));
-        }
-    }
-    Ok(())
-}
-
-/// The column of the largest id, where that is above a last id.
-fn above(tree: &Tree, last: FieldId) -> Option<String> {
-    let column = tree.columns().ok()?.max_by_key(|column| column.id)?;
-    let told = format!("id {} of {}", column.id, shown(&column.full_name()));
-    (column.id > last).then_some(told)
-}
-
-fn largest(tree: &Tree) -> Option<FieldId> {
-    tree.columns().ok()?.map(|column| column.id).max()
 }
 
 /// Each column to add. A tree of several roots is several additions.
@@ -296,16 +235,8 @@ fn make(picture: &Path, last_id: Option<FieldId>, out: &Out) -> Result<Vec<u8>, 
     let tree = Tree::build(&roots).map_err(overlong)?;
     let given = Given { lines: Some(&lines), ..Given::new(picture, &tree) };
     tree.check().map_err(|why| given.refused(why))?;
-    let mut said = String::new();
-    let last_id = match last_id {
-        Some(last) => {
-            low(&format!("--last-id {last}"), above(&tree, last), out.force, &mut said)?;
-            last
-        }
-        None => largest(&tree).unwrap_or_default(),
-    };
-    said += &format!("last id {last_id}\n");
-    write(Stored { tree, last_id: Some(last_id) }, out, said)
+    let Last { id, note } = last::of_made(&tree, last_id, out.force)?;
+    write(Stored { tree, last_id: Some(id) }, out, format!("{note}last id {id}\n"))
 }
 
 /// Why bytes are no text, with the line.
@@ -348,9 +279,4 @@ fn of_file(FileFault { file, why }: FileFault) -> Fault {
         _ => "",
     };
     Fault::Given(format!("{}: {why}{hint}", names::file(&file)))
-}
-
-/// The file that keeps the last id of the tree.
-fn file_of_last(given: &Given) -> String {
-    names::file(&with_ending(given.stem, "last"))
 }

@@ -5,10 +5,13 @@ mod arguments;
 mod changes;
 mod commands;
 mod explain;
+mod last;
+mod limits;
 mod names;
 mod near;
 mod outline;
 mod picture;
+mod rules;
 mod streams;
 #[cfg(test)]
 mod tests;

@@ -68,14 +68,17 @@ impl<'a> Outline<'a> {
         told(self.0[slot].record.id, slot, &self.full_name(slot))
     }
 
-    /// The first record before a slot for which this holds.
-    pub fn earlier(&self, slot: usize, holds: impl Fn(usize) -> bool) -> Option<usize> {
-        (0..slot).find(|at| holds(*at))
-    }
-
-    /// The lengths of all names together.
-    pub fn name_bytes(&self) -> usize {
-        self.0.iter().map(|row| usize::from(row.record.length)).sum()
+    /// The first record before a slot that has the same id, for refusal 7, or else the same full
+    /// name.
+    pub fn equal(&self, number: u32, slot: usize) -> Option<usize> {
+        let id = self.0.get(slot)?.record.id;
+        match number {
+            7 => (0..slot).find(|earlier| self.0[*earlier].record.id == id),
+            _ => {
+                let name = self.full_name(slot);
+                (0..slot).find(|earlier| self.full_name(*earlier) == name)
+            }
+        }
     }
 }
 

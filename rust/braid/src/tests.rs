@@ -32,8 +32,11 @@ fn fields(records: &[u8], pool: &[u8]) -> Option<Vec<Field>> {
     Tree::new(records, pool.to_vec()).fields().ok()
 }
 
+/// What is dropped and added.
+type Words = (Vec<Vec<u8>>, Vec<Addition<Field>>);
+
 /// What people would say to ask for this; none where the tool can't be told so.
-fn said(call: &UpdateCall) -> Option<(Vec<Vec<u8>>, Vec<Addition<Field>>)> {
+fn said(call: &UpdateCall) -> Option<Words> {
     let dropped: Option<Vec<Vec<u8>>> =
         paths(call.deletions, call.request_pool)?.into_iter().collect();
     let lists = [call.identifiers, call.deletions, call.additions, call.added_records];
