@@ -295,8 +295,8 @@ fn make() -> Command {
              The kind is primitive with its type code, struct, list or map. With it stand, in any\n\
              order, what is set of required, default and attribute N. Blank lines and lines that\n\
              begin with # are skipped. docs/FORMAT.md has the rest, names in quotes among it.\n\
-             A picture has no last id: say it by --last-id, where a larger id than the largest of\n\
-             the picture was consumed. Prints the last id, which OUT.last keeps.\n\n\
+             A picture has no last id: say it by --last-id, where an id above the largest of the\n\
+             picture was consumed. Prints the last id, which OUT.last keeps.\n\n\
              Example:\n  braid make examples/T.picture --out T\n  \
              braid list T | sed 's/cost/price/' | braid make - --last-id 10 --out U",
         )

@@ -184,12 +184,12 @@ fn a_label_an_id_and_a_full_name_are_told_with_their_columns() {
          id 1 slot 0 node",
     );
     let folder = Folder::new();
-    let (records, names) = packed(&[prim(1, "a"), prim(2, "a")]);
+    let (records, names) = packed(&[prim(1, "a"), prim(2, "b"), prim(3, "a"), prim(4, "a")]);
     folder.put("A", &records, &names);
     refused(
         &folder,
         "check A",
-        "8 at 0 1: a full name equals an earlier one: A: id 2 slot 1 a, and before it id 1 slot 0 \
+        "8 at 0 2: a full name equals an earlier one: A: id 3 slot 2 a, and before it id 1 slot 0 \
          a",
     );
 }
