@@ -3,10 +3,8 @@
  *
  *     tools/archive
  *     cc -std=c11 -Wall -Wextra -Werror -Iinclude examples/c/revise.c target/staticlib/libbraidhurdle.a -o target/revise
- *     cp examples/node-4.rec examples/node-4.names target/
- *     echo 23 >target/node-4.last
  *     rm -f target/node-5.rec target/node-5.names target/node-5.last
- *     target/revise target/node-4 target/node-5
+ *     target/revise examples/node-4 target/node-5
  *
  * STEM.rec holds the records, STEM.names the names, and STEM.last the last id that was handed out: a number and a newline. The
  * largest id in the tree would not do, since that column may have been dropped. It ends with 0 if every step went as it should,

@@ -1,5 +1,5 @@
-//! A gateway's table through one board revision: built, changed, stored, read by name, cut to what a
-//! reader asked for, and refused. docs/USING.md has the steps to a project of your own.
+//! A gateway's table through one board revision: built, changed, stored, read by name, cut to
+//! what a reader asked for, and refused. docs/USING.md has the steps to a project of your own.
 
 use std::error::Error;
 use std::{env, fs, process};

@@ -2,6 +2,7 @@
 
 mod any_bytes;
 mod building;
+mod examples;
 mod files;
 mod numbers;
 mod package;
