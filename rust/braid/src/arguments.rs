@@ -273,8 +273,8 @@ fn update() -> Command {
             "The order counts: --under belongs to the --add or --add-tree before it; --required,\n\
              --default and --attribute to the --add before them. Paths are full or short names,\n\
              looked up in the tree as it was; a path may be a number, so ids have options of\n\
-             their own. The last id is not the largest id present: a dropped id never returns. One\n\
-             that is below an id of the tree, or below IN.last, is not taken without --force.\n\
+             their own. The last id is not the largest id present: a dropped id never returns.\n\
+             One that is below an id of the tree, or below IN.last, is not taken without --force.\n\
              Prints what became of each column, and the new last id, which OUT.last keeps.\n\n\
              Example:\n  braid update examples/T --drop node.cost --drop-id 7 \\\n    \
              --add cost:3 --under node --add floor:2 --out U",
