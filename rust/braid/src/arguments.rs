@@ -20,7 +20,7 @@ Every subcommand has an example in its own --help. docs/FORMAT.md has the layout
 
 const FORCE: &str = "Replaces files and links that are there, never a folder";
 const FORCE_LAST: &str =
-    "Replaces files and links that are there, never a folder; takes a last id that is too low";
+    "Replaces files and links that are there, never a folder; takes a --last-id that is too low";
 
 /// A tree to be written.
 pub struct Out {
@@ -274,7 +274,7 @@ fn update() -> Command {
              --default and --attribute to the --add before them. Paths are full or short names,\n\
              looked up in the tree as it was; a path may be a number, so ids have options of\n\
              their own. The last id is not the largest id present: a dropped id never returns.\n\
-             One that is below an id of the tree, or below IN.last, is not taken without --force.\n\
+             A --last-id below an id of the tree or below IN.last is not taken without --force.\n\
              Prints what became of each column, and the new last id, which OUT.last keeps.\n\n\
              Example:\n  braid update examples/T --drop node.cost --drop-id 7 \\\n    \
              --add cost:3 --under node --add floor:2 --out U",

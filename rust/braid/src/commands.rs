@@ -26,7 +26,12 @@ pub fn answer(ask: Ask) -> Result<Vec<u8>, Fault> {
         Ask::Make { picture, last_id, out } => return make(&picture, last_id, &out),
         Ask::Of(stem, of) => (stem, of),
     };
-    let Stored { tree, last_id: kept } = Stored::read(&stem).map_err(of_file)?;
+    // who does not ask for the last id is not kept up by a file that holds none
+    let stored = match of {
+        Of::Check | Of::Update { .. } => Stored::read(&stem),
+        _ => Tree::read(&stem).map(|tree| Stored { tree, last_id: None }),
+    };
+    let Stored { tree, last_id: kept } = stored.map_err(of_file)?;
     let given = Given::new(&stem, &tree);
     match of {
         Of::List { plain } => list(&given, plain),
@@ -193,7 +198,7 @@ fn added(
         match what {
             Added::Column(what) => added.push(Addition { what, under }),
             Added::Tree(stem) => {
-                let tree = Stored::read(&stem).map_err(of_file)?.tree;
+                let tree = Tree::read(&stem).map_err(of_file)?;
                 let roots = tree.fields().map_err(|why| Given::new(&stem, &tree).refused(why))?;
                 let add = |what| Addition { what, under: under.clone() };
                 added.extend(roots.into_iter().map(add));

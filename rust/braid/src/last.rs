@@ -13,8 +13,9 @@ pub struct Last {
     pub note: String,
 }
 
-/// The last id for an update: what is said, or else what is kept. One that is below an id of the
-/// tree, or below the one that is kept, is not taken but by force.
+/// The last id for an update: what is said, or else what is kept. One that is said below an id of
+/// the tree, or below the one that is kept, is taken by force alone; one that is kept below an id
+/// of the tree is not taken at all, since force is for files too.
 pub fn of_update(
     given: &Given,
     said: Option<FieldId>,
@@ -26,19 +27,24 @@ pub fn of_update(
         return Ok(Last { id: said.or(kept).unwrap_or_default(), note: String::new() });
     }
     let file = file(given);
-    let (id, from) = match (said, kept) {
-        (Some(said), _) => (said, format!("--last-id {said}")),
-        (None, Some(kept)) => (kept, format!("{file}: the last id {kept}")),
-        (None, None) => return Err(missing(&file, given.tree)),
+    let Some(id) = said else {
+        let id = kept.ok_or_else(|| missing(&file, given.tree))?;
+        return match above(given.tree, id) {
+            None => Ok(Last { id, note: String::new() }),
+            Some(above) => {
+                let from = format!("{file}: the last id {id}");
+                Err(too_low(&from, &above, "say the last id by --last-id"))
+            }
+        };
     };
     let kept = kept.filter(|kept| *kept > id).map(|kept| format!("{kept}, which {file} keeps"));
-    Ok(Last { id, note: low(&from, above(given.tree, id).or(kept), force)? })
+    Ok(Last { id, note: low(id, above(given.tree, id).or(kept), force)? })
 }
 
 /// The last id of a tree that is made: what is said, or else the largest.
 pub fn of_made(tree: &Tree, said: Option<FieldId>, force: bool) -> Result<Last, Fault> {
     let id = said.or(largest(tree)).unwrap_or_default();
-    Ok(Last { id, note: low(&format!("--last-id {id}"), above(tree, id), force)? })
+    Ok(Last { id, note: low(id, above(tree, id), force)? })
 }
 
 /// The column of the largest id, where that is above a last id.
@@ -68,14 +74,18 @@ fn missing(file: &str, tree: &Tree) -> Fault {
     ))
 }
 
-/// Ends where a last id is below something, or goes on by force and tells it.
-fn low(from: &str, above: Option<String>, force: bool) -> Result<String, Fault> {
+/// Ends where a last id that was said is below something, or goes on by force and tells it.
+fn low(id: FieldId, above: Option<String>, force: bool) -> Result<String, Fault> {
+    let from = format!("--last-id {id}");
     match above {
         None => Ok(String::new()),
         Some(above) if force => Ok(format!("by force: {from} is below {above}\n")),
-        Some(above) => Err(Fault::Given(format!(
-            "{from} is below {above}: an id could be handed out twice. Nothing is written; --force \
-             takes it all the same"
-        ))),
+        Some(above) => Err(too_low(&from, &above, "--force takes it all the same")),
     }
+}
+
+fn too_low(from: &str, above: &str, cure: &str) -> Fault {
+    Fault::Given(format!(
+        "{from} is below {above}: an id could be handed out twice. Nothing is written; {cure}"
+    ))
 }

@@ -14,7 +14,9 @@ pub fn question(tree: &Tree, path: &[u8]) -> String {
     let end = path.rsplit(|byte| *byte == b'.').next().unwrap_or_default();
     let slips = |name: &[u8]| slips(name, end);
     let columns = tree.columns().into_iter().flatten();
-    let near = columns.min_by_key(|column| slips(column.name));
+    let near = columns
+        .filter(|column| column.name.len().abs_diff(end.len()) <= MOST_SLIPS)
+        .min_by_key(|column| slips(column.name));
     match near.filter(|column| slips(column.name) <= min(MOST_SLIPS, end.len().saturating_sub(1))) {
         Some(column) => format!("; did you mean {}?", shown(&column.full_name())),
         None => String::new(),

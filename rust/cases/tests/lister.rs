@@ -1,7 +1,9 @@
 //! The lister, on files: what it writes, what it says where it can't, and its status. It is built
 //! where the toolchain is there; with CI=true in the environment it must be.
 
+use std::fs::Permissions;
 use std::ops::Range;
+use std::os::unix::fs::PermissionsExt;
 use std::path::{Path, PathBuf};
 use std::process::Command;
 use std::sync::OnceLock;
@@ -224,6 +226,50 @@ fn a_file_that_cant_be_read_is_named_and_nothing_is_listed() {
     assert_eq!(room.run(&[]), said("tree.names: No such file or directory\n"));
     assert_eq!(room.run(&["tree.rec", "."]), said(".: Is a directory\n"));
     assert_eq!(room.run(&["tree.rec"]), said("usage: lister [RECORDS NAMES]\n"));
+}
+
+/// A script with these lines.
+fn put_script(file: &Path, lines: &str) {
+    fs::create_dir_all(file.parent().expect("a folder")).expect("made");
+    fs::write(file, format!("#!/bin/sh\n{lines}\n")).expect("written");
+    fs::set_permissions(file, Permissions::from_mode(0o755)).expect("it may be run");
+}
+
+#[test]
+fn where_it_is_not_built_the_toolchain_is_asked_to_build_it() {
+    // a checkout of the script alone, and toolchains that are none
+    let checkout = env::temp_dir().join(format!("lister-unbuilt-{}", std::process::id()));
+    let script = checkout.join("tools/lister");
+    fs::create_dir_all(checkout.join("tools")).expect("made");
+    fs::copy(root().join("tools/lister"), &script).expect("copied");
+    let run = |toolchain: &str| {
+        let path = format!("{}:/usr/bin:/bin", checkout.join(toolchain).display());
+        let left = Command::new(&script).env("PATH", path).output().expect("it runs");
+        let text = |bytes: Vec<u8>| String::from_utf8(bytes).expect("text");
+        (left.status.code(), text(left.stdout), text(left.stderr))
+    };
+    let (status, written, said) = run("none");
+    assert_eq!((status, written.as_str()), (Some(3), ""));
+    assert!(said.contains("the toolchain (rt) is not there"), "{said}");
+    put_script(&checkout.join("fails/rt"), "echo not proved; exit 1");
+    let (status, written, said) = run("fails");
+    assert_eq!((status, written.as_str()), (Some(3), ""));
+    assert!(
+        said.contains("not proved\ntools/lister: rt check lister did not build it\n"),
+        "{said}"
+    );
+    put_script(
+        &checkout.join("builds/rt"),
+        "[ \"$*\" = 'check lister' ] && mkdir -p target/bin &&\n\
+         printf '#!/bin/sh\\necho 0 1 - a\\n' >target/bin/lister && chmod +x target/bin/lister",
+    );
+    if cfg!(target_arch = "x86_64") {
+        let (status, written, said) = run("builds");
+        assert_eq!((status, written.as_str()), (Some(0), "0 1 - a\n"));
+        assert!(said.contains("is not built yet"), "{said}");
+        assert_eq!(run("none"), (Some(0), "0 1 - a\n".into(), String::new()));
+    }
+    fs::remove_dir_all(checkout).expect("removed");
 }
 
 #[test]

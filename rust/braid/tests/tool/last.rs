@@ -29,21 +29,31 @@ fn where_no_last_id_is_kept_or_said_nothing_is_done() {
 }
 
 #[test]
-fn a_last_id_below_an_id_of_the_tree_is_taken_by_force_alone() {
+fn a_last_id_that_is_said_below_an_id_of_the_tree_is_taken_by_force_alone() {
     let folder = Folder::with_t();
-    let low = "is below id 10 of parts.value.price: an id could be handed out twice. Nothing is \
-               written; --force takes it all the same\n";
-    let update = "update T --drop parts --add floor:2 --out U";
-    let said = folder.braid(&format!("{update} --last-id 9")).complaint(3);
-    assert_eq!(said, format!("--last-id 9 {low}"));
-    folder.put_last("T", "9\n");
-    assert_eq!(folder.braid(update).complaint(3), format!("T.last: the last id 9 {low}"));
-    let said = folder.braid("check T").complaint(3);
-    assert_eq!(said, "T.last: the last id 9 is below id 10 of parts.value.price\n");
+    let update = "update T --drop parts --add floor:2 --out U --last-id 9";
+    let below = "--last-id 9 is below id 10 of parts.value.price";
+    let said = folder.braid(update).complaint(3);
+    let twice =
+        "an id could be handed out twice. Nothing is written; --force takes it all the same";
+    assert_eq!(said, format!("{below}: {twice}\n"));
     let said = folder.braid(&format!("{update} --force")).answer();
-    let by_force = "by force: T.last: the last id 9 is below id 10 of parts.value.price\n";
-    assert!(said.starts_with(by_force), "{said}");
+    assert!(said.starts_with(&format!("by force: {below}\n")), "{said}");
     assert!(said.ends_with("added 10 floor\nlast id 10\n"), "{said}");
+}
+
+#[test]
+fn a_last_id_that_is_kept_below_an_id_of_the_tree_is_not_taken_by_force_either() {
+    let folder = Folder::with_t();
+    folder.put_last("T", "9\n");
+    let below = "T.last: the last id 9 is below id 10 of parts.value.price";
+    assert_eq!(folder.braid("check T").complaint(3), format!("{below}\n"));
+    let twice = "an id could be handed out twice. Nothing is written; say the last id by --last-id";
+    let update = "update T --add floor:2 --out T --force";
+    assert_eq!(folder.braid(update).complaint(3), format!("{below}: {twice}\n"));
+    let said = folder.braid(&format!("{update} --last-id 10")).answer();
+    assert_eq!(said, "added 11 floor\nlast id 11\n");
+    folder.braid("check T").answer();
 }
 
 #[test]
@@ -67,6 +77,9 @@ fn a_file_that_holds_no_last_id_is_named() {
             let said = folder.braid(arguments).complaint(3);
             assert_eq!(said, "T.last: no last id, which is a number and a newline\n", "{text:?}");
         }
+        // who does not ask for the last id is answered
+        folder.braid("find T node").answer();
+        folder.braid("prune T --keep 7 --out U --force").answer();
     }
     folder.put_last("T", "-2147483648\n");
     assert!(folder.braid("check T").complaint(3).contains("the last id -2147483648 is below"));
