@@ -1,7 +1,7 @@
 //! The picture: whatever tree is drawn is read back, and what is no picture is told by its line.
 
 use crate::folder::{Folder, checkout};
-use cases::{Case, Generator, Sizes, packed, prim};
+use cases::{Case, Generator, Random, Sizes, packed, prim};
 use judge::Node;
 
 /// The picture of the drawn tree, which must make this pair.
@@ -128,6 +128,30 @@ fn names_as_people_write_them_are_drawn_as_they_are() {
     let line = |(name, id): (&&str, i32)| format!("{id} {name}: primitive 0\n");
     let drawn: String = names.iter().zip(1..).map(line).collect();
     assert_eq!(round(&Folder::new(), &roots), drawn);
+}
+
+#[test]
+fn names_of_any_characters_are_read_back() {
+    let tricky: Vec<char> = "a :\"\\#.\0\n\r\t\u{1b}\u{7f}\u{9b}\u{a0}é\u{301}\u{34f}กัक्\u{200b}\u{200c}\
+                             \u{200d}\u{200e}\u{2028}\u{202e}\u{2066}\u{180b}\u{180e}\u{fe0f}\u{feff}👩🚒\
+                             \u{e0067}\u{e0100}\u{10ffff}"
+        .chars()
+        .collect();
+    let mut random = Random::new(10);
+    let mut name = |id: i32| {
+        let mut name = format!("{id}").into_bytes();
+        for _ in 0..random.below(9) {
+            name.extend(random.pick(&tricky).to_string().bytes());
+            if random.chance(1, 12) {
+                name.push(0x80 + random.below(0x80) as u8);
+            }
+        }
+        named(id, &name)
+    };
+    let roots: Vec<Node> = (0..1_000).map(&mut name).collect();
+    let picture = round(&Folder::new(), &roots);
+    let shown = |c: char| c == '\n' || c >= ' ' && !['\u{7f}', '\u{9b}', '\u{202e}'].contains(&c);
+    assert!(picture.chars().all(shown), "{picture:?}");
 }
 
 #[test]
