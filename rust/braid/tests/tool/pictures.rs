@@ -132,11 +132,10 @@ fn names_as_people_write_them_are_drawn_as_they_are() {
 
 #[test]
 fn names_of_any_characters_are_read_back() {
-    let tricky: Vec<char> = "a :\"\\#.\0\n\r\t\u{1b}\u{7f}\u{9b}\u{a0}é\u{301}\u{34f}กัक्\u{200b}\u{200c}\
-                             \u{200d}\u{200e}\u{2028}\u{202e}\u{2066}\u{180b}\u{180e}\u{fe0f}\u{feff}👩🚒\
-                             \u{e0067}\u{e0100}\u{10ffff}"
-        .chars()
-        .collect();
+    let tricky = "a :\"\\#.\0\n\r\t\u{1b}\u{7f}\u{9b}\u{a0}é\u{301}\u{34f}กัक्\u{200b}\u{200c}\
+                  \u{200d}\u{200e}\u{2028}\u{202e}\u{2066}\u{180b}\u{180e}\u{fe0f}\u{feff}👩🚒\
+                  \u{e0067}\u{e0100}\u{10ffff}";
+    let tricky: Vec<char> = tricky.chars().collect();
     let mut random = Random::new(10);
     let mut name = |id: i32| {
         let mut name = format!("{id}").into_bytes();
