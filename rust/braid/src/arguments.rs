@@ -3,29 +3,43 @@
 use std::ffi::OsString;
 use std::path::PathBuf;
 
-use braidhurdle::{Field, FieldId};
+use braidhurdle::{Field, FieldId, RefusalKind};
 use clap::builder::{OsStringValueParser, TypedValueParser};
 use clap::error::ErrorKind;
 use clap::{Arg, ArgAction, ArgMatches, Command, value_parser};
 
-const ABOUT: &str = "Schema trees kept as files: STEM.rec holds the records, STEM.names the names";
+const ABOUT: &str = "Schema trees kept as files: STEM.rec holds the records, STEM.names the names, \
+                     STEM.last the last id";
 
 const STATUS: &str = "\
 Exit status: 0 the answer was given; 1 a look-up found nothing; 2 refused by the
-library, with number, list and place; 3 wrong arguments, files or pictures.
+library, with number, list and place; 3 wrong arguments, files or pictures; 4 standard
+output is closed, or can't be written.
 
 Every subcommand has an example in its own --help. docs/FORMAT.md has the layouts.";
+
+const FORCE: &str = "Replaces files and links that are there, never a folder";
+const FORCE_LAST: &str =
+    "Replaces files and links that are there, never a folder; takes a --last-id that is too low";
 
 /// A tree to be written.
 pub struct Out {
     pub stem: PathBuf,
     pub force: bool,
+    pub quiet: bool,
 }
 
-/// Something to add, with the path of its parent; none is the root.
-pub struct Addition<T> {
+/// A column, by its id or by its full or short name.
+#[derive(Clone)]
+pub enum Named {
+    Id(FieldId),
+    Path(Vec<u8>),
+}
+
+/// Something to add, with its parent, by its path unless said otherwise; none is the root.
+pub struct Addition<T, U = Vec<u8>> {
     pub what: T,
-    pub under: Option<Vec<u8>>,
+    pub under: Option<U>,
 }
 
 /// What is added: a column, or each root of the tree of a stem.
@@ -36,7 +50,8 @@ pub enum Added {
 
 /// What is asked for.
 pub enum Ask {
-    Make { picture: PathBuf, out: Out },
+    Explain(Option<u32>),
+    Make { picture: PathBuf, last_id: Option<FieldId>, out: Out },
     Of(PathBuf, Of),
 }
 
@@ -46,26 +61,39 @@ pub enum Of {
         plain: bool,
     },
     Check,
-    FindName(Vec<u8>),
-    FindId(FieldId),
+    Find(Named),
     Parent(FieldId),
     Prune {
-        keep: Vec<FieldId>,
+        keep: Vec<Named>,
         full: bool,
         out: Out,
     },
     Renumber {
         from: FieldId,
-        identifiers: Vec<FieldId>,
+        identifiers: Vec<Named>,
         out: Out,
     },
     Update {
-        last_id: FieldId,
-        identifiers: Vec<FieldId>,
-        drop: Vec<Vec<u8>>,
-        add: Vec<Addition<Added>>,
+        last_id: Option<FieldId>,
+        identifiers: Vec<Named>,
+        drop: Vec<Named>,
+        add: Vec<Addition<Added, Named>>,
         out: Out,
     },
+}
+
+impl Ask {
+    /// Is nothing to be printed?
+    pub fn quiet(&self) -> bool {
+        match self {
+            Ask::Make { out, .. }
+            | Ask::Of(
+                _,
+                Of::Prune { out, .. } | Of::Renumber { out, .. } | Of::Update { out, .. },
+            ) => out.quiet,
+            _ => false,
+        }
+    }
 }
 
 /// The arguments of this process, or what is wrong with them (or the help that was asked for).
@@ -76,30 +104,34 @@ pub fn given() -> Result<Ask, clap::Error> {
     let asked = match name {
         "list" => Of::List { plain: of.get_flag("plain") },
         "check" => Of::Check,
-        "find" => match of.get_one("id") {
-            Some(id) => Of::FindId(*id),
-            None => Of::FindName(one(of, "NAME")),
-        },
+        "find" => Of::Find(match of.get_one("id") {
+            Some(id) => Named::Id(*id),
+            None => Named::Path(one(of, "NAME")),
+        }),
         "parent" => Of::Parent(one(of, "ID")),
-        "prune" => Of::Prune { keep: ids(of, "keep"), full: of.get_flag("full"), out: out(of) },
+        "prune" => Of::Prune { keep: named(of, "keep"), full: of.get_flag("full"), out: out(of) },
         "renumber" => Of::Renumber {
             from: one(of, "from"),
-            identifiers: ids(of, "identifiers"),
+            identifiers: named(of, "identifiers"),
             out: out(of),
         },
         "update" => Of::Update {
-            last_id: one(of, "last-id"),
-            identifiers: ids(of, "identifiers"),
-            drop: of.get_many("drop").unwrap_or_default().cloned().collect(),
+            last_id: of.get_one("last-id").copied(),
+            identifiers: named(of, "identifiers"),
+            drop: drops(of),
             add: additions(of).map_err(|why| {
                 let update = command.find_subcommand_mut("update").expect("it was given");
                 update.error(ErrorKind::ArgumentConflict, why)
             })?,
             out: out(of),
         },
-        _ => return Ok(Ask::Make { picture: one(of, "PICTURE"), out: out(of) }),
+        "explain" => return Ok(Ask::Explain(of.get_one("N").copied())),
+        _ => {
+            let (picture, last_id) = (one(of, "PICTURE"), of.get_one("last-id").copied());
+            return Ok(Ask::Make { picture, last_id, out: out(of) });
+        }
     };
-    Ok(Ask::Of(one(of, "STEM"), asked))
+    Ok(Ask::Of(one(of, "IN"), asked))
 }
 
 fn command() -> Command {
@@ -110,39 +142,52 @@ fn command() -> Command {
         .subcommand_required(true)
         .arg_required_else_help(true)
         .disable_help_subcommand(true)
-        .subcommands([list(), check(), find(), parent(), prune(), renumber(), update(), make()])
+        .subcommands([
+            list(),
+            check(),
+            find(),
+            parent(),
+            prune(),
+            renumber(),
+            update(),
+            make(),
+            explain(),
+        ])
 }
 
 fn list() -> Command {
     Command::new("list")
         .about("Prints a tree as an indented picture, or as the lister's lines")
-        .arg(path("STEM", "The tree to print"))
+        .arg(path("IN", "The tree to print: IN.rec and IN.names"))
         .arg(flag("plain", "Prints slot, id, parent id or -, and full name"))
         .after_help(
             "A line of the picture: id, name, kind; then what is set of required, default and\n\
-             attribute. Names with other than printable characters are quoted and escaped; with\n\
-             --plain they stand as they are, except on a terminal. docs/FORMAT.md has the rest.\n\n\
-             Example:\n  braid list examples/T\n  braid list examples/T --plain | cut -d' ' -f4",
+             attribute. What a terminal would obey or can't show is escaped; with --plain names\n\
+             stand as they are, except on a terminal. docs/FORMAT.md has the rest.\n\n\
+             Example:\n  braid list examples/T\n  braid list examples/T --plain | cut -d' ' -f4-",
         )
 }
 
 fn check() -> Command {
     Command::new("check")
-        .about("Says whether the library accepts a tree, and its size")
-        .arg(path("STEM", "The tree to check"))
-        .after_help("Example:\n  braid check examples/T")
+        .about("Says whether the library accepts a tree, its size and its last id")
+        .arg(path("IN", "The tree to check: IN.rec, IN.names and IN.last"))
+        .after_help(
+            "A last id below an id of the tree is a fault of the files: status 3.\n\n\
+             Example:\n  braid check examples/T",
+        )
 }
 
 fn find() -> Command {
     Command::new("find")
         .about("Finds a column by its full or short name, or by its id")
-        .arg(path("STEM", "The tree to look in"))
+        .arg(path("IN", "The tree to look in"))
         .arg(
             bytes(Arg::new("NAME"))
                 .help("A full name, or else a short one")
                 .required_unless_present("id"),
         )
-        .arg(an_id(option("id", "N", "Finds the column of this id")).conflicts_with("NAME"))
+        .arg(an_id(option("id", "ID", "Finds the column of this id")).conflicts_with("NAME"))
         .after_help(
             "Prints id, slot and full name. Status 1 where nothing is found. A name that begins\n\
              with - stands after --.\n\n\
@@ -153,10 +198,11 @@ fn find() -> Command {
 fn parent() -> Command {
     Command::new("parent")
         .about("Finds the column above that of an id")
-        .arg(path("STEM", "The tree to look in"))
+        .arg(path("IN", "The tree to look in"))
         .arg(an_id(Arg::new("ID")).help("The id of the column below").required(true))
         .after_help(
-            "Prints id, slot and full name. Status 1 for a root, and where no column has the id.\n\n\
+            "Prints id, slot and full name. Status 1 for a root, and where no column has the\n\
+             id.\n\n\
              Example:\n  braid parent examples/T 7",
         )
 }
@@ -164,29 +210,32 @@ fn parent() -> Command {
 fn prune() -> Command {
     Command::new("prune")
         .about("Keeps the chosen columns, with what stands above them")
-        .arg(path("STEM", "The tree to prune"))
-        .arg(
-            some_ids(option("keep", "ID,..", "The chosen ids; unknown ones are ignored"))
-                .required(true),
-        )
+        .arg(path("IN", "The tree to prune"))
+        .arg(some(many("keep", "ID|PATH,..", "The chosen columns, by ids or names")).required(true))
         .arg(flag("full", "Keeps a chosen column with all that is inside it"))
-        .args(out_arguments())
+        .args(out_arguments(FORCE))
         .after_help(
-            "A chosen list or map is refused (20) without --full: choose columns inside it.\n\
-             Prints how many records were kept.\n\n\
-             Example:\n  braid prune examples/T --keep 5,7 --out report",
+            "In --keep a number is an id and all else a full or short name; a column whose name\n\
+             is a number, or has a comma, is chosen by its id. --keep '' keeps nothing. An id\n\
+             that the tree has not is told and ignored; a name that finds nothing ends with\n\
+             status 1. A chosen list or map is refused (20) without --full: choose columns inside\n\
+             it. Prints how many records were kept. A pruned tree is for reading, so no OUT.last\n\
+             is written.\n\n\
+             Example:\n  braid prune examples/T --keep 5,visits.day --out report\n  \
+             braid prune examples/T --keep 1 --keep 3 --full --out whole",
         )
 }
 
 fn renumber() -> Command {
     Command::new("renumber")
         .about("Numbers every column anew, level by level")
-        .arg(path("STEM", "The tree to renumber"))
-        .arg(an_id(option("from", "N", "The first number")).required(true))
-        .arg(some_ids(option("identifiers", "ID,..", "Identifier ids, to be mapped in this order")))
-        .args(out_arguments())
+        .arg(path("IN", "The tree to renumber"))
+        .arg(an_id(option("from", "ID", "The first number")).required(true))
+        .arg(some(many("identifiers", "ID|PATH,..", "Identifiers, to be mapped in this order")))
+        .args(out_arguments(FORCE))
         .after_help(
-            "Prints the last id that was given, and the identifiers' new ids.\n\n\
+            "Prints the last id that was given, and the identifiers' new ids. The old ids mean\n\
+             nothing any more, so the last id begins anew too: OUT.last has the one printed.\n\n\
              Example:\n  braid renumber examples/T --from 100 --identifiers 4,7 --out fresh",
         )
 }
@@ -194,35 +243,40 @@ fn renumber() -> Command {
 fn update() -> Command {
     Command::new("update")
         .about("Drops and adds columns")
-        .arg(path("STEM", "The tree to update"))
-        .arg(
-            an_id(option("last-id", "N", "The last id consumed so far, as the update before said"))
-                .required(true),
-        )
-        .arg(some_ids(option("identifiers", "ID,..", "Identifier ids, which no drop may find")))
+        .arg(path("IN", "The tree to update: IN.rec, IN.names and IN.last"))
+        .arg(an_id(option("last-id", "ID", "The last id consumed so far, else that of IN.last")))
+        .arg(some(many("identifiers", "ID|PATH,..", "Identifiers, which no drop may find")))
         .arg(bytes(many("drop", "PATH", "Drops the column of this name, with all inside it")))
+        .arg(
+            an_id(many("drop-id", "ID,..", "Drops the columns of these ids, with all inside them"))
+                .value_delimiter(',')
+                .allow_hyphen_values(true),
+        )
         .arg(
             many("add", "NAME:CODE", "Adds an optional primitive of this type code")
                 .value_parser(OsStringValueParser::new().try_map(name_and_code)),
         )
         .arg(
-            many("add-tree", "STEM", "Adds each root of this tree; its ids are ignored")
+            many("add-tree", "IN", "Adds each root of this tree; its ids are ignored")
                 .value_parser(value_parser!(PathBuf)),
         )
         .arg(bytes(many("under", "PATH", "The parent of the addition before it; else the root")))
+        .arg(an_id(many("under-id", "ID", "The same by the parent's id")))
         .arg(mark("required", "Makes the --add before it required"))
         .arg(mark("default", "Gives the --add before it an initial default"))
         .arg(
             many("attribute", "N", "The attribute number of the --add before it")
                 .value_parser(value_parser!(u32)),
         )
-        .args(out_arguments())
+        .args(out_arguments(FORCE_LAST))
         .after_help(
             "The order counts: --under belongs to the --add or --add-tree before it; --required,\n\
-             --default and --attribute to the --add before them. Paths are looked up in the tree\n\
-             as it was. The last id is not the largest id present: a dropped id never returns.\n\
-             Prints the new last id, which the next update needs.\n\n\
-             Example:\n  braid update examples/T --last-id 10 --drop node.cost \\\n    \
+             --default and --attribute to the --add before them. Paths are full or short names,\n\
+             looked up in the tree as it was; a path may be a number, so ids have options of\n\
+             their own. The last id is not the largest id present: a dropped id never returns.\n\
+             A --last-id below an id of the tree or below IN.last is not taken without --force.\n\
+             Prints what became of each column, and the new last id, which OUT.last keeps.\n\n\
+             Example:\n  braid update examples/T --drop node.cost --drop-id 7 \\\n    \
              --add cost:3 --under node --add floor:2 --out U",
         )
 }
@@ -231,18 +285,35 @@ fn make() -> Command {
     Command::new("make")
         .about("Makes a tree from a picture, as list prints it")
         .arg(path("PICTURE", "The picture's file, or - for standard input"))
-        .args(out_arguments())
+        .arg(an_id(option("last-id", "ID", "The last id, else the largest id of the picture")))
+        .args(out_arguments(FORCE_LAST))
         .after_help(
             "A picture has a line for each column, two spaces deeper for each level:\n\n  \
              1 visits: list\n    \
              2 element: struct\n      \
              3 day: primitive 4 required\n\n\
-             The kind is primitive with its type code, struct, list or map; then stand what is set\n\
-             of required, default and attribute N. Blank lines and lines that begin with # are\n\
-             skipped. docs/FORMAT.md has the rest, names in quotes among it.\n\n\
+             The kind is primitive with its type code, struct, list or map. With it stand, in any\n\
+             order, what is set of required, default and attribute N. Blank lines and lines that\n\
+             begin with # are skipped. docs/FORMAT.md has the rest, names in quotes among it.\n\
+             A picture has no last id: say it by --last-id, where an id above the largest of the\n\
+             picture was consumed. Prints the last id, which OUT.last keeps.\n\n\
              Example:\n  braid make examples/T.picture --out T\n  \
-             braid list T | sed 's/cost/price/' | braid make - --out U",
+             braid list T | sed 's/cost/price/' | braid make - --last-id 10 --out U",
         )
+}
+
+fn explain() -> Command {
+    let number = value_parser!(u32).try_map(|number| {
+        RefusalKind::from_number(number).map(|_| number).ok_or("no refusal has this number")
+    });
+    Command::new("explain")
+        .about("Tells of a refusal: its rule, an example, its cause and cure")
+        .arg(
+            Arg::new("N")
+                .help("The refusal's number; without it all are listed")
+                .value_parser(number),
+        )
+        .after_help("What it prints stands in docs/REFUSALS.md.\n\nExample:\n  braid explain 17")
 }
 
 fn path(name: &'static str, help: &'static str) -> Arg {
@@ -267,11 +338,12 @@ fn mark(name: &'static str, help: &'static str) -> Arg {
     mark.num_args(0..=1).require_equals(true).default_missing_value("true")
 }
 
-fn out_arguments() -> [Arg; 2] {
-    let out = option("out", "STEM", "Where the answer is written, as STEM.rec and STEM.names");
+fn out_arguments(force: &'static str) -> [Arg; 3] {
+    let out = option("out", "OUT", "Where the answer is written: OUT.rec, OUT.names and OUT.last");
     [
         out.value_parser(value_parser!(PathBuf)).required(true),
-        flag("force", "Overwrites files that are there"),
+        flag("force", force),
+        flag("quiet", "Prints nothing where all is well"),
     ]
 }
 
@@ -280,17 +352,26 @@ fn bytes(arg: Arg) -> Arg {
 }
 
 fn an_id(arg: Arg) -> Arg {
-    arg.value_parser(value_parser!(i32).map(FieldId)).allow_negative_numbers(true)
+    arg.value_parser(value_parser!(FieldId)).allow_negative_numbers(true)
 }
 
-/// A list of ids. With a hyphen in front it is still a list.
-fn some_ids(arg: Arg) -> Arg {
-    let id = |text: &str| text.parse().map(FieldId).map_err(|_| format!("{text:?} is no id"));
-    let parse = move |text: &str| match text {
-        "" => Ok(vec![]),
-        _ => text.split(',').map(id).collect::<Result<Vec<FieldId>, String>>(),
+/// Columns by ids and paths. With a hyphen in front it is still such a list.
+fn some(arg: Arg) -> Arg {
+    let parser = OsStringValueParser::new().try_map(ids_and_paths);
+    arg.value_parser(parser).allow_hyphen_values(true)
+}
+
+fn ids_and_paths(given: OsString) -> Result<Vec<Named>, &'static str> {
+    let named = |part: &[u8]| match std::str::from_utf8(part).ok().and_then(|id| id.parse().ok()) {
+        Some(id) => Ok(Named::Id(id)),
+        None if part.is_empty() => Err("between two commas stands an id or a path"),
+        None if part.starts_with(b"--") => Err("this is an option, and no id or path"),
+        None => Ok(Named::Path(part.to_vec())),
     };
-    arg.value_parser(parse).allow_hyphen_values(true)
+    match given.as_encoded_bytes() {
+        b"" => Ok(vec![]),
+        parts => parts.split(|byte| *byte == b',').map(named).collect(),
+    }
 }
 
 /// A name and a code; the name may have colons of its own.
@@ -307,18 +388,27 @@ fn one<T: Clone + Send + Sync + 'static>(of: &ArgMatches, name: &str) -> T {
     of.get_one::<T>(name).expect("clap asks for it").clone()
 }
 
-fn ids(of: &ArgMatches, name: &str) -> Vec<FieldId> {
-    of.get_one::<Vec<FieldId>>(name).cloned().unwrap_or_default()
+fn named(of: &ArgMatches, name: &str) -> Vec<Named> {
+    of.get_many::<Vec<Named>>(name).unwrap_or_default().flatten().cloned().collect()
 }
 
 fn out(of: &ArgMatches) -> Out {
-    Out { stem: one(of, "out"), force: of.get_flag("force") }
+    let (force, quiet) = (of.get_flag("force"), of.get_flag("quiet"));
+    Out { stem: one(of, "out"), force, quiet }
+}
+
+/// The columns to drop, in the order given.
+fn drops(of: &ArgMatches) -> Vec<Named> {
+    let mut drops = vec![];
+    gather(of, "drop", Named::Path, &mut drops);
+    gather(of, "drop-id", Named::Id, &mut drops);
+    in_order(drops).collect()
 }
 
 /// A word about additions: a new one, or something about the last.
 enum Word {
     New(Added),
-    Under(Vec<u8>),
+    Under(Named),
     Of(Setting),
 }
 
@@ -330,12 +420,14 @@ enum Setting {
 }
 
 /// The additions in the order given, each with the words behind it.
-fn additions(of: &ArgMatches) -> Result<Vec<Addition<Added>>, &'static str> {
-    let mut additions: Vec<Addition<Added>> = vec![];
+fn additions(of: &ArgMatches) -> Result<Vec<Addition<Added, Named>>, &'static str> {
+    let mut additions: Vec<Addition<Added, Named>> = vec![];
     for word in words(of) {
         match (word, additions.last_mut()) {
             (Word::New(what), _) => additions.push(Addition { what, under: None }),
-            (Word::Under(path), Some(Addition { under: under @ None, .. })) => *under = Some(path),
+            (Word::Under(above), Some(Addition { under: under @ None, .. })) => {
+                *under = Some(above);
+            }
             (Word::Under(_), _) => {
                 return Err("each --under needs an --add or --add-tree before it");
             }
@@ -357,21 +449,26 @@ fn words(of: &ArgMatches) -> impl Iterator<Item = Word> {
     let primitive = |(name, code): (Vec<u8>, u32)| Added::Column(Field::primitive(name, code));
     gather(of, "add", |given| Word::New(primitive(given)), &mut words);
     gather(of, "add-tree", |stem| Word::New(Added::Tree(stem)), &mut words);
-    gather(of, "under", Word::Under, &mut words);
+    gather(of, "under", |path| Word::Under(Named::Path(path)), &mut words);
+    gather(of, "under-id", |id| Word::Under(Named::Id(id)), &mut words);
     gather(of, "required", |yes| Word::Of(Setting::Required(yes)), &mut words);
     gather(of, "default", |yes| Word::Of(Setting::Default(yes)), &mut words);
     gather(of, "attribute", |number| Word::Of(Setting::Attribute(number)), &mut words);
-    words.sort_by_key(|(place, _)| *place);
-    words.into_iter().map(|(_, word)| word)
+    in_order(words)
 }
 
 /// Every occurrence of an argument, with its place among the arguments.
-fn gather<T: Clone + Send + Sync + 'static>(
+fn gather<T: Clone + Send + Sync + 'static, W>(
     of: &ArgMatches,
     name: &str,
-    word: impl Fn(T) -> Word,
-    words: &mut Vec<(usize, Word)>,
+    word: impl Fn(T) -> W,
+    words: &mut Vec<(usize, W)>,
 ) {
     let values = of.get_many::<T>(name).unwrap_or_default().cloned().map(word);
     words.extend(of.indices_of(name).unwrap_or_default().zip(values));
+}
+
+fn in_order<W>(mut words: Vec<(usize, W)>) -> impl Iterator<Item = W> {
+    words.sort_by_key(|(place, _)| *place);
+    words.into_iter().map(|(_, word)| word)
 }

@@ -1,16 +1,20 @@
 //! What each subcommand does: read, ask the library, write, and say what people need to know.
 
-use std::fs::File;
+use std::fs::{self, File};
 use std::io::{self, IsTerminal, Read};
-use std::path::Path;
+use std::path::{Path, PathBuf};
 
-use braidhurdle::files::{FileFault, Over, Stored, Why};
+use braidhurdle::files::{ENDINGS, FileFault, Over, Stored, Why, with_ending};
 use braidhurdle::layout::RECORD_BYTES;
-use braidhurdle::{Columns, Field, FieldId, Mode, Overlong, Request, Slot, Tree, names};
+use braidhurdle::names::{quoted, shown};
+use braidhurdle::{Columns, Field, FieldId, Mode, Overlong, Request, Slot, Tree};
 
-use crate::arguments::{Added, Addition, Ask, Of, Out};
+use crate::arguments::{Added, Addition, Ask, Named, Of, Out};
+use crate::changes::{self, Changes};
+use crate::last::{self, Last};
+use crate::outline::told;
 use crate::words::{Asked, Given};
-use crate::{Fault, picture};
+use crate::{Fault, explain, names, near, picture, streams};
 
 /// More bytes than the picture of 1,024 columns needs.
 const MOST_PICTURE: u64 = 1 << 22;
@@ -18,24 +22,39 @@ const MOST_PICTURE: u64 = 1 << 22;
 /// The answer, as it is printed.
 pub fn answer(ask: Ask) -> Result<Vec<u8>, Fault> {
     let (stem, of) = match ask {
-        Ask::Make { picture, out } => return make(&picture, &out),
+        Ask::Explain(number) => return Ok(explain::told(number).into()),
+        Ask::Make { picture, last_id, out } => return make(&picture, last_id, &out),
         Ask::Of(stem, of) => (stem, of),
     };
-    let tree = read(&stem)?;
+    // who does not ask for the last id is not kept up by a file that holds none
+    let stored = match of {
+        Of::Check | Of::Update { .. } => Stored::read(&stem),
+        _ => Tree::read(&stem).map(|tree| Stored { tree, last_id: None }),
+    };
+    let Stored { tree, last_id: kept } = stored.map_err(of_file)?;
     let given = Given::new(&stem, &tree);
     match of {
         Of::List { plain } => list(&given, plain),
-        Of::Check => check(&given),
-        Of::FindName(name) => find_name(&given, &name),
-        Of::FindId(id) => find_id(&given, id),
+        Of::Check => check(&given, kept),
+        Of::Find(Named::Path(name)) => found(&given, by_name(&given, &name)?),
+        Of::Find(Named::Id(id)) => found(&given, by_id(&given, id)?),
         Of::Parent(id) => parent(&given, id),
         Of::Prune { keep, full, out } => prune(given, &keep, full, &out),
         Of::Renumber { from, identifiers, out } => renumber(given, from, &identifiers, &out),
         Of::Update { last_id, identifiers, drop, add, out } => {
-            let added = added(add)?;
-            let request = request(last_id, &identifiers, &drop, &added).map_err(overlong)?;
-            let ask = Asked::Update { dropped: &drop, added: &added, request: &request };
-            update(Given { identifiers: &identifiers, ask, ..given }, &request, &out)
+            let Last { id: last_id, note } = last::of_update(&given, last_id, kept, out.force)?;
+            let identifiers = ids(&given, &identifiers)?;
+            let dropped = drop.into_iter().map(|column| path(&given, column));
+            let dropped = dropped.collect::<Result<Vec<_>, _>>()?;
+            let added = added(&given, add)?;
+            let asked = changes::Asked { last_id, dropped: &dropped, added: &added };
+            let request = request(&identifiers, asked).map_err(overlong)?;
+            let ask = Asked::Update { asked, request: &request };
+            let given = Given { identifiers: &identifiers, ask, ..given };
+            let answer = given.tree.update(&request).map_err(|why| given.refused(why))?;
+            let lines = Changes::of(&tree, asked).map(|changes| changes.lines());
+            let said = format!("{note}{}last id {}\n", lines.unwrap_or_default(), answer.last_id);
+            write(answer.into(), &out, said)
         }
     }
 }
@@ -54,93 +73,132 @@ fn lines(columns: Columns) -> Vec<u8> {
         let parent = column.parent.map_or("-".into(), |(id, _)| id.to_string());
         lines.extend(format!("{} {} {parent} ", column.slot, column.id).bytes());
         let name = column.full_name();
-        lines.extend(if escaped { names::shown(&name).into() } else { name });
+        lines.extend(if escaped { shown(&name).into() } else { name });
         lines.push(b'\n');
     }
     lines
 }
 
-fn check(given: &Given) -> Result<Vec<u8>, Fault> {
+fn check(given: &Given, kept: Option<FieldId>) -> Result<Vec<u8>, Fault> {
     given.tree.check().map_err(|why| given.refused(why))?;
     let (records, names) = (records(given.tree), given.tree.pool.len());
-    Ok(format!("accepted: {records} records, {names} name bytes\n").into())
+    let accepted = format!("accepted: {records} records, {names} name bytes");
+    let file = last::file(given);
+    let last = match kept {
+        Some(last) => {
+            if let Some(above) = last::above(given.tree, last) {
+                return Err(Fault::Given(format!("{file}: the last id {last} is below {above}")));
+            }
+            format!("last id {last}")
+        }
+        None => format!("no last id: {file} is not there"),
+    };
+    Ok(format!("{accepted}\n{last}\n").into())
 }
 
-fn find_name(given: &Given, name: &[u8]) -> Result<Vec<u8>, Fault> {
+fn by_name(given: &Given, name: &[u8]) -> Result<Slot, Fault> {
     match given.tree.find_name(name).map_err(|why| given.refused(why))? {
-        Some((_, slot)) => column(given, slot),
-        None => Err(Fault::Nothing(format!("no column is named {}", names::quoted(name)))),
+        Some((_, slot)) => Ok(slot),
+        None => {
+            let near = near::question(given.tree, name);
+            Err(Fault::Nothing(format!("no column is named {}{near}", quoted(name))))
+        }
     }
 }
 
-fn find_id(given: &Given, id: FieldId) -> Result<Vec<u8>, Fault> {
-    match given.tree.find_id(id).map_err(|why| given.refused(why))? {
-        Some(slot) => column(given, slot),
-        None => Err(Fault::Nothing(format!("no column has id {id}"))),
-    }
+fn by_id(given: &Given, id: FieldId) -> Result<Slot, Fault> {
+    let found = given.tree.find_id(id).map_err(|why| given.refused(why))?;
+    found.ok_or_else(|| Fault::Nothing(format!("no column has id {id}")))
 }
 
 fn parent(given: &Given, id: FieldId) -> Result<Vec<u8>, Fault> {
     match given.tree.find_parent(id).map_err(|why| given.refused(why))? {
-        Some((_, slot)) => column(given, slot),
+        Some((_, slot)) => found(given, slot),
         // an unknown id says so itself
         None => {
-            find_id(given, id).and_then(|_| Err(Fault::Nothing(format!("column {id} is a root"))))
+            by_id(given, id).and_then(|_| Err(Fault::Nothing(format!("column {id} is a root"))))
         }
     }
 }
 
 /// A column that was found: id, slot, full name.
-fn column(given: &Given, slot: Slot) -> Result<Vec<u8>, Fault> {
-    let column = given.tree.column(slot).map_err(|why| given.refused(why))?;
-    let column = column.expect("a slot that was found");
-    let name = names::shown(&column.full_name());
-    Ok(format!("id {} slot {slot} {name}\n", column.id).into())
+fn found(given: &Given, slot: Slot) -> Result<Vec<u8>, Fault> {
+    let (id, name) = column(given, slot)?;
+    Ok(format!("{}\n", told(id, slot.0 as usize, &name)).into())
 }
 
-fn prune(given: Given, keep: &[FieldId], full: bool, out: &Out) -> Result<Vec<u8>, Fault> {
+/// The id and the full name of a column that was found.
+fn column(given: &Given, slot: Slot) -> Result<(FieldId, Vec<u8>), Fault> {
+    let column = given.tree.column(slot).map_err(|why| given.refused(why))?;
+    let column = column.expect("a slot that was found");
+    Ok((column.id, column.full_name()))
+}
+
+/// The ids of columns. One that is given as an id need not be there; a name must.
+fn ids(given: &Given, columns: &[Named]) -> Result<Vec<FieldId>, Fault> {
+    let id = |named: &Named| match named {
+        Named::Id(id) => Ok(*id),
+        Named::Path(path) => Ok(column(given, by_name(given, path)?)?.0),
+    };
+    columns.iter().map(id).collect()
+}
+
+/// The path of a column. One that is given as a path need not be there; an id must, and its full
+/// name finds it alone.
+fn path(given: &Given, named: Named) -> Result<Vec<u8>, Fault> {
+    match named {
+        Named::Path(path) => Ok(path),
+        Named::Id(id) => Ok(column(given, by_id(given, id)?)?.1),
+    }
+}
+
+fn prune(given: Given, keep: &[Named], full: bool, out: &Out) -> Result<Vec<u8>, Fault> {
     let mode = if full { Mode::Full } else { Mode::Plain };
+    let mut keep = ids(&given, keep)?;
     let given = Given { ask: Asked::Prune { chosen: keep.len() }, ..given };
-    let tree = given.tree.prune(keep, mode).map_err(|why| given.refused(why))?;
-    let said = format!("kept {} of {} records\n", records(&tree), records(given.tree));
-    write(tree, out)?;
-    Ok(said.into())
+    let tree = given.tree.prune(&keep, mode).map_err(|why| given.refused(why))?;
+    keep.sort();
+    keep.dedup();
+    let mut said = String::new();
+    for id in keep.iter().filter(|id| given.tree.find_id(**id) == Ok(None)) {
+        said += &format!("not in {}: id {id}\n", names::file(given.stem));
+    }
+    said += &format!("kept {} of {} records\n", records(&tree), records(given.tree));
+    // an update of a part would hand out ids that the whole hands out too
+    write(Stored { tree, last_id: None }, out, said)
 }
 
 fn renumber(
     given: Given,
     from: FieldId,
-    identifiers: &[FieldId],
+    identifiers: &[Named],
     out: &Out,
 ) -> Result<Vec<u8>, Fault> {
+    let identifiers = &ids(&given, identifiers)?;
     let given = Given { identifiers, ask: Asked::Renumber { from }, ..given };
     let answer = given.tree.renumber(from, identifiers).map_err(|why| given.refused(why))?;
-    let mut said = String::new();
-    if let Some(last) = answer.tree.columns().into_iter().flatten().map(|column| column.id).max() {
-        said += &format!("last id {last}\n");
-    }
+    // of no column at all the next id is still the first number, where there is one below it
+    let last_id = last::largest(&answer.tree).unwrap_or(FieldId(from.0.saturating_sub(1)));
+    let mut said = format!("last id {last_id}\n");
     if !identifiers.is_empty() {
         let ids: Vec<String> = answer.identifiers.iter().map(FieldId::to_string).collect();
         said += &format!("identifiers {}\n", ids.join(","));
     }
-    write(answer.tree, out)?;
-    Ok(said.into())
-}
-
-fn update(given: Given, request: &Request, out: &Out) -> Result<Vec<u8>, Fault> {
-    let answer = given.tree.update(request).map_err(|why| given.refused(why))?;
-    write(answer.tree, out)?;
-    Ok(format!("last id {}\n", answer.last_id).into())
+    write(Stored { tree: answer.tree, last_id: Some(last_id) }, out, said)
 }
 
 /// Each column to add. A tree of several roots is several additions.
-fn added(additions: Vec<Addition<Added>>) -> Result<Vec<Addition<Field>>, Fault> {
+fn added(
+    given: &Given,
+    additions: Vec<Addition<Added, Named>>,
+) -> Result<Vec<Addition<Field>>, Fault> {
     let mut added = vec![];
     for Addition { what, under } in additions {
+        let under = under.map(|above| path(given, above)).transpose()?;
         match what {
             Added::Column(what) => added.push(Addition { what, under }),
             Added::Tree(stem) => {
-                let tree = read(&stem)?;
+                let tree = Tree::read(&stem).map_err(of_file)?;
                 let roots = tree.fields().map_err(|why| Given::new(&stem, &tree).refused(why))?;
                 let add = |what| Addition { what, under: under.clone() };
                 added.extend(roots.into_iter().map(add));
@@ -150,17 +208,12 @@ fn added(additions: Vec<Addition<Added>>) -> Result<Vec<Addition<Field>>, Fault>
     Ok(added)
 }
 
-fn request(
-    last_id: FieldId,
-    identifiers: &[FieldId],
-    drop: &[Vec<u8>],
-    added: &[Addition<Field>],
-) -> Result<Request, Overlong> {
-    let mut request = Request::new(last_id).identifiers(identifiers);
-    for path in drop {
+fn request(identifiers: &[FieldId], asked: changes::Asked) -> Result<Request, Overlong> {
+    let mut request = Request::new(asked.last_id).identifiers(identifiers);
+    for path in asked.dropped {
         request = request.drop(path)?;
     }
-    for Addition { what, under } in added {
+    for Addition { what, under } in asked.added {
         request = match under {
             Some(path) => request.add_under(path, what.clone())?,
             None => request.add(what.clone())?,
@@ -169,10 +222,11 @@ fn request(
     Ok(request)
 }
 
-fn make(picture: &Path, out: &Out) -> Result<Vec<u8>, Fault> {
-    let fault = |why: String| Fault::Given(format!("{}: {why}", picture.display()));
+fn make(picture: &Path, last_id: Option<FieldId>, out: &Out) -> Result<Vec<u8>, Fault> {
+    let fault = |why: String| Fault::Given(format!("{}: {why}", names::picture(picture)));
     let mut text = vec![];
     let file: io::Result<Box<dyn Read>> = match picture.to_str() {
+        Some("-") if streams::no_input() => return Err(fault("closed".into())),
         Some("-") => Ok(Box::new(io::stdin())),
         _ => File::open(picture).map(|file| Box::new(file) as Box<dyn Read>),
     };
@@ -181,12 +235,20 @@ fn make(picture: &Path, out: &Out) -> Result<Vec<u8>, Fault> {
     if text.len() as u64 > MOST_PICTURE {
         return Err(fault(format!("longer than {MOST_PICTURE} bytes")));
     }
-    let text = String::from_utf8(text).map_err(|why| fault(why.to_string()))?;
-    let roots = picture::read(&text).map_err(fault)?;
+    let text = String::from_utf8(text).map_err(|why| fault(no_text(&why)))?;
+    let picture::Picture { roots, lines } = picture::read(&text).map_err(fault)?;
     let tree = Tree::build(&roots).map_err(overlong)?;
-    tree.check().map_err(|why| Given::new(picture, &tree).refused(why))?;
-    write(tree, out)?;
-    Ok(vec![])
+    let given = Given { lines: Some(&lines), ..Given::new(picture, &tree) };
+    tree.check().map_err(|why| given.refused(why))?;
+    let Last { id, note } = last::of_made(&tree, last_id, out.force)?;
+    write(Stored { tree, last_id: Some(id) }, out, format!("{note}last id {id}\n"))
+}
+
+/// Why bytes are no text, with the line.
+fn no_text(why: &std::string::FromUtf8Error) -> String {
+    let before = &why.as_bytes()[..why.utf8_error().valid_up_to()];
+    let line = 1 + before.iter().filter(|byte| **byte == b'\n').count();
+    format!("line {line}: {}", why.utf8_error())
 }
 
 /// How many whole records a tree has.
@@ -198,21 +260,28 @@ fn overlong(why: Overlong) -> Fault {
     Fault::Given(why.to_string())
 }
 
-/// The tree of a stem.
-fn read(stem: &Path) -> Result<Tree, Fault> {
-    Stored::read(stem).map(|stored| stored.tree).map_err(of_file)
-}
-
-fn write(tree: Tree, out: &Out) -> Result<(), Fault> {
+/// Writes a tree, and says what happened.
+fn write(stored: Stored, out: &Out, mut said: String) -> Result<Vec<u8>, Fault> {
     let over = if out.force { Over::Files } else { Over::Nothing };
-    Stored { tree, last_id: None }.write(&out.stem, over).map_err(of_file)
+    let links: Vec<PathBuf> = ENDINGS
+        .map(|ending| with_ending(&out.stem, ending))
+        .into_iter()
+        .filter(|file| fs::read_link(file).is_ok())
+        .collect();
+    stored.write(&out.stem, over).map_err(of_file)?;
+    for link in links {
+        said += &format!("{} was a link, and what it led to is as it was\n", names::file(&link));
+    }
+    Ok(if out.quiet { vec![] } else { said.into() })
 }
 
-fn of_file(fault: FileFault) -> Fault {
-    let hint = match fault.why {
-        Why::Missing => "; a tree is named by the common stem of its two files",
-        Why::AlreadyThere => "; --force overwrites files",
+fn of_file(FileFault { file, why }: FileFault) -> Fault {
+    let hint = match why {
+        Why::Missing => "; a tree is named by the common stem of its files",
+        Why::AlreadyThere => "; --force replaces files",
+        Why::NoFile => "; --force replaces files and links alone",
+        Why::NoName => "; DIR/T is one",
         _ => "",
     };
-    Fault::Given(format!("{fault}{hint}"))
+    Fault::Given(format!("{}: {why}{hint}", names::file(&file)))
 }

@@ -2,13 +2,25 @@
 //! files. Every answer is the proved library's.
 
 mod arguments;
+mod changes;
 mod commands;
+mod explain;
+mod last;
+mod limits;
 mod names;
+mod near;
+mod outline;
 mod picture;
+mod rules;
+mod streams;
+#[cfg(test)]
+mod tests;
 mod words;
 
 use std::io::{self, ErrorKind, Write};
 use std::process::ExitCode;
+
+use braidhurdle::names::printed;
 
 /// Why there is no answer, in words.
 enum Fault {
@@ -18,12 +30,18 @@ enum Fault {
     Refused(String),
     /// A file, a picture or an argument is not as it should be.
     Given(String),
+    /// There is an answer, and nowhere to print it.
+    Unsaid(String),
 }
 
 fn main() -> ExitCode {
     let answer = match arguments::given() {
+        Ok(ask) if streams::no_output() && !ask.quiet() => {
+            Err(Fault::Unsaid("standard output is closed; nothing is done without --quiet".into()))
+        }
         Ok(ask) => commands::answer(ask),
         Err(said) if said.use_stderr() => Err(Fault::Given(said.render().to_string())),
+        Err(_) if streams::no_output() => Err(Fault::Unsaid("standard output is closed".into())),
         Err(help) => Ok(help.render().to_string().into_bytes()),
     };
     let fault = match answer.and_then(|text| say(&text)) {
@@ -34,9 +52,12 @@ fn main() -> ExitCode {
         Fault::Nothing(why) => (1, why),
         Fault::Refused(why) => (2, why),
         Fault::Given(why) => (3, why),
+        Fault::Unsaid(why) => (4, why),
     };
+    // clap repeats arguments as they are, and a terminal would obey them
+    let lines: Vec<String> = why.trim_end().lines().map(|line| printed(line.as_bytes())).collect();
     // where nobody listens the status still tells
-    let _ = writeln!(io::stderr(), "{}", why.trim_end());
+    let _ = writeln!(io::stderr(), "{}", lines.join("\n"));
     status.into()
 }
 
@@ -45,7 +66,7 @@ fn say(text: &[u8]) -> Result<(), Fault> {
     let mut out = io::stdout().lock();
     match out.write_all(text).and_then(|()| out.flush()) {
         Err(why) if why.kind() != ErrorKind::BrokenPipe => {
-            Err(Fault::Given(format!("standard output: {why}")))
+            Err(Fault::Unsaid(format!("standard output: {why}")))
         }
         _ => Ok(()),
     }

@@ -1,6 +1,18 @@
-//! Names as they are read. The library shows them.
+//! Names as people write them, and files as they are named to people.
 
-use braidhurdle::names::shown;
+use std::path::Path;
+
+use braidhurdle::names::{printed, shown};
+
+/// A file's name for people. It may hold what a terminal would obey.
+pub fn file(path: &Path) -> String {
+    printed(path.as_os_str().as_encoded_bytes())
+}
+
+/// A picture's file for people.
+pub fn picture(path: &Path) -> String {
+    if path == Path::new("-") { "standard input".into() } else { file(path) }
+}
 
 /// The name at the start of a text, as [`shown`] has it, and the text behind it.
 pub fn read(text: &str) -> Result<(Vec<u8>, &str), String> {
@@ -9,8 +21,11 @@ pub fn read(text: &str) -> Result<(Vec<u8>, &str), String> {
             "a name in quotes ends with a quote, and has the escapes \\\" \\\\ \\x00".into(),
         );
     }
-    let end = text.find(':').ok_or("no colon behind the name")?;
-    let (name, rest) = text.split_at(end);
+    if text.is_empty() {
+        return Err("no name behind the id".into());
+    }
+    let (name, rest) = text.split_at(text.find(':').ok_or("no colon behind the name")?);
+    let name = name.trim_end_matches(' ');
     match shown(name.as_bytes()) {
         same if same == name => Ok((name.into(), rest)),
         other => Err(format!("this name must be written {other}")),

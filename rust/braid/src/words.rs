@@ -1,18 +1,23 @@
-//! A refusal in words: number, list and place, what it means, and what stands there.
+//! A refusal in words: number, list and place, what it means, which column it speaks of and why,
+//! and what to do. The numbers are the library's; what it does not tell is looked up here.
 
 use std::path::Path;
 
-use braidhurdle::layout::{NAME_ROOM, RECORD_BYTES, RECORD_ROOM, Record};
+use braidhurdle::layout::{MOST_LEVELS, RECORD_BYTES, Record};
 use braidhurdle::names::quoted;
-use braidhurdle::{Field, FieldId, Refusal, Request, Tree};
+use braidhurdle::{Column, Field, FieldId, Kind, Refusal, Request, Tree};
 
-use crate::Fault;
 use crate::arguments::Addition;
+use crate::changes::{self, Changes, receiver};
+use crate::outline::{Outline, told};
+use crate::{Fault, explain, limits, names, near, rules};
 
 /// What the library was given.
 pub struct Given<'a> {
     pub stem: &'a Path,
     pub tree: &'a Tree,
+    /// The line of each column, where the tree comes from a picture.
+    pub lines: Option<&'a [usize]>,
     pub identifiers: &'a [FieldId],
     pub ask: Asked<'a>,
 }
@@ -22,101 +27,224 @@ pub enum Asked<'a> {
     LookUp,
     Prune { chosen: usize },
     Renumber { from: FieldId },
-    Update { dropped: &'a [Vec<u8>], added: &'a [Addition<Field>], request: &'a Request },
+    Update { asked: changes::Asked<'a>, request: &'a Request },
 }
 
 impl<'a> Given<'a> {
     /// A tree alone.
     pub fn new(stem: &'a Path, tree: &'a Tree) -> Given<'a> {
-        Given { stem, tree, identifiers: &[], ask: Asked::LookUp }
+        Given { stem, tree, lines: None, identifiers: &[], ask: Asked::LookUp }
     }
 
     /// The refusal in words.
     pub fn refused(&self, refusal: Refusal) -> Fault {
         let Refusal { number, list, place } = refusal;
         let (meaning, stands) = (refusal.meaning(), self.stands(refusal));
-        Fault::Refused(format!("refused {number} at {list} {place}: {meaning}: {stands}"))
+        let cure = explain::cure(number);
+        Fault::Refused(format!(
+            "refused {number} at {list} {place}: {meaning}: {stands}\n{cure}\n\
+             `braid explain {number}` tells more."
+        ))
+    }
+
+    /// Where the tree comes from.
+    pub fn from(&self) -> String {
+        match self.lines {
+            Some(_) => names::picture(self.stem),
+            None => names::file(self.stem),
+        }
     }
 
     fn stands(&self, refusal: Refusal) -> String {
         let place = refusal.place as usize;
-        let Tree { records, pool } = self.tree;
         match (refusal.number, refusal.list, &self.ask) {
-            (2 | 19, ..) => self.sizes(),
+            (2, ..) => limits::passed(self).join("; "),
+            (9, ..) => self.identifier(place),
             (18, 0, Asked::Renumber { from }) => {
-                format!("{} records from {from}", records.len() / RECORD_BYTES)
+                format!("{} records from {from}", self.tree.records.len() / RECORD_BYTES)
             }
-            (number, 0, _) => {
-                format!("{}, {}", self.stem.display(), record(number, place, records, pool))
-            }
-            (number, 1, Asked::Update { request, .. }) => {
-                record(number, place, &request.added_records, &request.pool)
-            }
-            (_, 2, Asked::Update { dropped, .. }) => {
-                format!("deletion {place}, path {}", quoted(&dropped[place]))
-            }
-            (_, 3, Asked::Update { added, .. }) => addition(place, &added[place]),
-            (_, 5, _) => format!("identifier {place}, id {}", self.identifiers[place]),
-            _ => format!("record {place} of the rebuilt tree"),
+            (number, 0, _) => self.record(number, place),
+            (11 | 12, _, Asked::Update { asked, .. }) => self.deletion(place, asked.dropped),
+            (number, 3, Asked::Update { asked, .. }) => self.addition(number, place, asked),
+            (number, 4, Asked::Update { asked, .. }) => self
+                .rebuilt(number, place, asked)
+                .unwrap_or_else(|| format!("record {place} of the rebuilt tree")),
+            _ => format!("{}, place {place}", refusal.list_name()),
         }
     }
 
-    /// For 2 and 19, which tell no place: the size of everything that has a limit.
-    fn sizes(&self) -> String {
-        let Tree { records, pool } = self.tree;
-        let (records, pool) = (records.len(), pool.len());
-        let more = |size: usize, most: usize| if size > most { "more than " } else { "" };
-        let mut sizes = format!(
-            "{}, {}{} record bytes, {}{} name bytes",
-            self.stem.display(),
-            more(records, RECORD_ROOM),
-            records.min(RECORD_ROOM),
-            more(pool, NAME_ROOM),
-            pool.min(NAME_ROOM),
-        );
-        match &self.ask {
-            Asked::LookUp => {}
-            Asked::Prune { chosen } => sizes += &format!("; {chosen} chosen ids"),
-            Asked::Renumber { .. } => sizes += &format!("; {} identifiers", self.identifiers.len()),
-            Asked::Update { dropped, added, request } => {
-                sizes += &format!(
-                    "; {} deletions, {} additions of {} record bytes, {} bytes of paths and new \
-                     names, {} identifiers",
-                    dropped.len(),
-                    added.len(),
-                    request.added_records.len(),
-                    request.pool.len(),
-                    self.identifiers.len(),
-                );
+    /// The record at a place, and what is the matter with it.
+    fn record(&self, number: u32, place: usize) -> String {
+        let outline = Outline::of(self.tree);
+        let Some(row) = outline.0.get(place) else { return self.counts(&outline) };
+        let why = match number {
+            3 => format!(": {}", self.broken(row.bytes)),
+            4 => {
+                let Record { offset, length, .. } = row.record;
+                let (end, pool) = (u64::from(offset) + u64::from(length), self.tree.pool.len());
+                format!(": its name ends at byte {end} of the pool, which has {pool}")
             }
+            5 => format!(": it stands at level {} of at most {MOST_LEVELS}", row.level),
+            6 => format!(": {}", rules::label(&outline, place)),
+            7 | 8 => match outline.equal(number, place) {
+                Some(earlier) => format!(", and before it {}", self.spot(&outline, earlier)),
+                None => String::new(),
+            },
+            20 => format!(", a {}", rules::kind(row.record)),
+            _ => String::new(),
+        };
+        self.at(&outline, place) + &why
+    }
+
+    /// A record with where it stands: in which files, or in which line of a picture.
+    fn at(&self, outline: &Outline, slot: usize) -> String {
+        let between = if self.lines.is_some() { "," } else { ":" };
+        format!("{}{between} {}", self.from(), self.spot(outline, slot))
+    }
+
+    fn spot(&self, outline: &Outline, slot: usize) -> String {
+        match self.lines {
+            Some(lines) => format!("line {}: {}", lines[slot], outline.told(slot)),
+            None => outline.told(slot),
         }
-        sizes
+    }
+
+    /// Whose children are missing.
+    fn counts(&self, outline: &Outline) -> String {
+        let waits = |slot: &usize| outline.0[*slot].missing > 0;
+        let words = |slot: usize| {
+            let counted = outline.0[slot].record.children;
+            let there = counted - outline.0[slot].missing;
+            format!("{} counts {counted} below it, and there are {there}", self.at(outline, slot))
+        };
+        (0..outline.0.len()).filter(waits).map(words).collect::<Vec<_>>().join("; ")
+    }
+
+    /// The byte rule that a record breaks, with the bytes; the lines of a picture have none.
+    fn broken(&self, bytes: &[u8; RECORD_BYTES]) -> String {
+        let (at, rule) = rules::broken(bytes);
+        let shown: Vec<String> =
+            bytes[at.clone()].iter().map(|byte| format!("{byte:02x}")).collect();
+        match self.lines {
+            Some(_) => rule,
+            None if at.len() == 1 => format!("{rule}; byte {} is {}", at.start, shown.concat()),
+            None => format!("{rule}; bytes {} to {} are {}", at.start, at.end - 1, shown.join(" ")),
+        }
+    }
+
+    fn identifier(&self, place: usize) -> String {
+        let id = self.identifiers[place];
+        match self.tree.find_id(id) {
+            Ok(Some(slot)) => match self.deletion_of(slot.0 as usize) {
+                Some(words) => format!("identifier {place}, {words}"),
+                None => format!("identifier {place}, id {id}"),
+            },
+            _ => format!("identifier {place}, id {id}: no column of {} has it", self.from()),
+        }
+    }
+
+    /// A column, and the deletion that takes it away.
+    fn deletion_of(&self, slot: usize) -> Option<String> {
+        let Asked::Update { asked, .. } = self.ask else { return None };
+        let changes = Changes::of(self.tree, asked)?;
+        let outer = changes.taken_by(slot)?;
+        let drop = changes.drops.iter().position(|drop| *drop == outer)?;
+        let outline = Outline::of(self.tree);
+        let (column, outer) = (outline.told(slot), outline.told(outer));
+        Some(format!("{column}: it goes with {outer}, which deletion {drop} drops"))
+    }
+
+    fn deletion(&self, place: usize, dropped: &[Vec<u8>]) -> String {
+        let words = format!("deletion {place}, path {}", quoted(&dropped[place]));
+        match self.found(&dropped[place]) {
+            Some(column) => format!("{words}: {}{}", told_of(&column), self.as_identifier(&column)),
+            None => words + &near::question(self.tree, &dropped[place]),
+        }
+    }
+
+    /// Which identifier a column is, if it is one.
+    fn as_identifier(&self, column: &Column) -> String {
+        match self.identifiers.iter().position(|id| *id == column.id) {
+            Some(which) => format!(", which is identifier {which}"),
+            None => String::new(),
+        }
+    }
+
+    fn addition(&self, number: u32, place: usize, asked: &changes::Asked) -> String {
+        let Addition { what, under } = &asked.added[place];
+        let name = quoted(&what.name);
+        let parent = under.as_ref().and_then(|path| self.found(path));
+        let why = match (number, parent) {
+            (15, _) => self.no_parent(under.as_deref().unwrap_or_default(), asked.added),
+            (16, Some(parent)) => format!(": {}, a {}", told_of(&parent), self.kinds(&parent)),
+            (17, parent) => match self.taken(parent, &what.name) {
+                Some(column) => format!(": so is named {}", told_of(&column)),
+                None => String::new(),
+            },
+            (18, _) => {
+                let new: usize =
+                    asked.added[..=place].iter().map(|a| limits::columns(&a.what)).sum();
+                format!(": new ids up to it: {new}; the last id: {}", asked.last_id)
+            }
+            _ => String::new(),
+        };
+        match under {
+            Some(path) => format!("addition {place}, {name} under {}{why}", quoted(path)),
+            None => format!("addition {place}, {name} at the root{why}"),
+        }
+    }
+
+    /// Why there is no parent of this path.
+    fn no_parent(&self, path: &[u8], added: &[Addition<Field>]) -> String {
+        if added.iter().any(|addition| addition.what.name == path) {
+            ": this update adds it, and paths are looked up in the tree as it was".into()
+        } else {
+            near::question(self.tree, path)
+        }
+    }
+
+    /// The column that has the name of an addition already, under this parent or at the root.
+    fn taken(&self, parent: Option<Column>, name: &[u8]) -> Option<Column<'a>> {
+        let Some(parent) = parent else { return self.found(name) };
+        let columns: Vec<Column> = self.tree.columns().ok()?.collect();
+        let above = receiver(&columns, parent.slot.0 as usize)?;
+        let is_in = |column: &Column| column.parent.is_some_and(|(_, p)| p.0 as usize == above);
+        columns.into_iter().find(|column| column.name == name && is_in(column))
+    }
+
+    /// The kind of a column, and of what is in a list or map.
+    fn kinds(&self, column: &Column) -> String {
+        let outline = Outline::of(self.tree);
+        let slot = Some(column.slot.0 as usize);
+        match outline.0.iter().rev().find(|row| row.above == slot) {
+            Some(child) if column.kind != Kind::Struct => {
+                format!("{} of {} columns", column.kind, rules::kind(child.record))
+            }
+            _ => column.kind.to_string(),
+        }
+    }
+
+    /// What is refused of the rebuilt tree, which is built here once more to be told.
+    fn rebuilt(&self, number: u32, place: usize, asked: &changes::Asked) -> Option<String> {
+        let tree = Tree::build(&Changes::of(self.tree, *asked)?.rebuilt()).ok()?;
+        let outline = Outline::of(&tree);
+        if number == 19 {
+            return Some(limits::of_tree("the rebuilt tree", &outline).join("; "));
+        }
+        let (column, earlier) = (outline.told(place), outline.told(outline.equal(number, place)?));
+        let last = match number {
+            7 => format!("; the last id {} is below it", asked.last_id),
+            _ => String::new(),
+        };
+        Some(format!("{column}, and before it {earlier}{last}"))
+    }
+
+    /// The column that a path finds.
+    fn found(&self, path: &[u8]) -> Option<Column<'a>> {
+        self.tree.column_by_name(path).ok()?
     }
 }
 
-/// The record at a place, in a tree that was refused.
-fn record(number: u32, place: usize, records: &[u8], pool: &[u8]) -> String {
-    let Some(bytes) = records.chunks_exact(RECORD_BYTES).nth(place) else {
-        return format!("behind the last of {place} records");
-    };
-    let record = Record::read(bytes.first_chunk().expect("a record's bytes"));
-    let Record { id, offset, length, .. } = record;
-    let name = match record.name(pool) {
-        Some(name) => quoted(name),
-        None => format!("of {length} bytes at {offset} in a pool of {}", pool.len()),
-    };
-    let mut words = format!("record {place}, id {id}, name {name}");
-    if number == 3 {
-        words += ", bytes";
-        bytes.iter().for_each(|byte| words += &format!(" {byte:02x}"));
-    }
-    words
-}
-
-fn addition(place: usize, Addition { what, under }: &Addition<Field>) -> String {
-    let name = quoted(&what.name);
-    match under {
-        Some(path) => format!("addition {place}, {name} under {}", quoted(path)),
-        None => format!("addition {place}, {name} at the root"),
-    }
+fn told_of(column: &Column) -> String {
+    told(column.id, column.slot.0 as usize, &column.full_name())
 }

@@ -34,7 +34,7 @@ use crate::{FieldId, Tree, Updated};
 
 /// The endings, in the order in which the files are put in place. The last id comes behind the
 /// tree, so at no moment does it stand beside another one.
-const ENDINGS: [&str; 3] = ["rec", "names", "last"];
+pub const ENDINGS: [&str; 3] = ["rec", "names", "last"];
 
 /// The length of the longest last id, with its newline.
 const MOST_LAST: usize = "-2147483648\n".len();
@@ -86,17 +86,29 @@ pub enum Why {
     System(io::Error),
 }
 
+impl Tree {
+    /// The tree of a stem, whatever its last id. Of a file that is longer than a tree's may be, one
+    /// byte more than that is read, so that whatever is asked of the tree is refused with 2.
+    ///
+    /// # Errors
+    ///
+    /// The file that is missing or can't be read.
+    pub fn read(stem: impl AsRef<Path>) -> Result<Tree, FileFault> {
+        let [records, names, _] = ENDINGS.map(|ending| with_ending(stem.as_ref(), ending));
+        Ok(Tree::new(front(&records, RECORD_ROOM)?, front(&names, NAME_ROOM)?))
+    }
+}
+
 impl Stored {
-    /// What the files of a stem hold. Of a file that is longer than a tree's may be, one byte
-    /// more than that is read, so that whatever is asked of the tree is refused with 2.
+    /// What the files of a stem hold: the tree, as [`Tree::read`] reads it, and its last id.
     ///
     /// # Errors
     ///
     /// The file that is missing or can't be read; `STEM.last` if it holds no last id. A missing
     /// `STEM.last` is none.
     pub fn read(stem: impl AsRef<Path>) -> Result<Stored, FileFault> {
-        let [records, names, last] = ENDINGS.map(|ending| with_ending(stem.as_ref(), ending));
-        let tree = Tree::new(front(&records, RECORD_ROOM)?, front(&names, NAME_ROOM)?);
+        let tree = Tree::read(&stem)?;
+        let last = with_ending(stem.as_ref(), ENDINGS[2]);
         let last_id = match front(&last, MOST_LAST) {
             Ok(bytes) => Some(last_id(&bytes).ok_or(FileFault { file: last, why: Why::NoLastId })?),
             Err(FileFault { why: Why::Missing, .. }) => None,
@@ -273,7 +285,8 @@ fn has_name(stem: &Path) -> bool {
 }
 
 /// The file of a stem. The stem may have dots of its own.
-fn with_ending(stem: &Path, ending: &str) -> PathBuf {
+#[must_use]
+pub fn with_ending(stem: &Path, ending: &str) -> PathBuf {
     let mut file = OsString::from(stem);
     file.push(".");
     file.push(ending);

@@ -1,8 +1,12 @@
-//! The lister, on files: what it writes, what it says where it can't, and its status. It runs
-//! where `rt check lister` has built it; with CI=true in the environment it must be there.
+//! The lister, on files: what it writes, what it says where it can't, and its status. It is built
+//! where the toolchain is there; with CI=true in the environment it must be.
 
+use std::fs::Permissions;
+use std::ops::Range;
+use std::os::unix::fs::PermissionsExt;
 use std::path::{Path, PathBuf};
 use std::process::Command;
+use std::sync::OnceLock;
 use std::{env, fs};
 
 use cases::{Generator, Random, Sizes, list_of, packed, prim, strukt, the_tree};
@@ -19,13 +23,25 @@ struct Left {
 /// A folder of one test, gone when the test ends.
 struct Room(PathBuf);
 
+/// Is the lister there? The first that asks has it built, if it is not.
+fn is_built() -> bool {
+    static BUILT: OnceLock<bool> = OnceLock::new();
+    *BUILT.get_or_init(|| {
+        let path = env::var_os("PATH").unwrap_or_default();
+        if env::split_paths(&path).any(|folder| folder.join("rt").is_file()) {
+            Command::new(root().join("tools/lister")).output().expect("tools/lister runs");
+        }
+        root().join("target/bin/lister").exists()
+    })
+}
+
 impl Room {
     /// None where the lister is not built.
     fn new(test: &str) -> Option<Room> {
-        if !root().join("target/bin/lister").exists() {
+        if !is_built() {
             let gate = env::var("CI").is_ok_and(|ci| ci == "true");
             assert!(!gate, "CI=true asks for the lister: rt check lister");
-            println!("The lister did not run: it is not built");
+            println!("The lister did not run: it is not built, and there is no toolchain");
             return None;
         }
         let room = env::temp_dir().join(format!("lister-{test}-{}", std::process::id()));
@@ -149,10 +165,42 @@ fn a_file_past_its_limit_is_refused_and_not_cut_short() {
     let two = refused("refused 2 at 0 0\n");
     assert_eq!(room.list((records.clone(), names.clone())), two);
     names.pop();
-    records.extend([0; RECORD_BYTES]);
+    // one byte too long, and so by one byte no whole number of records
+    records.push(0);
+    assert_eq!(room.list((records.clone(), names.clone())), two);
+    records.extend([0; RECORD_BYTES - 1]);
     assert_eq!(room.list((records.clone(), names.clone())), two);
     records.resize(1_000_000, 0);
     assert_eq!(room.list((records, names)), two);
+}
+
+/// A tree whose listing has this many bytes.
+fn listed_in(bytes: usize) -> (Vec<u8>, Vec<u8>) {
+    let leaves = |ids: Range<i32>| ids.map(|id| prim(id, &format!("{id}"))).collect::<Vec<Node>>();
+    let mut tree = [vec![strukt(0, "s", leaves(200..900))], leaves(100..200)].concat();
+    let missing = |tree: &[Node]| bytes - judged(&packed(tree)).written.len();
+    // the struct's name is written with each of its leaves too, that of a leaf once
+    let longer = missing(&tree) / 701;
+    tree[0].name.extend(vec![b's'; longer]);
+    let mut left = missing(&tree);
+    for leaf in &mut tree[1..] {
+        let longer = left.min(200);
+        leaf.name.extend(vec![b'x'; longer]);
+        left -= longer;
+    }
+    packed(&tree)
+}
+
+#[test]
+fn a_listing_is_written_whole_around_each_end_of_the_buffer() {
+    let Some(room) = Room::new("buffer") else { return };
+    let buffer = 65_536;
+    for bytes in [buffer - 1, buffer, buffer + 1, 2 * buffer - 1, 2 * buffer, 2 * buffer + 1] {
+        let files = listed_in(bytes);
+        let left = room.list(files.clone());
+        assert_eq!(left.written.len(), bytes);
+        assert!(left == judged(&files), "{bytes} bytes that differ");
+    }
 }
 
 #[test]
@@ -178,6 +226,64 @@ fn a_file_that_cant_be_read_is_named_and_nothing_is_listed() {
     assert_eq!(room.run(&[]), said("tree.names: No such file or directory\n"));
     assert_eq!(room.run(&["tree.rec", "."]), said(".: Is a directory\n"));
     assert_eq!(room.run(&["tree.rec"]), said("usage: lister [RECORDS NAMES]\n"));
+}
+
+/// A script with these lines.
+fn put_script(file: &Path, lines: &str) {
+    fs::create_dir_all(file.parent().expect("a folder")).expect("made");
+    fs::write(file, format!("#!/bin/sh\n{lines}\n")).expect("written");
+    fs::set_permissions(file, Permissions::from_mode(0o755)).expect("it may be run");
+}
+
+#[test]
+fn where_it_is_not_built_the_toolchain_is_asked_to_build_it() {
+    // a checkout of the script alone, and toolchains that are none
+    let checkout = env::temp_dir().join(format!("lister-unbuilt-{}", std::process::id()));
+    let script = checkout.join("tools/lister");
+    fs::create_dir_all(checkout.join("tools")).expect("made");
+    fs::copy(root().join("tools/lister"), &script).expect("copied");
+    let run = |toolchain: &str| {
+        let path = format!("{}:/usr/bin:/bin", checkout.join(toolchain).display());
+        let left = Command::new(&script).env("PATH", path).output().expect("it runs");
+        let text = |bytes: Vec<u8>| String::from_utf8(bytes).expect("text");
+        (left.status.code(), text(left.stdout), text(left.stderr))
+    };
+    let (status, written, said) = run("none");
+    assert_eq!((status, written.as_str()), (Some(3), ""));
+    assert!(said.contains("the toolchain (rt) is not there"), "{said}");
+    put_script(&checkout.join("fails/rt"), "echo not proved; exit 1");
+    let (status, written, said) = run("fails");
+    assert_eq!((status, written.as_str()), (Some(3), ""));
+    assert!(
+        said.contains("not proved\ntools/lister: rt check lister did not build it\n"),
+        "{said}"
+    );
+    put_script(
+        &checkout.join("builds/rt"),
+        "[ \"$*\" = 'check lister' ] && mkdir -p target/bin &&\n\
+         printf '#!/bin/sh\\necho 0 1 - a\\n' >target/bin/lister && chmod +x target/bin/lister",
+    );
+    if cfg!(target_arch = "x86_64") {
+        let (status, written, said) = run("builds");
+        assert_eq!((status, written.as_str()), (Some(0), "0 1 - a\n"));
+        assert!(said.contains("is not built yet"), "{said}");
+        assert_eq!(run("none"), (Some(0), "0 1 - a\n".into(), String::new()));
+    }
+    fs::remove_dir_all(checkout).expect("removed");
+}
+
+#[test]
+fn help_is_given_with_an_example_that_runs() {
+    let Some(room) = Room::new("help") else { return };
+    let help = room.run(&["--help"]);
+    assert_eq!((help.status, help.said.as_str()), (0, ""));
+    let help = String::from_utf8(help.written).expect("text");
+    assert!(help.contains("Usage: tools/lister [RECORDS NAMES]\n"), "{help}");
+    let (_, example) = help.split_once("Example:\n").expect("an example");
+    let mut shell = Command::new("sh");
+    let left = shell.args(["-ec", example]).current_dir(root()).output().expect("a shell");
+    let names = "node\nnode.button\nnode.cost\nvisits\n";
+    assert!(left.status.success() && left.stdout.starts_with(names.as_bytes()), "{example}");
 }
 
 #[test]

@@ -2,16 +2,17 @@
 
 use std::fs;
 use std::io::Read;
+use std::os::unix::fs::symlink;
 use std::process::{Command, Stdio};
 
 use crate::folder::{BRAID, Folder};
 
-/// The three commands that write, by the stem that they write to.
+/// The four commands that write, by the stem that they write to.
 fn writers(out: &str) -> [String; 4] {
     [
         format!("prune T --keep 7 --out {out}"),
         format!("renumber T --from 5 --out {out}"),
-        format!("update T --last-id 10 --drop node --out {out}"),
+        format!("update T --drop node --out {out}"),
         format!("make T.picture --out {out}"),
     ]
 }
@@ -25,27 +26,27 @@ fn with_t_and_picture() -> Folder {
 #[test]
 fn a_missing_file_is_named_with_status_3() {
     let folder = Folder::with_t();
-    let hint = "not found; a tree is named by the common stem of its two files\n";
+    let hint = "not found; a tree is named by the common stem of its files\n";
     assert_eq!(folder.braid("list U").complaint(3), format!("U.rec: {hint}"));
     assert_eq!(folder.braid("check T.rec").complaint(3), format!("T.rec.rec: {hint}"));
-    let said = folder.braid("update T --last-id 10 --add-tree U --out V").complaint(3);
+    let said = folder.braid("update T --add-tree U --out V").complaint(3);
     assert_eq!(said, format!("U.rec: {hint}"));
     fs::remove_file(folder.file("T.names")).expect("removed");
     assert_eq!(folder.braid("find T node").complaint(3), format!("T.names: {hint}"));
     assert!(folder.braid("make none --out V").complaint(3).starts_with("none: No such file"));
-    assert_eq!(folder.files(), ["T.rec"]);
+    assert_eq!(folder.files(), ["T.last", "T.rec"]);
 }
 
 #[test]
 fn nothing_is_overwritten_unless_told() {
     let folder = with_t_and_picture();
-    for ending in ["rec", "names"] {
+    for ending in ["rec", "names", "last"] {
         let there = folder.file(&format!("U.{ending}"));
         fs::write(&there, "mine").expect("written");
         let before = folder.files();
         for arguments in writers("U") {
             let said = folder.braid(&arguments).complaint(3);
-            let why = "already there; nothing is written; --force overwrites files";
+            let why = "already there; nothing is written; --force replaces files";
             assert_eq!(said, format!("U.{ending}: {why}\n"), "{arguments}");
             assert_eq!(fs::read(&there).expect("still there"), b"mine", "{arguments}");
             assert_eq!(folder.files(), before, "{arguments}");
@@ -55,37 +56,88 @@ fn nothing_is_overwritten_unless_told() {
 }
 
 #[test]
-fn force_replaces_both_files_and_leaves_no_third() {
+fn force_replaces_all_files_and_leaves_no_other() {
     let folder = with_t_and_picture();
     for arguments in writers("U") {
         folder.put("U", b"old", b"old");
+        folder.put_last("U", "old");
         let said = folder.braid(&format!("{arguments} --force"));
         assert_eq!((said.status, said.err.as_str()), (0, ""), "{arguments}");
         folder.braid("check U").answer();
-        assert_eq!(folder.files(), ["T.names", "T.picture", "T.rec", "U.names", "U.rec"]);
+        let files = folder.files();
+        let t = ["T.last", "T.names", "T.picture", "T.rec"];
+        let u: &[&str] = if arguments.starts_with("prune") {
+            &["U.names", "U.rec"]
+        } else {
+            &["U.last", "U.names", "U.rec"]
+        };
+        assert_eq!(files, [&t, u].concat(), "{arguments}");
     }
 }
 
 #[test]
 fn a_tree_can_be_updated_in_its_place() {
     let folder = Folder::with_t();
-    let said = folder.braid("update T --last-id 10 --add floor:0 --out T --force").answer();
-    assert_eq!(said, "last id 11\n");
-    assert_eq!(folder.braid("find T floor").answer(), "id 11 slot 10 floor\n");
-    assert_eq!(folder.files(), ["T.names", "T.rec"]);
+    let said = folder.braid("update T --add floor:0 --out T --force").answer();
+    assert_eq!(said, "added 11 floor\nlast id 11\n");
+    let said = folder.braid("update T --drop floor --add floor:1 --out T --force").answer();
+    assert_eq!(said, "dropped 11 floor\nadded 12 floor\nlast id 12\n");
+    assert_eq!(folder.files(), ["T.last", "T.names", "T.rec"]);
 }
 
 #[test]
-fn after_a_failure_the_old_pair_stands_again() {
+fn a_folder_in_the_way_stays_with_all_three_files() {
+    for ending in ["rec", "names", "last"] {
+        let folder = Folder::with_t();
+        folder.put("U", b"old", b"old");
+        folder.put_last("U", "old");
+        let name = format!("U.{ending}");
+        fs::remove_file(folder.file(&name)).expect("removed");
+        fs::create_dir(folder.file(&name)).expect("made");
+        let before = folder.files();
+        let said = folder.braid("update T --drop node --out U --force").complaint(3);
+        let why = "there is something else than a file; nothing is written; --force replaces files \
+                   and links alone";
+        assert_eq!(said, format!("{name}: {why}\n"));
+        for other in ["rec", "names", "last"].iter().filter(|other| **other != ending) {
+            assert_eq!(fs::read(folder.file(&format!("U.{other}"))).expect("there"), b"old");
+        }
+        assert_eq!(folder.files(), before);
+    }
+}
+
+#[test]
+fn a_link_gives_way_by_force_and_what_it_leads_to_stays() {
     let folder = Folder::with_t();
-    folder.put("U", b"old", b"old");
-    // a folder in the place of the names can't be moved aside
-    fs::remove_file(folder.file("U.names")).expect("removed");
-    fs::create_dir(folder.file("U.names")).expect("made");
-    let said = folder.braid("prune T --keep 7 --out U --force").complaint(3);
-    assert!(said.starts_with("U.names: "), "{said}");
-    assert_eq!(fs::read(folder.file("U.rec")).expect("there"), b"old");
-    assert_eq!(folder.files(), ["T.names", "T.rec", "U.names", "U.rec"]);
+    fs::write(folder.file("far"), "mine").expect("written");
+    symlink("far", folder.file("U.rec")).expect("a link");
+    symlink("nowhere", folder.file("U.names")).expect("a link");
+    let update = "update T --drop node.cost --out U";
+    assert!(folder.braid(update).complaint(3).starts_with("U.rec: already there; "));
+    let said = folder.braid(&format!("{update} --force")).answer();
+    let lines = "dropped 5 node.cost\nlast id 10\n\
+                 U.rec was a link, and what it led to is as it was\n\
+                 U.names was a link, and what it led to is as it was\n";
+    assert_eq!(said, lines);
+    assert_eq!(fs::read(folder.file("far")).expect("there"), b"mine");
+    assert!(folder.file("U.rec").symlink_metadata().expect("there").is_file());
+    assert!(!folder.files().contains(&"nowhere".into()));
+}
+
+#[test]
+fn a_stem_ends_with_a_name() {
+    let folder = with_t_and_picture();
+    fs::create_dir(folder.file("DIR")).expect("made");
+    for stem in ["DIR/", "DIR/..", "DIR/.", ".", "..", "/"] {
+        for arguments in writers(stem) {
+            let said = folder.braid(&format!("{arguments} --force")).complaint(3);
+            let why = "a stem ends with a name; nothing is written; DIR/T is one";
+            assert_eq!(said, format!("{stem}: {why}\n"));
+        }
+    }
+    assert_eq!(folder.files(), ["DIR", "T.last", "T.names", "T.picture", "T.rec"]);
+    assert_eq!(fs::read_dir(folder.file("DIR")).expect("a folder").count(), 0);
+    folder.braid("prune T --keep 7 --out DIR/..a").answer();
 }
 
 #[test]
@@ -125,11 +177,50 @@ fn a_terminal_gets_no_control_bytes_and_a_pipe_gets_the_name() {
 }
 
 #[test]
-fn an_answer_that_can_not_be_printed_is_a_fault() {
+fn a_file_name_is_no_command_for_a_terminal() {
     let folder = Folder::with_t();
-    let full = fs::File::options().write(true).open("/dev/full").expect("Linux has it");
-    let status = folder.command(&["list", "T"]).stdout(full).stderr(Stdio::null()).status();
-    assert_eq!(status.expect("the tool runs").code(), Some(3));
+    for (arguments, words) in [
+        (["list", "\x1b[2J\nx"], "\\x1b[2J\\x0ax.rec: not found; "),
+        (["find", "--\x1b[2J"], "error: Found argument '--\\x1b[2J' "),
+    ] {
+        let said = folder.run(&arguments).complaint(3);
+        assert!(said.starts_with(words), "{said:?}");
+        assert!(!said.contains('\x1b'), "{said:?}");
+    }
+    let said = folder.run(&["prune", "T", "--keep", "99", "--out", "U\x1b"]).answer();
+    assert_eq!(said, "not in T: id 99\nkept 0 of 10 records\n");
+    let said = folder.run(&["update", "U\x1b", "--out", "V"]).complaint(3);
+    assert!(said.starts_with("U\\x1b.last: not found, "), "{said:?}");
+}
+
+#[test]
+fn a_closed_or_full_output_has_a_status_of_its_own() {
+    let folder = Folder::with_t();
+    for command in ["list T", "--help", "explain 3", "update T --drop node --out U"] {
+        let said = folder.shell(&format!("braid {command} >&-"));
+        assert!(said.err.starts_with("standard output is closed"), "{command}: {}", said.err);
+        assert_eq!(said.status, 4, "{command}");
+    }
+    assert_eq!(folder.files(), ["T.last", "T.names", "T.rec"], "nothing was done");
+    // who asks for no words needs nowhere to print them
+    assert_eq!(folder.shell("braid update T --drop node --out U --quiet >&-").answer(), "");
+    assert_eq!(folder.shell("braid list T >/dev/null").answer(), "");
+    // a refusal and wrong arguments keep their own status where they print nothing
+    assert_eq!(folder.shell("braid list >&-").status, 3);
+    let full = folder.shell("braid list T >/dev/full");
+    assert_eq!(
+        (full.status, full.err.as_str()),
+        (4, "standard output: No space left on device (os error 28)\n")
+    );
+}
+
+#[test]
+fn a_closed_input_is_no_empty_picture() {
+    let folder = Folder::new();
+    let said = folder.shell("braid make - --out U <&-").complaint(3);
+    assert_eq!(said, "standard input: closed\n");
+    assert_eq!(folder.files(), [""; 0]);
+    folder.shell("braid make - --out U </dev/null").answer();
 }
 
 #[test]
@@ -155,30 +246,34 @@ fn wrong_arguments_end_with_status_3_and_help_with_0() {
         "parent T",
         "prune T --keep 7",
         "prune T --out U",
-        "prune T --keep 7,x --out U",
+        "prune T --keep 7,,5 --out U",
         "prune T --keep --full --out U",
         "renumber T --out U",
-        "update T --out U",
-        "update T --last-id 10 --add floor --out U",
-        "update T --last-id 10 --add floor:-1 --out U",
-        "update T --last-id 10 --under node --add floor:0 --out U",
-        "update T --last-id 10 --add floor:0 --under node --under node --out U",
-        "update T --last-id 10 --required --add floor:0 --out U",
-        "update T --last-id 10 --add-tree T --default --out U",
+        "update T",
+        "update T --last-id x --out U",
+        "update T --drop-id x --out U",
+        "update T --drop-id --out U",
+        "update T --add floor --out U",
+        "update T --add floor:-1 --out U",
+        "update T --under node --add floor:0 --out U",
+        "update T --add floor:0 --under node --under node --out U",
+        "update T --add floor:0 --under node --under-id 1 --out U",
+        "update T --required --add floor:0 --out U",
+        "update T --add-tree T --default --out U",
         "make T.picture",
     ] {
         let said = folder.braid(arguments);
         assert_eq!((said.status, said.out.len()), (3, 0), "{arguments}");
         assert!(!said.err.is_empty(), "{arguments}");
     }
-    assert_eq!(folder.files(), ["T.names", "T.rec"]);
+    assert_eq!(folder.files(), ["T.last", "T.names", "T.rec"]);
     assert!(folder.braid("--help").answer().contains("Exit status: 0 "));
 }
 
 #[test]
 fn a_name_too_long_for_the_layout_is_a_wrong_argument() {
     let folder = Folder::with_t();
-    let arguments = format!("update T --last-id 10 --add {}:0 --out U", "x".repeat(256));
+    let arguments = format!("update T --add {}:0 --out U", "x".repeat(256));
     let said = folder.braid(&arguments).complaint(3);
     assert_eq!(said, "256 bytes in a name: the layout holds at most 255\n");
 }

@@ -1,13 +1,19 @@
 //! A folder to run the tool in, and what it said.
 
-use std::fs;
 use std::io::Write;
+use std::os::unix::fs::symlink;
 use std::path::{Path, PathBuf};
 use std::process::{Command, Output, Stdio};
 use std::sync::atomic::{AtomicUsize, Ordering};
+use std::{env, fs};
 
 /// The tool.
 pub const BRAID: &str = env!("CARGO_BIN_EXE_braid");
+
+/// A file of the checkout.
+pub fn checkout(name: &str) -> PathBuf {
+    Path::new(env!("CARGO_MANIFEST_DIR")).join("../..").join(name)
+}
 
 /// What the tool said, and its status.
 #[derive(Debug, PartialEq)]
@@ -33,6 +39,18 @@ impl Said {
         String::from_utf8(self.out).expect("UTF-8")
     }
 
+    /// The lines of a refusal: what was refused, the cure, and where more is told.
+    #[track_caller]
+    pub fn refusal(self) -> Vec<String> {
+        let lines: Vec<String> = self.complaint(2).lines().map(String::from).collect();
+        let words: Vec<&str> = lines[0].split(' ').collect();
+        assert_eq!(words[0], "refused", "{}", lines[0]);
+        assert!(lines[1].starts_with("Cure: "), "{}", lines[1]);
+        let more = format!("`braid explain {}` tells more.", words[1]);
+        assert_eq!(lines.last(), Some(&more));
+        lines
+    }
+
     /// Its complaint, where it ended with this status and printed nothing else.
     #[track_caller]
     pub fn complaint(self, status: i32) -> String {
@@ -55,11 +73,19 @@ impl Folder {
         Folder(folder)
     }
 
-    /// A folder with T in it.
+    /// A folder with T in it, and T's last id.
     pub fn with_t() -> Folder {
         let folder = Folder::new();
         let (records, names) = cases::packed(&cases::the_tree());
         folder.put("T", &records, &names);
+        folder.put_last("T", "10\n");
+        folder
+    }
+
+    /// A folder with the examples of the checkout in it, as people type them.
+    pub fn with_examples() -> Folder {
+        let folder = Folder::new();
+        symlink(checkout("examples"), folder.file("examples")).expect("a link");
         folder
     }
 
@@ -72,6 +98,16 @@ impl Folder {
     pub fn put(&self, stem: &str, records: &[u8], names: &[u8]) {
         fs::write(self.file(&format!("{stem}.rec")), records).expect("written");
         fs::write(self.file(&format!("{stem}.names")), names).expect("written");
+    }
+
+    /// Writes the file of a last id.
+    pub fn put_last(&self, stem: &str, text: &str) {
+        fs::write(self.file(&format!("{stem}.last")), text).expect("written");
+    }
+
+    /// Reads the file of a last id; none where there is none.
+    pub fn last(&self, stem: &str) -> Option<String> {
+        fs::read_to_string(self.file(&format!("{stem}.last"))).ok()
     }
 
     /// Reads a pair.
@@ -105,6 +141,15 @@ impl Folder {
     /// Runs the tool.
     pub fn run(&self, arguments: &[&str]) -> Said {
         Said::of(self.command(arguments).output().expect("the tool runs"))
+    }
+
+    /// Runs lines of a shell in this folder, with the tool as `braid`.
+    pub fn shell(&self, lines: &str) -> Said {
+        let tools = Path::new(BRAID).parent().expect("it is in a folder");
+        let path = format!("{}:{}", tools.display(), env::var("PATH").expect("there is one"));
+        let mut shell = Command::new("sh");
+        shell.args(["-c", lines]).current_dir(&self.0).env("PATH", &path);
+        Said::of(shell.output().expect("a shell"))
     }
 
     /// Runs the tool with this on its standard input.

@@ -2,7 +2,10 @@
 
 mod answers;
 mod examples;
+mod explain;
 mod files;
 mod folder;
+mod happened;
+mod last;
 mod pictures;
 mod refusals;

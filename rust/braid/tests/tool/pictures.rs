@@ -1,7 +1,7 @@
 //! The picture: whatever tree is drawn is read back, and what is no picture is told by its line.
 
-use crate::folder::Folder;
-use cases::{Case, Generator, Sizes, packed, prim};
+use crate::folder::{Folder, checkout};
+use cases::{Case, Generator, Random, Sizes, packed, prim};
 use judge::Node;
 
 /// The picture of the drawn tree, which must make this pair.
@@ -30,7 +30,7 @@ fn named(id: i32, name: &[u8]) -> Node {
 fn wrong(picture: &str, why: &str) {
     let folder = Folder::new();
     let said = folder.piped("make - --out made", picture.as_bytes()).complaint(3);
-    assert_eq!(said, format!("-: {why}\n"));
+    assert_eq!(said, format!("standard input: {why}\n"));
     assert_eq!(folder.files(), [""; 0]);
 }
 
@@ -108,64 +108,168 @@ fn trees_of_all_shapes_are_listed_as_01_says_and_read_back_with_their_names_pack
 }
 
 #[test]
-fn blank_lines_and_remarks_are_skipped() {
+fn names_as_people_write_them_are_drawn_as_they_are() {
+    let names = [
+        "วันที่",                  // Thai, with vowels and tones above the letters
+        "दिनांक",                // Hindi, with vowel signs
+        "क्‍ष",                   // a joiner between the letters
+        "അവന്‍",                  // and one at the end of a Malayalam word
+        "می‌روم",                // Persian, with a joiner that parts
+        "re\u{301}sume\u{301}", // accents that stand apart from their letters
+        "Ngu\u{31b}o\u{300}\u{31b}i",
+        "👩‍🚒",   // joined emoji
+        "❤️‍🔥",   // with a selector of the form
+        "葛󠄀城", // an ideograph's form
+        "ᠮᠣᠩᠭᠣᠯ᠎ᠠ",
+        "größe",
+        "单价",
+    ];
+    let roots: Vec<Node> = names.iter().zip(1..).map(|(name, id)| prim(id, name)).collect();
+    let line = |(name, id): (&&str, i32)| format!("{id} {name}: primitive 0\n");
+    let drawn: String = names.iter().zip(1..).map(line).collect();
+    assert_eq!(round(&Folder::new(), &roots), drawn);
+}
+
+#[test]
+fn names_of_any_characters_are_read_back() {
+    let tricky = "a :\"\\#.\0\n\r\t\u{1b}\u{7f}\u{9b}\u{a0}é\u{301}\u{34f}กัक्\u{200b}\u{200c}\
+                  \u{200d}\u{200e}\u{2028}\u{202e}\u{2066}\u{180b}\u{180e}\u{fe0f}\u{feff}👩🚒\
+                  \u{e0067}\u{e0100}\u{10ffff}";
+    let tricky: Vec<char> = tricky.chars().collect();
+    let mut random = Random::new(10);
+    let mut name = |id: i32| {
+        let mut name = format!("{id}").into_bytes();
+        for _ in 0..random.below(9) {
+            name.extend(random.pick(&tricky).to_string().bytes());
+            if random.chance(1, 12) {
+                name.push(0x80 + random.below(0x80) as u8);
+            }
+        }
+        named(id, &name)
+    };
+    let roots: Vec<Node> = (0..1_000).map(&mut name).collect();
+    let picture = round(&Folder::new(), &roots);
+    let shown = |c: char| c == '\n' || c >= ' ' && !['\u{7f}', '\u{9b}', '\u{202e}'].contains(&c);
+    assert!(picture.chars().all(shown), "{picture:?}");
+}
+
+#[test]
+fn joiners_and_selectors_that_hide_are_escaped() {
+    let names = [
+        ("a\u{200d}b", r#""a\xe2\x80\x8db""#),
+        ("\u{200d}", r#""\xe2\x80\x8d""#),
+        ("é\u{200c}", r#""é\xe2\x80\x8c""#),
+        ("day\u{fe0f}", r#""day\xef\xb8\x8f""#),
+        ("क\u{200d}\u{200d}", "\"क\u{200d}\\xe2\\x80\\x8d\""),
+        ("क\u{fe0f}\u{fe0f}", "\"क\u{fe0f}\\xef\\xb8\\x8f\""),
+        ("\u{2028}\u{200d}", r#""\xe2\x80\xa8\xe2\x80\x8d""#),
+    ];
+    let roots: Vec<Node> = names.iter().zip(1..).map(|((name, _), id)| prim(id, name)).collect();
+    let line = |((_, shown), id): (&(&str, &str), i32)| format!("{id} {shown}: primitive 0\n");
+    let drawn: String = names.iter().zip(1..).map(line).collect();
+    assert_eq!(round(&Folder::new(), &roots), drawn);
+}
+
+/// The characters of a U+ number and of a range of two.
+fn ends(range: &str) -> [char; 2] {
+    let ends: Vec<char> = range
+        .split('-')
+        .map(|end| u32::from_str_radix(end.trim_start_matches("U+"), 16).expect("a number"))
+        .map(|number| char::from_u32(number).expect("a character"))
+        .collect();
+    [ends[0], *ends.last().expect("one or two")]
+}
+
+#[test]
+fn the_table_of_the_page_has_the_very_characters_that_are_escaped() {
+    let page = std::fs::read_to_string(checkout("docs/FORMAT.md")).expect("the page");
+    let rows = page.lines().filter_map(|line| line.strip_prefix("| U+"));
+    let cells = rows.filter_map(|row| row.split(" |").next());
+    let ranges: Vec<[char; 2]> = cells.flat_map(|cell| cell.split(", ").map(ends)).collect();
+    assert!(ranges.len() > 20, "{ranges:?}");
+    let escaped = |c: char| ranges.iter().any(|[from, to]| (*from..=*to).contains(&c));
+    // what is escaped or not by what stands before it has its own test
+    let depends = |c: char| {
+        matches!(c, '\u{180b}'..='\u{180f}' | '\u{200c}'..='\u{200d}' | '\u{fe00}'..='\u{fe0f}')
+            || matches!(c, '\u{e0100}'..='\u{e01ef}')
+    };
+    let (mut seen, mut wrong) = (0, vec![]);
+    for character in ('\0'..=char::MAX).filter(|c| !depends(*c)) {
+        let name = format!("x{character}");
+        if braidhurdle::names::printed(name.as_bytes()) == name && escaped(character)
+            || braidhurdle::names::printed(name.as_bytes()) != name && !escaped(character)
+        {
+            wrong.push(character);
+        }
+        seen += usize::from(escaped(character));
+    }
+    assert!(wrong.is_empty(), "{wrong:?}");
+    assert!(seen > 3_800, "{seen}");
+}
+
+#[test]
+fn blank_lines_remarks_and_spaces_are_skipped_and_words_stand_in_any_order() {
     let folder = Folder::new();
-    folder
-        .piped(
-            "make - --out made",
-            b"# a remark\n\n1 a: struct\n# one more\n  2 b: list\n    3 element: primitive 0\n",
-        )
-        .answer();
+    let picture = b"# a remark\n\n   \n1 a: struct  \n    # an indented one\n  2 b: list \t\n\
+                    \x20   3  element :  attribute 7   default primitive 2 required\r\n\
+                    4 c: required struct\n";
+    folder.piped("make - --out made", picture).answer();
     assert_eq!(
         folder.braid("list made").answer(),
-        "1 a: struct\n  2 b: list\n    3 element: primitive 0\n"
+        "1 a: struct\n  2 b: list\n    3 element: primitive 2 required default attribute 7\n\
+         4 c: struct required\n"
     );
 }
 
 #[test]
-fn a_line_that_is_none_is_told_with_its_number() {
-    wrong("1 a: struct\n b: struct\n", "line 2: a level is two spaces");
+fn a_line_that_is_none_is_told_with_its_number_and_what_is_missing() {
+    wrong(
+        "1 a: struct\n b: struct\n",
+        "line 2: a level is two spaces, and here is an odd number, 1",
+    );
+    wrong("1 a: struct\n\t2 b: struct\n", "line 2: a level is two spaces, and here is a tab");
     wrong("\n  1 a: struct\n", "line 2: level 2 stands behind level 0");
     wrong("1 a: struct\n    2 b: struct\n", "line 2: level 3 stands behind level 1");
-    wrong("a: struct\n", "line 1: \"a:\" is no id");
+    wrong("a: struct\n", "line 1: \"a:\" is no id, and a line begins with one");
     wrong("1\n", "line 1: no name behind the id");
     wrong("1 a\n", "line 1: no colon behind the name");
+    wrong("1 \"a\" struct\n", "line 1: no colon behind the name");
     wrong("1 a b: struct\n", "line 1: this name must be written \"a b\"");
-    wrong("1 a:struct\n", "line 1: no colon and space behind the name");
-    wrong("1 a: thing\n", "line 1: \"thing\" is no kind");
-    wrong("1 a: primitive\n", "line 1: \"\" is no number below 2^32");
-    wrong("1 a: primitive -1\n", "line 1: \"-1\" is no number below 2^32");
-    wrong("1 a: struct default required\n", "line 1: \"required\" has no place here");
-    wrong("1 a: struct  \n", "line 1: \"\" has no place here");
+    wrong("1 a\u{200b}: struct\n", r#"line 1: this name must be written "a\xe2\x80\x8b""#);
+    let quotes = "(a name that has a colon stands in quotes)";
+    wrong("1 a:struct\n", &format!("line 1: no space behind the colon {quotes}"));
+    wrong("1 a:b: struct\n", &format!("line 1: no space behind the colon {quotes}"));
+    let kinds = "primitive with its type code, struct, list or map";
+    wrong("1 a:\n", &format!("line 1: no kind: {kinds}"));
+    wrong("1 a: required\n", &format!("line 1: no kind: {kinds}"));
+    let word = "is no kind, and not required, default or attribute";
+    wrong("1 a: thing\n", &format!("line 1: \"thing\" {word}"));
+    let code = "primitive needs a type code, a number below 2^32";
+    wrong("1 a: primitive\n", &format!("line 1: no number: {code}"));
+    wrong("1 a: primitive -1\n", &format!("line 1: \"-1\" is no number: {code}"));
+    let attribute = "attribute needs an attribute number, a number below 2^32";
+    wrong("1 a: struct attribute\n", &format!("line 1: no number: {attribute}"));
+    let once = "comes too often: a column has one kind, and each word once";
+    for (words, again) in [
+        ("struct struct", "struct"),
+        ("list map", "map"),
+        ("default struct default", "default"),
+        ("required required struct", "required"),
+        ("struct attribute 1 attribute 1", "attribute"),
+    ] {
+        wrong(&format!("1 a: {words}\n"), &format!("line 1: {again} {once}"));
+    }
     let quotes = "a name in quotes ends with a quote, and has the escapes \\\" \\\\ \\x00";
     for name in ["\"a", "\"\\", "\"\\n\"", "\"\\x4\"", "\"\\x+1\"", "\"\\xé\""] {
         wrong(&format!("1 {name}: struct\n"), &format!("line 1: {quotes}"));
     }
+    let long = format!("1 a: struct\n2 {}: struct\n", "x".repeat(256));
+    wrong(&long, "line 2: a name has at most 255 bytes, and this one 256");
 }
 
 #[test]
-fn a_picture_of_no_tree_is_refused_by_the_library() {
-    let refused = |picture: &str| {
-        let folder = Folder::new();
-        let said = folder.piped("make - --out made", picture.as_bytes()).complaint(2);
-        assert_eq!(folder.files(), [""; 0]);
-        said
-    };
-    let said = refused("1 a: list\n  2 item: primitive 0\n");
-    let words = "an element, key or value is named otherwise: -, record 1, id 2, name \"item\"";
-    assert_eq!(said, format!("refused 6 at 0 1: {words}\n"));
-    let said = refused("1 a: primitive 0\n  2 b: primitive 0\n");
-    let words = "a byte rule of a record or entry is broken: -, record 0, id 1, name \"a\", bytes";
-    assert!(said.starts_with(&format!("refused 3 at 0 0: {words}")), "{said}");
-    assert!(refused("1 a: map\n").starts_with("refused 3 at 0 0: "));
-    assert!(refused("1 a: struct\n1 b: struct\n").starts_with("refused 7 at 0 1: "));
-    let wide: String = (0..1_025).map(|id| format!("{id} a{id}: struct\n")).collect();
-    assert!(refused(&wide).starts_with("refused 2 at 0 0: "));
-}
-
-#[test]
-fn a_picture_that_is_no_text_is_a_fault() {
+fn a_picture_that_is_no_text_is_told_with_its_line() {
     let folder = Folder::new();
-    let said = folder.piped("make - --out made", b"1 \xff: struct\n").complaint(3);
-    assert!(said.starts_with("-: invalid utf-8"), "{said}");
+    let said = folder.piped("make - --out made", b"1 a: struct\n2 \xff: struct\n").complaint(3);
+    assert!(said.starts_with("standard input: line 2: invalid utf-8"), "{said}");
 }

@@ -1,8 +1,8 @@
-//! Refusals in words, each with what stands at its place. 1 and 10 can't be met here: the tool
-//! brings its own buffers, and a tree to each addition.
+//! Refusals in words, each with the column that it speaks of and why. 1 and 10 can't be met here:
+//! the tool brings its own buffers, and a tree to each addition.
 
 use crate::folder::Folder;
-use cases::{list_of, packed, prim, strukt};
+use cases::{list_of, map_of, packed, prim, strukt};
 use judge::Node;
 
 /// T with one byte of its records changed, refused with these words.
@@ -13,20 +13,31 @@ fn damaged(at: usize, value: u8, words: &str) {
     records[at] = value;
     folder.put("T", &records, &names);
     for arguments in ["list T", "list T --plain", "check T", "find T node", "parent T 1"] {
-        assert_eq!(folder.braid(arguments).complaint(2), format!("refused {words}\n"));
+        assert_eq!(folder.braid(arguments).refusal()[0], format!("refused {words}"));
     }
     refused(&folder, "prune T --keep 1 --out U", words);
     refused(&folder, "renumber T --from 1 --out U", words);
-    refused(&folder, "update T --last-id 10 --out U", words);
-    refused(&folder, "update T --last-id 10 --add-tree T --out U", words);
+    refused(&folder, "update T --out U", words);
+    refused(&folder, "update T --drop-id 1 --out U", words);
+    refused(&folder, "update T --add-tree T --out U", words);
 }
 
 /// These arguments are refused with these words, and nothing is written.
 #[track_caller]
 fn refused(folder: &Folder, arguments: &str, words: &str) {
     let before = folder.files();
-    assert_eq!(folder.braid(arguments).complaint(2), format!("refused {words}\n"), "{arguments}");
+    let said = folder.braid(arguments).refusal();
+    assert_eq!(said[0], format!("refused {words}"), "{arguments}");
     assert_eq!(folder.files(), before, "{arguments}");
+}
+
+/// A picture that is no tree, refused with these words.
+#[track_caller]
+fn drawn(picture: &str, words: &str) {
+    let folder = Folder::new();
+    let said = folder.piped("make - --out made", picture.as_bytes()).refusal();
+    assert_eq!(said[0], format!("refused {words}"));
+    assert_eq!(folder.files(), [""; 0]);
 }
 
 /// A chain of structs, one in another.
@@ -36,87 +47,197 @@ fn chain(levels: i32) -> Node {
 }
 
 #[test]
-fn a_broken_byte_is_shown_with_its_record() {
+fn a_broken_byte_is_told_with_its_rule() {
+    let broken = "a byte rule of a record or entry is broken";
+    let element = format!("3 at 0 4: {broken}: T: id 6 slot 4 visits.element");
+    let rule = |at: usize, value: u8, rule: &str| {
+        damaged(24 * 4 + at, value, &format!("{element}: {rule}"));
+    };
+    rule(9, 9, "the kind is 0, 1, 2 or 3; byte 9 is 09");
+    rule(10, 4, "the flags are 0, 1, 2 or 3; byte 10 is 04");
+    rule(11, 1, "a reserved byte is 0; byte 11 is 01");
+    rule(15, 1, "reserved bytes are 0; bytes 14 to 15 are 00 01");
+    rule(17, 2, "only a primitive has a type code other than 0; bytes 16 to 19 are 00 02 00 00");
+    rule(9, 0, "a primitive has no child, this one has 1; bytes 12 to 13 are 01 00");
+    rule(9, 3, "a map has two children, key and value, this one has 1; bytes 12 to 13 are 01 00");
     damaged(
-        24 * 4 + 9,
-        9,
-        "3 at 0 4: a byte rule of a record or entry is broken: T, record 4, id 6, \
-         name \"element\", bytes 06 00 00 00 14 00 00 00 07 09 00 00 01 00 00 00 00 00 00 \
-         00 00 00 00 00",
+        24 * 3 + 13,
+        1,
+        &format!(
+            "3 at 0 3: {broken}: T: id 2 slot 3 visits: a list has one child, this one has 257; \
+             bytes 12 to 13 are 01 01"
+        ),
     );
 }
 
 #[test]
-fn a_name_outside_the_pool_is_told_with_its_place() {
+fn a_picture_is_told_by_its_line() {
+    let broken = "a byte rule of a record or entry is broken: standard input";
+    drawn(
+        "1 a: list\n",
+        &format!(
+            "3 at 0 0: {broken}, line 1: id 1 slot 0 a: a list has one child, this one has none"
+        ),
+    );
+    drawn(
+        "# a remark\n\n1 a: primitive 0\n  2 b: primitive 0\n",
+        &format!(
+            "3 at 0 0: {broken}, line 3: id 1 slot 0 a: a primitive has no child, this one has 1"
+        ),
+    );
+    drawn(
+        "1 a: struct\n\n  2 b: list\n    3 item: primitive 0\n",
+        "6 at 0 2: an element, key or value is named otherwise: standard input, line 4: id 3 slot \
+         2 a.b.item: a list's child is named \"element\"",
+    );
+    drawn(
+        "1 a: map\n  2 key: struct\n  3 key: struct\n",
+        "6 at 0 2: an element, key or value is named otherwise: standard input, line 3: id 3 slot \
+         2 a.key: a map's second child is named \"value\"",
+    );
+    drawn(
+        "1 a: map\n  2 value: struct\n  3 key: struct\n",
+        "6 at 0 1: an element, key or value is named otherwise: standard input, line 2: id 2 slot \
+         1 a.value: a map's first child is named \"key\"",
+    );
+    drawn(
+        "1 a: struct\n\n1 b: struct\n",
+        "7 at 0 1: an id equals an earlier one: standard input, line 3: id 1 slot 1 b, and before \
+         it line 1: id 1 slot 0 a",
+    );
+    drawn(
+        "1 a: struct\n  2 b: struct\n3 a.b: struct\n",
+        "8 at 0 2: a full name equals an earlier one: standard input, line 3: id 3 slot 2 a.b, and \
+         before it line 2: id 2 slot 1 a.b",
+    );
+    let long: String = (0..130).map(|id| format!("{id} {id:0>255}: struct\n")).collect();
+    drawn(
+        &long,
+        "2 at 0 0: a limit on an input count, length or name sum is passed, or a list is no whole \
+         number of records: standard input has 33150 bytes in all names together, and may have \
+         32768",
+    );
+    let wide: String = (0..70_000).map(|id| format!("{id} a{id}: struct\n")).collect();
+    drawn(
+        &wide,
+        "2 at 0 0: a limit on an input count, length or name sum is passed, or a list is no whole \
+         number of records: standard input has 1025 records, and may have 1024",
+    );
+}
+
+#[test]
+fn a_name_outside_the_pool_is_told_with_its_end() {
     damaged(
         24 * 9 + 8,
         6,
-        "4 at 0 9: a name or path has offset + length above its pool's length: T, record 9, \
-         id 10, name of 6 bytes at 43 in a pool of 48",
+        "4 at 0 9: a name or path has offset + length above its pool's length: T: id 10 slot 9 \
+         parts.value.-: its name ends at byte 49 of the pool, which has 48",
     );
 }
 
 #[test]
-fn counts_past_the_end_stand_behind_the_last_record() {
-    damaged(
-        24 * 8 + 12,
-        2,
-        "5 at 0 10: level 17 is reached, or counts need records past the end: T, behind the last \
-         of 10 records",
-    );
-}
-
-#[test]
-fn a_label_an_id_and_a_full_name_are_told_with_their_record() {
-    damaged(
-        24 * 4 + 4,
-        14,
-        "6 at 0 4: an element, key or value is named otherwise: T, record 4, id 6, name \"visitse\"",
-    );
-    damaged(24 * 9, 1, "7 at 0 9: an id equals an earlier one: T, record 9, id 1, name \"price\"");
+fn counts_past_the_end_are_told_with_those_who_count() {
+    let words = "5 at 0 10: level 17 is reached, or counts need records past the end: T: ";
+    let value = "id 9 slot 8 parts.value counts 2 below it, and there are 1";
+    damaged(24 * 8 + 12, 2, &format!("{words}{value}"));
+    let node = "id 1 slot 0 node counts 5 below it, and there are 4";
+    damaged(12, 5, &format!("{words}{node}"));
+    // who counts too many takes the children of those above it
     let folder = Folder::new();
-    let (records, names) = packed(&[prim(1, "a"), prim(2, "a")]);
-    folder.put("A", &records, &names);
-    let words = "8 at 0 1: a full name equals an earlier one: A, record 1, id 2, name \"a\"";
-    refused(&folder, "check A", words);
+    let (mut records, names) =
+        packed(&[strukt(1, "a", vec![strukt(2, "b", vec![]), prim(3, "c")])]);
+    records[24 + 12] = 2;
+    folder.put("X", &records, &names);
+    refused(
+        &folder,
+        "check X",
+        "5 at 0 3: level 17 is reached, or counts need records past the end: X: id 1 slot 0 a \
+         counts 2 below it, and there are 1; X: id 2 slot 1 a.b counts 2 below it, and there are 1",
+    );
 }
 
 #[test]
-fn a_seventeenth_level_is_told_with_its_record() {
+fn a_seventeenth_level_is_told_with_its_column() {
     let folder = Folder::new();
     let (records, names) = packed(&[chain(17)]);
     folder.put("deep", &records, &names);
-    let words = "5 at 0 16: level 17 is reached, or counts need records past the end: deep, \
-                 record 16, id 1, name \"s\"";
-    refused(&folder, "list deep", words);
+    let words = format!(
+        "5 at 0 16: level 17 is reached, or counts need records past the end: deep: id 1 slot 16 \
+         {}: it stands at level 17 of at most 16",
+        vec!["s"; 17].join("."),
+    );
+    refused(&folder, "list deep", &words);
 }
 
 #[test]
-fn what_passes_a_limit_is_refused_and_not_cut() {
+fn a_label_an_id_and_a_full_name_are_told_with_their_columns() {
+    damaged(
+        24 * 4 + 4,
+        14,
+        "6 at 0 4: an element, key or value is named otherwise: T: id 6 slot 4 visits.visitse: a \
+         list's child is named \"element\"",
+    );
+    damaged(
+        24 * 9,
+        1,
+        "7 at 0 9: an id equals an earlier one: T: id 1 slot 9 parts.value.price, and before it \
+         id 1 slot 0 node",
+    );
+    let folder = Folder::new();
+    let (records, names) = packed(&[prim(1, "a"), prim(2, "b"), prim(3, "a"), prim(4, "a")]);
+    folder.put("A", &records, &names);
+    refused(
+        &folder,
+        "check A",
+        "8 at 0 2: a full name equals an earlier one: A: id 3 slot 2 a, and before it id 1 slot 0 \
+         a",
+    );
+}
+
+#[test]
+fn what_passes_a_limit_is_told_with_the_limit() {
     let limit = "2 at 0 0: a limit on an input count, length or name sum is passed, or a list is \
                  no whole number of records: ";
     let folder = Folder::new();
-    let says = |arguments: &str, sizes: &str| {
-        refused(&folder, arguments, &format!("{limit}{sizes}"));
+    let says = |arguments: &str, words: &str| {
+        refused(&folder, arguments, &format!("{limit}{words}"));
     };
     folder.put("T", &[0; 23], b"");
-    says("list T", "T, 23 record bytes, 0 name bytes");
+    says("list T", "T.rec has 0 whole records and 23 bytes; a record has 24");
     folder.put("T", &[0; 24_600], b"");
-    says("list T", "T, more than 24576 record bytes, 0 name bytes");
+    says("list T", "T.rec has more than 1024 records");
     folder.put("T", b"", &[b'x'; 40_000]);
-    says("list T", "T, 0 record bytes, more than 32768 name bytes");
+    says("list T", "T.names has more than 32768 bytes");
+    let names: Vec<Node> = (0..130).map(|id| prim(id, &format!("{id:0>255}"))).collect();
+    let (mut records, _) = packed(&names);
+    records.chunks_exact_mut(24).for_each(|record| record[4..8].fill(0));
+    folder.put("T", &records, &[b'x'; 255]);
+    says("list T", "T has 33150 bytes in all names together, and may have 32768");
     folder.put("T", b"", b"");
+    folder.put_last("T", "1\n");
     let ids = vec!["1"; 1_025].join(",");
-    let arguments = format!("prune T --keep {ids} --out U");
-    says(&arguments, "T, 0 record bytes, 0 name bytes; 1025 chosen ids");
+    let most = "and at most 1024 may be given";
+    says(&format!("prune T --keep {ids} --out U"), &format!("1025 chosen ids, {most}"));
     let ids = vec!["1"; 65].join(",");
-    let arguments = format!("renumber T --from 1 --identifiers {ids} --out U");
-    says(&arguments, "T, 0 record bytes, 0 name bytes; 65 identifiers");
-    let arguments = format!("update T --last-id 1 {} --add x:1 --out U", "--drop a ".repeat(65));
+    let most = "and at most 64 may be given";
+    let renumber = format!("renumber T --from 1 --identifiers {ids} --out U");
+    says(&renumber, &format!("65 identifiers, {most}"));
+    let update = format!("update T {} {} --out U", "--drop a ".repeat(65), "--add a:1 ".repeat(66));
+    says(&update, &format!("65 deletions, {most}; 66 additions, {most}"));
+    let (records, names) =
+        packed(&[strukt(0, "s", (1..600).map(|id| prim(id, &format!("{id}"))).collect())]);
+    folder.put("half", &records, &names);
     says(
-        &arguments,
-        "T, 0 record bytes, 0 name bytes; 65 deletions, 1 additions of 24 record bytes, 66 bytes of \
-         paths and new names, 0 identifiers",
+        "update T --add-tree half --add-tree half --out U",
+        "1200 added columns, and at most 1024 may be given",
+    );
+    let long: Vec<Node> = (0..50).map(|id| prim(id, &format!("{id:0>255}"))).collect();
+    let (records, names) = packed(&[strukt(99, "s", long)]);
+    folder.put("long", &records, &names);
+    says(
+        &format!("update T {} --out U", "--add-tree long ".repeat(3)),
+        "38253 bytes of paths and new names, and at most 32768 may be given; 38253 bytes in the \
+         added names together, and at most 32768 may be given",
     );
 }
 
@@ -126,67 +247,112 @@ fn a_file_without_end_is_refused_too() {
     folder.put("Z", b"", b"");
     std::fs::remove_file(folder.file("Z.names")).expect("removed");
     std::os::unix::fs::symlink("/dev/zero", folder.file("Z.names")).expect("a link");
-    assert!(folder.braid("check Z").complaint(2).contains("more than 32768 name bytes"));
+    assert!(folder.braid("check Z").refusal()[0].ends_with(": Z.names has more than 32768 bytes"));
 }
 
 #[test]
-fn an_identifier_is_told_with_its_id() {
+fn an_identifier_that_is_not_there_is_told_with_its_id() {
     let folder = Folder::with_t();
-    let words = "9 at 5 1: an identifier id is not in the tree: identifier 1, id -3";
+    let words = "9 at 5 1: an identifier id is not in the tree: identifier 1, id -3: no column of \
+                 T has it";
     refused(&folder, "renumber T --from 1 --identifiers 4,-3 --out U", words);
-    refused(&folder, "update T --last-id 10 --identifiers 4,-3 --out U", words);
+    refused(&folder, "update T --identifiers 4,-3 --drop node --out U", words);
 }
 
 #[test]
-fn a_deletion_is_told_with_its_path() {
+fn an_identifier_that_goes_is_told_with_the_deletion_that_takes_it() {
     let folder = Folder::with_t();
-    let update = "update T --last-id 10 --identifiers 5 --drop visits.day";
     refused(
         &folder,
-        &format!("{update} --drop node.prise --out U"),
-        "11 at 2 1: a deletion finds no column: deletion 1, path \"node.prise\"",
+        "update T --identifiers 7,10 --drop node --drop parts --add x:2 --under parts --out U",
+        "9 at 5 1: an identifier id is not in the tree: identifier 1, id 10 slot 9 \
+         parts.value.price: it goes with id 3 slot 6 parts, which deletion 1 drops",
     );
+}
+
+#[test]
+fn a_deletion_is_told_with_its_path_and_what_it_finds_or_may_have_meant() {
+    let folder = Folder::with_t();
+    let update = "update T --identifiers 1,5 --drop visits.day";
+    let nothing = "11 at 2 1: a deletion finds no column: deletion 1, path";
+    for (path, end) in [
+        ("node.prise", "; did you mean parts.value.price?"),
+        ("day", "; did you mean visits.element.day?"),
+        ("buttons", "; did you mean node.button?"),
+        ("elevator", ""),
+        ("x", ""),
+    ] {
+        let words = format!("{nothing} \"{path}\"{end}");
+        refused(&folder, &format!("{update} --drop {path} --out U"), &words);
+    }
     refused(
         &folder,
         &format!("{update} --drop node.cost --out U"),
-        "12 at 2 1: a deletion finds an identifier: deletion 1, path \"node.cost\"",
+        "12 at 2 1: a deletion finds an identifier: deletion 1, path \"node.cost\": id 5 slot 2 \
+         node.cost, which is identifier 1",
+    );
+    refused(
+        &folder,
+        &format!("{update} --drop-id 5 --out U"),
+        "12 at 2 1: a deletion finds an identifier: deletion 1, path \"node.cost\": id 5 slot 2 \
+         node.cost, which is identifier 1",
     );
 }
 
 #[test]
-fn an_addition_is_told_with_its_name_and_parent() {
+fn an_addition_is_told_with_its_name_its_parent_and_what_is_in_the_way() {
     let folder = Folder::with_t();
-    let says = |last_id: i32, added: &str, words: &str| {
-        let arguments = format!("update T --last-id {last_id} --add ok:0 {added} --out U");
+    let says = |added: &str, words: &str| {
+        let arguments = format!("update T --add ok:0 {added} --out U");
         refused(&folder, &arguments, words);
     };
     says(
-        10,
         "--add a.b:0",
         "13 at 3 1: the added column's own name has a dot: addition 1, \"a.b\" at the root",
     );
     says(
-        10,
         "--add a:0 --under node --required",
         "14 at 3 1: the added column is required, without initial default: addition 1, \"a\" under \
          \"node\"",
     );
+    let nothing = "15 at 3 1: the parent path finds nothing: addition 1, \"a\" under";
+    says("--add a:0 --under nodes", &format!("{nothing} \"nodes\"; did you mean node?"));
+    let new = "this update adds it, and paths are looked up in the tree as it was";
+    says("--add a:0 --under ok", &format!("{nothing} \"ok\": {new}"));
+    let no_struct = "16 at 3 1: the parent leads to no struct: addition 1, \"a\" under";
     says(
-        10,
-        "--add a:0 --under nodes",
-        "15 at 3 1: the parent path finds nothing: addition 1, \"a\" under \"nodes\"",
-    );
-    says(
-        10,
         "--add a:0 --under node.cost",
-        "16 at 3 1: the parent leads to no struct: addition 1, \"a\" under \"node.cost\"",
+        &format!("{no_struct} \"node.cost\": id 5 slot 2 node.cost, a primitive"),
     );
-    says(10, "--add node:0", "17 at 3 1: the name is taken: addition 1, \"node\" at the root");
+    let taken = "17 at 3 1: the name is taken: addition 1,";
+    says("--add node:0", &format!("{taken} \"node\" at the root: so is named id 1 slot 0 node"));
     says(
-        i32::MAX - 1,
-        "--add a:0",
-        "18 at 3 1: an id would pass 2,147,483,647: addition 1, \"a\" at the root",
+        "--add cost:0 --under node",
+        &format!("{taken} \"cost\" under \"node\": so is named id 5 slot 2 node.cost"),
     );
+    says(
+        "--add price:0 --under parts",
+        &format!("{taken} \"price\" under \"parts\": so is named id 10 slot 9 parts.value.price"),
+    );
+    says(
+        &format!("--add a:0 --last-id {}", i32::MAX - 1),
+        "18 at 3 1: an id would pass 2,147,483,647: addition 1, \"a\" at the root: new ids up to \
+         it: 2; the last id: 2147483646",
+    );
+}
+
+#[test]
+fn a_parent_is_told_with_what_it_holds() {
+    let folder = Folder::new();
+    let maps = map_of(3, "m", prim(4, "key"), list_of(5, "value", prim(6, "element")));
+    let (records, names) = packed(&[list_of(1, "l", prim(2, "element")), maps]);
+    folder.put("L", &records, &names);
+    folder.put_last("L", "6\n");
+    let no_struct = "16 at 3 0: the parent leads to no struct: addition 0, \"a\" under";
+    let words = format!("{no_struct} \"l\": id 1 slot 0 l, a list of primitive columns");
+    refused(&folder, "update L --add a:0 --under l --out U", &words);
+    let words = format!("{no_struct} \"m\": id 3 slot 2 m, a map of list columns");
+    refused(&folder, "update L --add a:0 --under m --out U", &words);
 }
 
 #[test]
@@ -196,8 +362,8 @@ fn an_added_tree_is_told_by_its_own_stem() {
     folder.put("twins", &records, &names);
     refused(
         &folder,
-        "update T --last-id 10 --add-tree twins --out U",
-        "7 at 0 1: an id equals an earlier one: twins, record 1, id 1, name \"b\"",
+        "update T --add-tree twins --out U",
+        "7 at 0 1: an id equals an earlier one: twins: id 1 slot 1 b, and before it id 1 slot 0 a",
     );
 }
 
@@ -209,29 +375,60 @@ fn numbers_that_would_run_out_are_told_with_their_start() {
 }
 
 #[test]
-fn a_fault_of_the_rebuilt_tree_is_told_with_its_record_number_or_the_sizes() {
+fn a_fault_of_the_rebuilt_tree_is_told_with_both_columns() {
     let folder = Folder::with_t();
     refused(
         &folder,
-        "update T --last-id 10 --drop visits.element --add day:0 --under visits --out U",
-        "8 at 4 6: a full name equals an earlier one: record 6 of the rebuilt tree",
+        "update T --drop visits.element --add day:0 --under visits --out U",
+        "8 at 4 6: a full name equals an earlier one: id 11 slot 6 visits.element.day, and before \
+         it id 7 slot 5 visits.element.day",
     );
-    let (records, names) = packed(&[chain(16)]);
-    folder.put("deep", &records, &names);
     refused(
         &folder,
-        "update T --last-id 10 --add-tree deep --under node --out U",
-        "19 at 4 0: the rebuilt tree passes a limit on trees (records, levels or name sum): \
-         T, 240 record bytes, 48 name bytes; 0 deletions, 1 additions of 384 record bytes, 20 bytes \
-         of paths and new names, 0 identifiers",
+        "update T --add floor:0 --add floor:0 --out U",
+        "8 at 4 11: a full name equals an earlier one: id 12 slot 11 floor, and before it id 11 \
+         slot 10 floor",
+    );
+    refused(
+        &folder,
+        "update T --last-id 8 --force --drop visits --add a:0 --under node --out U",
+        "7 at 4 6: an id equals an earlier one: id 9 slot 6 parts.value, and before it id 9 slot 3 \
+         node.a; the last id 8 is below it",
     );
 }
 
 #[test]
-fn a_list_chosen_directly_is_told() {
-    let words = "20 at 0 3: pruning meets a list or map chosen directly, not in full mode: T, \
-                 record 3, id 2, name \"visits\"";
-    refused(&Folder::with_t(), "prune T --keep 2 --out U", words);
+fn a_rebuilt_tree_that_passes_a_limit_is_told_with_the_limit() {
+    let folder = Folder::with_t();
+    let says = |arguments: &str, words: &str| {
+        let limit = "19 at 4 0: the rebuilt tree passes a limit on trees (records, levels or name \
+                     sum): the rebuilt tree has";
+        refused(&folder, arguments, &format!("{limit} {words}"));
+    };
+    let put = |stem: &str, roots: &[Node]| {
+        let (records, names) = packed(roots);
+        folder.put(stem, &records, &names);
+    };
+    put("deep", &[chain(16)]);
+    says("update T --add-tree deep --under node --out U", "17 levels, and may have 16");
+    put("wide", &[strukt(0, "w", (1..1_020).map(|id| prim(id, &format!("{id}"))).collect())]);
+    says("update T --add-tree wide --out U", "1030 records, and may have 1024");
+    put("long", &[strukt(0, "l", (1..=100).map(|id| prim(id, &format!("{id:0>255}"))).collect())]);
+    folder.braid("update T --add-tree long --out L").answer();
+    put("more", &[strukt(0, "m", (1..=50).map(|id| prim(id, &format!("{id:0>255}"))).collect())]);
+    says(
+        "update L --add-tree more --out U",
+        "38300 bytes in all names together, and may have 32768",
+    );
+}
+
+#[test]
+fn a_list_or_map_chosen_directly_is_told_with_its_kind() {
+    let chosen = "pruning meets a list or map chosen directly, not in full mode: T:";
+    let words = format!("20 at 0 3: {chosen} id 2 slot 3 visits, a list");
+    refused(&Folder::with_t(), "prune T --keep 2 --out U", &words);
+    let words = format!("20 at 0 6: {chosen} id 3 slot 6 parts, a map");
+    refused(&Folder::with_t(), "prune T --keep parts --out U", &words);
 }
 
 #[test]
@@ -241,7 +438,7 @@ fn names_that_could_deceive_are_escaped() {
     bad.name = b"a\x1b[2J\n\"\xff".to_vec();
     let (records, names) = packed(&[list_of(2, "l", bad)]);
     folder.put("L", &records, &names);
-    let words = "6 at 0 1: an element, key or value is named otherwise: L, record 1, id 1, name \
-                 \"a\\x1b[2J\\x0a\\\"\\xff\"";
+    let words = "6 at 0 1: an element, key or value is named otherwise: L: id 1 slot 1 \
+                 \"l.a\\x1b[2J\\x0a\\\"\\xff\": a list's child is named \"element\"";
     refused(&folder, "list L", words);
 }

@@ -1,0 +1,173 @@
+//! What an update does to each column, for words. The library decides; this tells it again.
+
+use braidhurdle::names::shown;
+use braidhurdle::{Column, Field, FieldId, Kind, Tree};
+
+use crate::arguments::Addition;
+
+/// What is asked of an update, as people say it.
+#[derive(Clone, Copy)]
+pub struct Asked<'a> {
+    pub last_id: FieldId,
+    /// The path of each deletion.
+    pub dropped: &'a [Vec<u8>],
+    pub added: &'a [Addition<Field>],
+}
+
+/// An update of which every path finds its column.
+pub struct Changes<'a> {
+    columns: Vec<Column<'a>>,
+    /// The slot that each deletion finds.
+    pub drops: Vec<usize>,
+    /// Each addition, with its new ids, and the slot of the struct that receives it; none is the
+    /// root.
+    adds: Vec<(Option<usize>, Field)>,
+}
+
+impl<'a> Changes<'a> {
+    /// None where the tree is refused or a path leads nowhere.
+    pub fn of(tree: &'a Tree, asked: Asked) -> Option<Changes<'a>> {
+        let columns: Vec<Column> = tree.columns().ok()?.collect();
+        let find = |path: &Vec<u8>| Some(tree.find_name(path).ok()??.1.0 as usize);
+        let drops = asked.dropped.iter().map(find).collect::<Option<_>>()?;
+        let mut last = asked.last_id;
+        let mut adds = vec![];
+        for Addition { what, under } in asked.added {
+            let above = match under {
+                Some(path) => Some(receiver(&columns, find(path)?)?),
+                None => None,
+            };
+            adds.push((above, numbered(what, &mut last)));
+        }
+        Some(Changes { columns, drops, adds })
+    }
+
+    /// The outermost dropped member that takes a column with it, which may be the column itself.
+    pub fn taken_by(&self, slot: usize) -> Option<usize> {
+        let column = &self.columns[slot];
+        let above = column.parent.map(|(_, above)| above.0 as usize);
+        let outer = above.and_then(|above| self.taken_by(above));
+        let is_member = above.is_none_or(|above| self.columns[above].kind == Kind::Struct);
+        outer.or((is_member && self.drops.contains(&slot)).then_some(slot))
+    }
+
+    /// The roots of the tree that the library would write, were it not refused.
+    pub fn rebuilt(&self) -> Vec<Field> {
+        self.members(None)
+    }
+
+    fn members(&self, above: Option<usize>) -> Vec<Field> {
+        let stays = |slot: &usize| self.taken_by(*slot).is_none();
+        let mut members: Vec<Field> =
+            self.children(above).filter(stays).map(|slot| self.field(slot)).collect();
+        let added = self.adds.iter().filter(|(under, _)| *under == above);
+        members.extend(added.map(|(_, field)| field.clone()));
+        members
+    }
+
+    fn field(&self, slot: usize) -> Field {
+        let column = &self.columns[slot];
+        let inside = match column.kind {
+            Kind::Struct => self.members(Some(slot)),
+            _ => self.children(Some(slot)).map(|child| self.field(child)).collect(),
+        };
+        let Column { id, kind, required, default, type_code, attribute, .. } = *column;
+        let name = column.name.to_vec();
+        Field { id, name, kind, required, default, type_code, attribute, inside }
+    }
+
+    fn children(&self, above: Option<usize>) -> impl Iterator<Item = usize> + '_ {
+        let of = move |slot: &usize| self.columns[*slot].parent.map(|(_, p)| p.0 as usize) == above;
+        (above.map_or(0, |above| above + 1)..self.columns.len()).filter(of)
+    }
+
+    /// A line for each column that was dropped, stays although a deletion finds it, was added or
+    /// vanished.
+    pub fn lines(&self) -> String {
+        let mut lines = String::new();
+        for (nth, slot) in self.drops.iter().enumerate() {
+            if !self.drops[..nth].contains(slot) {
+                lines += &self.drop_line(*slot);
+            }
+        }
+        for (under, field) in &self.adds {
+            let name = under.map(|slot| self.columns[slot].full_name());
+            self.add_lines(under.and_then(|slot| self.taken_by(slot)), name, field, &mut lines);
+        }
+        lines
+    }
+
+    fn drop_line(&self, slot: usize) -> String {
+        let told = self.told(slot);
+        match self.taken_by(slot) {
+            Some(outer) if outer == slot => match self.inside(slot) {
+                0 => format!("dropped {told}\n"),
+                1 => format!("dropped {told}, and 1 column inside it\n"),
+                inside => format!("dropped {told}, and {inside} columns inside it\n"),
+            },
+            Some(outer) => format!("dropped {told}, with {}\n", self.told(outer)),
+            None => {
+                let above = self.columns[slot].parent.expect("a root is a member").1.0 as usize;
+                let of = self.columns[above].kind;
+                let own = String::from_utf8_lossy(self.columns[slot].name);
+                let whole = self.told(above);
+                format!("stays {told}: a {of}'s {own} is not dropped alone; drop {whole}\n")
+            }
+        }
+    }
+
+    fn add_lines(
+        &self,
+        gone: Option<usize>,
+        above: Option<Vec<u8>>,
+        field: &Field,
+        lines: &mut String,
+    ) {
+        let name = match above {
+            Some(above) => [&above, &b"."[..], &field.name].concat(),
+            None => field.name.clone(),
+        };
+        let told = format!("{} {}", field.id, shown(&name));
+        *lines += &match gone {
+            Some(gone) => {
+                format!("vanished {told}, with {}; its id stays consumed\n", self.told(gone))
+            }
+            None => format!("added {told}\n"),
+        };
+        for child in &field.inside {
+            self.add_lines(gone, Some(name.clone()), child, lines);
+        }
+    }
+
+    /// How many columns stand inside another.
+    fn inside(&self, slot: usize) -> usize {
+        let level = self.columns[slot].level;
+        self.columns[slot + 1..].iter().take_while(|column| column.level > level).count()
+    }
+
+    /// A column's id and full name.
+    fn told(&self, slot: usize) -> String {
+        let column = &self.columns[slot];
+        format!("{} {}", column.id, shown(&column.full_name()))
+    }
+}
+
+/// The slot of the struct that takes what is added under a column: the column itself, a list's
+/// element or a map's value.
+pub fn receiver(columns: &[Column], slot: usize) -> Option<usize> {
+    let last_child = || {
+        let below =
+            |column: &Column| column.parent.is_some_and(|(_, above)| above.0 as usize == slot);
+        columns.iter().rposition(below)
+    };
+    let at = if columns[slot].kind == Kind::Struct { slot } else { last_child()? };
+    (columns[at].kind == Kind::Struct).then_some(at)
+}
+
+/// A column to add with its new ids, in preorder from the last id + 1.
+fn numbered(field: &Field, last: &mut FieldId) -> Field {
+    *last = FieldId(last.0.wrapping_add(1));
+    let id = *last;
+    let inside = field.inside.iter().map(|child| numbered(child, last)).collect();
+    Field { id, inside, ..field.clone() }
+}

@@ -1,0 +1,141 @@
+//! What the tool works out for words, beside what the library decides.
+
+use std::path::Path;
+
+use braidhurdle::layout::{ENTRY_BYTES, ID_BYTES, RECORD_BYTES};
+use braidhurdle::{Field, FieldId, Refusal, Request, Tree};
+use cases::{Case, Generator, Sizes};
+use judge::UpdateCall;
+
+use crate::Fault;
+use crate::arguments::Addition;
+use crate::changes::{self, Changes};
+use crate::words::{Asked, Given};
+
+/// The paths of a list of entries; none for one without.
+fn paths(entries: &[u8], pool: &[u8]) -> Option<Vec<Option<Vec<u8>>>> {
+    let path = |entry: &[u8]| {
+        let offset = u32::from_le_bytes(entry[..4].try_into().ok()?) as usize;
+        let length = u16::from_le_bytes(entry[4..6].try_into().ok()?) as usize;
+        let path = pool.get(offset..offset + length)?.to_vec();
+        Some((entry[6] != 0).then_some(path))
+    };
+    entries.chunks_exact(ENTRY_BYTES).map(path).collect()
+}
+
+/// The added columns; none where the tree has other faults than its ids, which are ignored.
+fn fields(records: &[u8], pool: &[u8]) -> Option<Vec<Field>> {
+    let mut records = records.to_vec();
+    for (record, id) in records.chunks_exact_mut(RECORD_BYTES).zip(0i32..) {
+        record[..4].copy_from_slice(&id.to_le_bytes());
+    }
+    Tree::new(records, pool.to_vec()).fields().ok()
+}
+
+/// What is dropped and added.
+type Words = (Vec<Vec<u8>>, Vec<Addition<Field>>);
+
+/// What people would say to ask for this; none where the tool can't be told so.
+fn said(call: &UpdateCall) -> Option<Words> {
+    let dropped: Option<Vec<Vec<u8>>> =
+        paths(call.deletions, call.request_pool)?.into_iter().collect();
+    let lists = [call.identifiers, call.deletions, call.additions, call.added_records];
+    let is_whole = |(list, unit): (&[u8], usize)| list.len() % unit == 0;
+    if !lists.into_iter().zip([ID_BYTES, ENTRY_BYTES, ENTRY_BYTES, RECORD_BYTES]).all(is_whole) {
+        return None;
+    }
+    let roots = fields(call.added_records, call.request_pool)?;
+    let under = paths(call.additions, call.request_pool)?;
+    if roots.len() != under.len() {
+        return None;
+    }
+    let added = roots.into_iter().zip(under).map(|(what, under)| Addition { what, under });
+    Some((dropped?, added.collect()))
+}
+
+/// The first line of a refusal.
+fn first_line(fault: Fault) -> String {
+    let Fault::Refused(words) = fault else { panic!("it is a refusal") };
+    words.lines().next().expect("a line").into()
+}
+
+#[track_caller]
+fn well_told(line: &str, refusal: Refusal, case: u64) {
+    let Refusal { number, list, place } = refusal;
+    let front = format!("refused {number} at {list} {place}: {}: ", refusal.meaning());
+    let words = line.strip_prefix(&front).unwrap_or_else(|| panic!("case {case}: {line}"));
+    assert!(!words.is_empty(), "case {case}: {line}");
+    assert!(!words.starts_with("record "), "case {case} is not told: {line}");
+    assert!(
+        !words.contains("before it, ") && !words.ends_with("before it "),
+        "case {case}: {line}"
+    );
+}
+
+#[test]
+fn a_tree_that_is_rebuilt_for_words_is_the_librarys_own() {
+    let generator = Generator { seed: 141, sizes: Sizes::Usual };
+    let (mut same, mut told) = (0, [0; 21]);
+    for n in 0..20_000 {
+        let case = generator.case(n);
+        let Some((call, (dropped, added))) =
+            case.update_call().and_then(|call| Some((call, said(&call)?)))
+        else {
+            continue;
+        };
+        let tree = Tree::new(case.records.clone(), case.pool.clone());
+        let asked =
+            changes::Asked { last_id: FieldId(call.last_id), dropped: &dropped, added: &added };
+        let ids: Vec<FieldId> = call
+            .identifiers
+            .chunks_exact(ID_BYTES)
+            .map(|id| FieldId(i32::from_le_bytes(id.try_into().expect("four bytes"))))
+            .collect();
+        let request = Request {
+            last_id: asked.last_id,
+            identifiers: call.identifiers.to_vec(),
+            deletions: call.deletions.to_vec(),
+            additions: call.additions.to_vec(),
+            added_records: call.added_records.to_vec(),
+            pool: call.request_pool.to_vec(),
+        };
+        match tree.update(&request) {
+            Ok(answer) => {
+                let changes = Changes::of(&tree, asked).expect("every path finds its column");
+                let rebuilt = Tree::build(&changes.rebuilt()).expect("it fits");
+                assert_eq!(rebuilt, answer.tree, "case {n}");
+                same += 1;
+            }
+            Err(refusal) if refusal.number != 1 && refusal.list != 1 => {
+                let ask = Asked::Update { asked, request: &request };
+                let given =
+                    Given { identifiers: &ids, ask, ..Given::new(Path::new("base"), &tree) };
+                well_told(&first_line(given.refused(refusal)), refusal, n);
+                told[refusal.number as usize] += 1;
+            }
+            Err(_) => {}
+        }
+    }
+    assert!(same > 200, "{same} trees");
+    for number in [2, 3, 4, 5, 6, 7, 8, 9, 11, 12, 13, 14, 15, 16, 17, 18, 19] {
+        assert!(told[number] > 0, "refusal {number} was not met: {told:?}");
+    }
+}
+
+#[test]
+fn a_damaged_tree_is_told_whatever_its_bytes() {
+    let generator = Generator { seed: 142, sizes: Sizes::Usual };
+    let mut told = [0; 21];
+    for n in 0..20_000 {
+        let Case { records, pool, .. } = generator.case(n);
+        let tree = Tree::new(records, pool);
+        let given = Given::new(Path::new("base"), &tree);
+        if let Err(refusal) = tree.check() {
+            well_told(&first_line(given.refused(refusal)), refusal, n);
+            told[refusal.number as usize] += 1;
+        }
+    }
+    for (number, count) in told.iter().enumerate().take(9).skip(2) {
+        assert!(*count > 0, "refusal {number} was not met: {told:?}");
+    }
+}

@@ -1,0 +1,227 @@
+//! What an update and a pruning tell of each column.
+
+use std::collections::BTreeSet;
+
+use cases::Random;
+
+use crate::folder::{Folder, Said};
+
+#[test]
+fn every_column_is_told_with_its_fate() {
+    let folder = Folder::with_t();
+    let arguments = "update T --drop node.cost --drop visits.element --drop parts \
+                     --add cost:3 --under node --add fault:2 --under parts --add floor:2 --out U";
+    let lines = "\
+dropped 5 node.cost
+stays 6 visits.element: a list's element is not dropped alone; drop 2 visits
+dropped 3 parts, and 3 columns inside it
+added 11 node.cost
+vanished 12 parts.value.fault, with 3 parts; its id stays consumed
+added 13 floor
+last id 13
+";
+    assert_eq!(folder.braid(arguments).answer(), lines);
+}
+
+#[test]
+fn a_key_and_a_value_stay_too() {
+    let folder = Folder::with_t();
+    let said = folder.braid("update T --drop parts.key --drop parts.value --out U").answer();
+    let lines = "stays 8 parts.key: a map's key is not dropped alone; drop 3 parts\n\
+                 stays 9 parts.value: a map's value is not dropped alone; drop 3 parts\n\
+                 last id 10\n";
+    assert_eq!(said, lines);
+    assert_eq!(folder.pair("U"), folder.pair("T"));
+}
+
+#[test]
+fn a_column_inside_a_dropped_one_goes_with_it() {
+    let folder = Folder::with_t();
+    let arguments = "update T --drop visits.day --drop visits.element --drop visits --drop visits \
+                     --out U";
+    let lines = "dropped 7 visits.element.day, with 2 visits\n\
+                 dropped 6 visits.element, with 2 visits\n\
+                 dropped 2 visits, and 2 columns inside it\n\
+                 last id 10\n";
+    assert_eq!(folder.braid(arguments).answer(), lines);
+    folder.piped("make - --out A", b"1 a: struct\n  2 b: struct\n").answer();
+    let said = folder.braid("update A --drop a --out B").answer();
+    assert_eq!(said, "dropped 1 a, and 1 column inside it\nlast id 2\n");
+}
+
+#[test]
+fn a_tree_is_told_column_by_column() {
+    let folder = Folder::with_t();
+    folder.piped("make - --out s", b"1 s: struct\n  2 a: primitive 2\n3 t: primitive 2\n").answer();
+    let said = folder.braid("update T --add-tree s --under visits --out U").answer();
+    let lines = "added 11 visits.element.s\nadded 12 visits.element.s.a\n\
+                 added 13 visits.element.t\nlast id 13\n";
+    assert_eq!(said, lines);
+    let said = folder.braid("update T --drop visits --add-tree s --under visits --out V").answer();
+    assert!(
+        said.contains("vanished 12 visits.element.s.a, with 2 visits; its id stays consumed\n")
+    );
+}
+
+#[test]
+fn columns_are_dropped_by_id_too_in_the_order_given() {
+    let folder = Folder::with_t();
+    let said =
+        folder.braid("update T --drop-id 7 --drop node.cost --drop-id 4,10 --out U").answer();
+    let lines = "dropped 7 visits.element.day\ndropped 5 node.cost\ndropped 4 node.button\n\
+                 dropped 10 parts.value.price\nlast id 10\n";
+    assert_eq!(said, lines);
+    // a path may be a number, so --drop never takes it for an id
+    folder.piped("make - --out N", b"1 7: struct\n7 a: struct\n").answer();
+    assert_eq!(folder.braid("update N --drop 7 --out O").answer(), "dropped 1 7\nlast id 7\n");
+    assert_eq!(folder.braid("update N --drop-id 7 --out P").answer(), "dropped 7 a\nlast id 7\n");
+    assert_eq!(folder.braid("update N --drop-id 8 --out Q").complaint(1), "no column has id 8\n");
+    folder.piped("make - --out M", b"-1 a: struct\n-2 b: struct\n").answer();
+    let said = folder.braid("update M --drop-id -1,-2 --out L").answer();
+    assert_eq!(said, "dropped -1 a\ndropped -2 b\nlast id -1\n");
+}
+
+#[test]
+fn a_parent_is_named_by_its_id_too() {
+    let folder = Folder::with_t();
+    let arguments = "update T --add a:1 --under-id 2 --required --default --add b:1 --under-id 1 \
+                     --add c:1 --out U";
+    let lines = "added 11 visits.element.a\nadded 12 node.b\nadded 13 c\nlast id 13\n";
+    assert_eq!(folder.braid(arguments).answer(), lines);
+    assert!(folder.braid("list U").answer().contains("11 a: primitive 1 required default\n"));
+    let said = folder.braid("update T --add a:1 --under-id 11 --out V").complaint(1);
+    assert_eq!(said, "no column has id 11\n");
+}
+
+#[test]
+fn columns_are_kept_by_id_and_by_name() {
+    let folder = Folder::with_t();
+    let ids = |stem: &str| {
+        let lines = folder.braid(&format!("list {stem} --plain")).answer();
+        let id = |line: &str| line.split(' ').nth(1).expect("an id").to_string();
+        lines.lines().map(id).collect::<Vec<_>>()
+    };
+    folder.braid("prune T --keep 5,visits.day --out A").answer();
+    assert_eq!(ids("A"), ["1", "5", "2", "6", "7"]);
+    folder.braid("prune T --keep 5 --keep 7 --out B").answer();
+    assert_eq!(folder.pair("B"), folder.pair("A"));
+    let said = folder.braid("prune T --keep node.prise --out C").complaint(1);
+    assert_eq!(said, "no column is named \"node.prise\"; did you mean parts.value.price?\n");
+    assert!(!folder.files().contains(&"C.rec".into()));
+}
+
+#[test]
+fn ids_that_the_tree_has_not_are_told_by_prune() {
+    let folder = Folder::with_t();
+    let said = folder.braid("prune T --keep 99,7,-3,99 --out A").answer();
+    assert_eq!(said, "not in T: id -3\nnot in T: id 99\nkept 3 of 10 records\n");
+}
+
+#[test]
+fn identifiers_are_named_too() {
+    let folder = Folder::with_t();
+    let said = folder.braid("renumber T --from 100 --identifiers visits.day,4 --out U").answer();
+    assert_eq!(said, "last id 109\nidentifiers 106,103\n");
+    let said = folder.braid("update T --identifiers node.cost --drop node.cost --out V").refusal();
+    assert!(said[0].starts_with("refused 12 at 2 0: "), "{said:?}");
+}
+
+#[test]
+fn quiet_prints_nothing_and_does_the_same() {
+    let folder = Folder::with_t();
+    for arguments in [
+        "update T --drop node --add x:2 --out U",
+        "prune T --keep 7,99 --out U",
+        "renumber T --from 3 --identifiers 7 --out U",
+        "make T.picture --out U",
+    ] {
+        std::fs::write(folder.file("T.picture"), folder.braid("list T").answer()).expect("written");
+        assert_ne!(folder.braid(&format!("{arguments} --force")).answer(), "");
+        let loud = (folder.pair("U"), folder.last("U"));
+        assert_eq!(folder.braid(&format!("{arguments} --force --quiet")).answer(), "");
+        assert_eq!((folder.pair("U"), folder.last("U")), loud, "{arguments}");
+    }
+    let said = folder.braid("update T --drop nodes --out V --quiet").refusal();
+    assert!(said[0].starts_with("refused 11 at 2 0: "), "{said:?}");
+}
+
+/// The ids of the lines that begin with a word.
+fn told(said: &str, word: &str) -> BTreeSet<i32> {
+    let id = |line: &str| line.strip_prefix(word)?.split([' ', ',']).next()?.parse().ok();
+    said.lines().filter_map(id).collect()
+}
+
+/// The ids of a tree.
+fn ids(folder: &Folder, stem: &str) -> BTreeSet<i32> {
+    let lines = folder.braid(&format!("list {stem} --plain")).answer();
+    let id = |line: &str| line.split(' ').nth(1).and_then(|id| id.parse().ok());
+    lines.lines().filter_map(id).collect()
+}
+
+/// The tree's ids inside the columns of these ids, themselves among them.
+fn with_inside(folder: &Folder, stem: &str, of: &BTreeSet<i32>) -> BTreeSet<i32> {
+    let mut all = of.clone();
+    for line in folder.braid(&format!("list {stem} --plain")).answer().lines() {
+        let words: Vec<&str> = line.split(' ').collect();
+        if words[2].parse().is_ok_and(|parent| all.contains(&parent)) {
+            all.insert(words[1].parse().expect("an id"));
+        }
+    }
+    all
+}
+
+#[test]
+fn what_is_told_is_what_the_library_did() {
+    let folder = Folder::with_t();
+    let paths = [
+        "node",
+        "node.button",
+        "node.cost",
+        "visits",
+        "visits.element",
+        "visits.day",
+        "parts",
+        "parts.key",
+        "parts.value",
+        "parts.price",
+    ];
+    let parents = ["node", "visits", "parts", "visits.element", "parts.value"];
+    let mut random = Random::new(14);
+    let (mut accepted, mut vanished) = (0, 0);
+    for case in 0..120 {
+        let mut arguments = String::from("update T --out U --force");
+        for _ in 0..1 + random.below(4) {
+            arguments += &format!(" --drop {}", paths[random.below(paths.len())]);
+        }
+        for name in 0..random.below(4) {
+            arguments += &format!(" --add new{name}:2");
+            if random.chance(3, 4) {
+                arguments += &format!(" --under {}", parents[random.below(parents.len())]);
+            }
+        }
+        let Said { status, out, err } = folder.braid(&arguments);
+        assert_eq!((status, err.as_str()), (0, ""), "case {case}: {arguments}");
+        let said = String::from_utf8(out).expect("UTF-8");
+        let (before, after) = (ids(&folder, "T"), ids(&folder, "U"));
+        let gone: BTreeSet<i32> = before.difference(&after).copied().collect();
+        let new: BTreeSet<i32> = after.difference(&before).copied().collect();
+        assert_eq!(
+            with_inside(&folder, "T", &told(&said, "dropped ")),
+            gone,
+            "{arguments}\n{said}"
+        );
+        assert!(told(&said, "stays ").is_subset(&after), "{arguments}\n{said}");
+        assert_eq!(told(&said, "added "), new, "{arguments}\n{said}");
+        let last: i32 = folder.last("U").expect("it is kept").trim().parse().expect("a number");
+        let consumed: BTreeSet<i32> = (11..=last).filter(|id| !new.contains(id)).collect();
+        assert_eq!(told(&said, "vanished "), consumed, "{arguments}\n{said}");
+        for line in said.lines().filter_map(|line| line.strip_prefix("added ")) {
+            let (id, name) = line.split_once(' ').expect("an id and a name");
+            let found = folder.braid(&format!("find U {name}")).answer();
+            assert!(found.starts_with(&format!("id {id} slot ")), "{line}: {found}");
+        }
+        accepted += 1;
+        vanished += usize::from(!consumed.is_empty());
+    }
+    assert!(accepted == 120 && vanished > 10, "{vanished} of {accepted} with vanished columns");
+}
