@@ -81,14 +81,23 @@ fn fits(folder: &Path) -> Result<(), String> {
         }
     }
     let version = version();
-    let ended = format!("{version}\0");
-    match bytes.windows(ended.len()).any(|part| part == ended.as_bytes()) {
+    match names(&bytes).is_some_and(|mut names| names.any(|name| name == version.as_bytes())) {
         true => Ok(()),
         false => Err(format!(
             "{} is of another version than this crate: it has no {version}",
             archive.display()
         )),
     }
+}
+
+/// The functions that an archive offers, by its index: eight bytes, a header of 60 whose bytes 48 to
+/// 57 are the length, then a count, as many places, and the names, each with a zero at its end.
+fn names(bytes: &[u8]) -> Option<impl Iterator<Item = &[u8]>> {
+    let (header, index) = bytes.get(8..)?.split_at_checked(60)?;
+    let length = std::str::from_utf8(header.get(48..58)?).ok()?.trim().parse().ok()?;
+    let (count, rest) = index.get(..length)?.split_first_chunk()?;
+    let names = rest.get(4 * u32::from_be_bytes(*count) as usize..)?;
+    Some(names.split(|&byte| byte == 0))
 }
 
 /// The function whose name has the version, as this crate declares it.
