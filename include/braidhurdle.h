@@ -108,6 +108,10 @@ struct braidhurdle_found {
     uint32_t slot;
 };
 
+/* Answers 1, the version of this boundary, which its name has too: an archive of another version has another name here. A program
+ * that refers to it therefore links with no archive whose functions are declared otherwise. */
+uint32_t braidhurdle_abi_1(void);
+
 /* Drops and adds columns. Deletions and additions are path entries into request_pool; the k-th root of added_records belongs to
  * the k-th addition, its names too stand in request_pool, and ids in it are ignored. Ids are handed out from last_id + 1: the
  * largest id in the tree is not enough, since that column may have been dropped. The answer's last_id is what to give next time.

@@ -58,6 +58,7 @@ fn main() {
 fn files() -> Result<PathBuf, String> {
     let here = PathBuf::from(env::var("CARGO_MANIFEST_DIR").expect("cargo sets it"));
     let folder = match env::var(VARIABLE) {
+        Ok(word) if word == "none" => return Err(format!("{VARIABLE}=none leaves it out")),
         Ok(folder) => PathBuf::from(folder),
         Err(_) => here.join("../../../shared/docs/src"),
     };

@@ -99,6 +99,15 @@ fn lay_sought(sought: Sought) -> FoundNumbers
     }
 }
 
+// The version of these functions, in its name too: whoever is compiled against other declarations asks for another name, and finds
+// none here. A change of any declaration raises both.
+#[no_mangle]
+pub extern "C" fn braidhurdle_abi_1() -> u32
+    ensures { λ r. ⌜ r ≡ 1 ⌝ }
+{
+    1
+}
+
 // Drops and adds columns; ids are handed out from `last_id` + 1.
 #[no_mangle]
 pub extern "C" fn braidhurdle_update<'a>(

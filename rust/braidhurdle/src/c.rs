@@ -50,6 +50,17 @@ pub struct Found {
     pub slot: u32,
 }
 
+/// Only an archive whose functions are those that are declared here has this one, so that no other
+/// links.
+#[cfg(archive)]
+#[used]
+static DECLARED: unsafe extern "C" fn() -> u32 = {
+    unsafe extern "C" {
+        fn braidhurdle_abi_1() -> u32;
+    }
+    braidhurdle_abi_1
+};
+
 /// One function of the archive. Its arguments are lists, a number, lists, and buffers to write, in
 /// this order; in C a list or buffer is a pointer and a length, as `include/braidhurdle.h` has it.
 macro_rules! function {
