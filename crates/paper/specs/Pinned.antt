@@ -23,7 +23,7 @@ use Rattle.paper.specs.Worked.{Example, _gives_}
 -- ---- small trees
 
 -- A tree with no identifiers and last id 10.
-abbrev tree-of : Forest Field → Lending
+abbrev pub tree-of : Forest Field → Lending
 tree-of t = lent t [] 10
 
 -- Its first n records alone, with all the names.
@@ -35,7 +35,7 @@ abbrev nameless : Forest Field → Lending
 nameless t = lending (record-bytes t) [] [] 10
 
 -- A byte more than its records.
-abbrev longer : Forest Field → Lending
+abbrev pub longer : Forest Field → Lending
 longer t = lending (record-bytes t ++ 0 ∷ []) (pool-bytes t) [] 10
 
 -- Room for a byte less than the records of any answer.
@@ -82,7 +82,7 @@ abbrev nested : Forest Field
 nested = listing "x" 4 (struct "element" 5 (primitive "y" 6))
 
 -- A root with id -1 and its member.
-abbrev minus-one : Lending
+abbrev pub minus-one : Lending
 minus-one = lending (row24 4_294_967_295 0 1 1 0 1 0 0 ++ row24 2 1 1 0 0 0 0 0) (text "ab") [] 2
 
 -- ---- rules
