@@ -21,12 +21,15 @@ use Rattle.paper.specs.Sample.{T, T-records, T-pool}
 use Rattle.paper.specs.Asked.{AnUpdate, APruner, signed-id, answer, update-reply, _with-last_}
 use Rattle.paper.specs.Worked.{examples}
 use Rattle.paper.proofs.Hold.{T-decodes, all-hold}
+use Rattle.paper.proofs.Pins.{Held, pins}
 use Rattle.laws.specs.Fit.{Bytes}
 use Rattle.theorems.specs.Run.{Begins, Lasting, LastingRun}
 use Rattle.theorems.specs.Stored.{Stored, Lent, update-stored, run-stored, BeginsStored, LastingStored}
 use Rattle.theorems.specs.Again.{ReadsAgain}
 use Rattle.theorems.specs.Changed.{Pruned, Renumbered}
-use Rattle.theorems.specs.One.{Handed, Promised, PromisedFound, Told, RefusalsTold}
+use Rattle.theorems.specs.One.{Handed, Promised, Untouched, PromisedFound, Told, RefusalsTold}
+use Rattle.theorems.specs.Numbered.{OneNumberEach}
+use Rattle.theorems.specs.Sites.{IdsAreNoSlots}
 use Rattle.theorems.specs.Wrong.{P4, P5, RightUpdate, P8, P9, RightPruner}
 use Rattle.theorems.proofs.Signed.{signed-natural, signed-negative}
 use Rattle.theorems.proofs.Evolution.{lasting}
@@ -38,6 +41,8 @@ use Rattle.theorems.proofs.Again.{decoded-again, update-again, prune-ag
 use Rattle.theorems.proofs.Again.{prune-parts, renumber-numbers}
 use Rattle.theorems.proofs.One as One
 use Rattle.theorems.proofs.Told.{refusals-told, none-accepted}
+use Rattle.theorems.proofs.Numbered.{one-number-each}
+use Rattle.theorems.proofs.Sites.{ids-are-no-slots}
 use Rattle.theorems.proofs.Wrong.{right-update, right-pruner}
 
 -- ---- the worked examples
@@ -50,6 +55,11 @@ worked-tree = T-decodes
 -- in bytes and read in signed ids, is what 01 gives.
 pub worked-examples : map (λ e. answer (e .asked)) examples ≡ map (λ e. e .given) examples
 worked-examples = all-hold
+
+-- Rules that P1 to P13 don't show, each refusal, and the order of any two that can meet: one list, and one claim over it. Beside
+-- it the six numbers, the bytes in the buffers, and the lister's text.
+pub pinned-rules : Held
+pinned-rules = pins
 
 -- The signed reading is two's complement: n and -(n + 1), from their 32 bits.
 pub signed-reading : (n : ℕ) → n < 2_147_483_648
@@ -143,6 +153,21 @@ one-answer = One.one-answer
 -- and so are two of a look-up.
 pub one-found : (a : Answer (Option Row)) (x y : Found) → PromisedFound a x → PromisedFound a y → x ≡ y
 one-found = One.one-found
+
+-- A refusal changes no byte. Of an outcome that keeps an entry's promise: where the definition refuses, and so where the
+-- number that is told is not 0, each output buffer is as it was. An entry is lent nothing else that it could write.
+pub refusals-change-no-byte : (a : Answer Result) (before after : Handed) → Promised a before after
+    → ((n l p : ℕ) → a ≡ refused n l p → Untouched before after)
+    × ((after .numbers .refusal ≡ 0 → ⊥) → Untouched before after)
+refusals-change-no-byte = One.untouched
+
+-- Each refusal has one number: the definitions give 1 to the last, each once, and none gives another's.
+pub each-refusal-has-one-number : OneNumberEach
+each-refusal-has-one-number = one-number-each
+
+-- An id is no slot: a look-up answers the id of the record that stands at the slot that it answers.
+pub an-id-is-no-slot : IdsAreNoSlots
+an-id-is-no-slot = ids-are-no-slots
 
 -- A refusal has a number of 01's table, from 1 to 20, and one of its lists, from 0 to 5.
 pub refusals-are-told : RefusalsTold
