@@ -56,6 +56,10 @@ shared =
 abbrev two-of-a-name : Lending
 two-of-a-name = tree-of (primitive "a" 1 then primitive "a" 2)
 
+-- The lowest id, and the highest under it.
+abbrev farthest : Lending
+farthest = lending (row24 2_147_483_648 0 1 1 0 1 0 0 ++ row24 2_147_483_647 1 1 0 0 0 0 0) (text "ab") [] 2
+
 abbrev listed : Lending → List ℕ
 listed b = lister (b .records) (b .pool)
 
@@ -95,8 +99,9 @@ pub record Held : Type 0 where
       ≡ (row24 1 0 1 1 0 1 0 0 ++ row24 2 1 1 0 0 0 0 0 ++ row24 3 2 0 0 0 0 0 0) ∷ text "aa" ∷ []
   -- The lister's line of a refusal; signed ids, of parents too; no line of an empty tree (9, 66, 67).
   pub lines-are :
-      map listed (two-of-a-name ∷ longer empty ∷ minus-one ∷ tree-of empty ∷ [])
-      ≡ text "refused 8 at 0 1\n" ∷ text "refused 2 at 0 0\n" ∷ text "0 -1 - a\n1 2 -1 a.b\n" ∷ [] ∷ []
+      map listed (two-of-a-name ∷ longer empty ∷ minus-one ∷ farthest ∷ tree-of empty ∷ [])
+      ≡ text "refused 8 at 0 1\n" ∷ text "refused 2 at 0 0\n" ∷ text "0 -1 - a\n1 2 -1 a.b\n"
+      ∷ text "0 -2147483648 - a\n1 2147483647 -2147483648 a.b\n" ∷ [] ∷ []
 
 pub pins : Held
 unfolding answer answer-of signed-id _>>=_ lowest size siblings levels preorder counts mapped _then_

@@ -6,7 +6,7 @@ use Prim.Native.String.{String}
 use mathlib.Core.List.{List, [], _∷_, _++_, map}
 use mathlib.Core.Option.{none, some}
 use lib.IntN.{pos, negsuc}
-use lib.ListN.{take}
+use lib.ListN.{take, set, replicate}
 use Rattle.paper.specs.declared.Kind.the-variants.{Primitive, Listing}
 use Rattle.paper.specs.Forest.{Forest, empty, _then_}
 use Rattle.paper.specs.Field.{Field}
@@ -38,18 +38,22 @@ nameless t = lending (record-bytes t) [] [] 10
 abbrev pub longer : Forest Field → Lending
 longer t = lending (record-bytes t ++ 0 ∷ []) (pool-bytes t) [] 10
 
--- Room for a byte less than the records of any answer.
-abbrev narrow : Lending → Lending
-narrow b =
+-- With room for so many bytes of records, names and identifiers.
+abbrev with-room : (records names identifiers : ℕ) → Lending → Lending
+with-room records names identifiers b =
     record {
       records = b .records;
       pool = b .pool;
       identifiers = b .identifiers;
       last = b .last;
-      room-records = 24575;
-      room-names = b .room-names;
-      room-identifiers = b .room-identifiers;
+      room-records = records;
+      room-names = names;
+      room-identifiers = identifiers;
     }
+
+-- A byte less than the records of any answer may need.
+abbrev narrow : Lending → Lending
+narrow = with-room 24575 32768 0
 
 -- A flag that is none of the two, which 3 refuses.
 abbrev odd : String → ℕ → Forest Field
@@ -134,6 +138,14 @@ updates =
     ∷ (of tree-of empty ask drop [] add (new (struct "s" 0 (required "a.b" 0)) none ∷ [])  -- 34
     gives (11 ∷ 12 ∷ []) with-last 12)
     ∷ (drop [] add (("x" under "") ∷ []) gives refusal 15 list 3 place 0)  -- 15
+    -- Ids in preorder, entry after entry; under one parent in entry order; each record counts.
+    ∷ (of tree-of empty ask drop [] add (
+      new (struct "s" 0 (struct "a" 0 (primitive "b" 0) then primitive "c" 0)) none ∷ at-root "x" ∷ [])
+    gives (11 ∷ 12 ∷ 13 ∷ 14 ∷ 15 ∷ []) with-last 15)
+    ∷ (drop [] add (("x" under "node") ∷ ("y" under "node") ∷ [])
+    gives (1 ∷ 4 ∷ 5 ∷ 11 ∷ 12 ∷ 2 ∷ 6 ∷ 7 ∷ 3 ∷ 8 ∷ 9 ∷ 10 ∷ []) with-last 12)
+    ∷ (of lent empty [] 2_147_483_646 ask drop [] add (new (struct "s" 0 (primitive "a" 0)) none ∷ [])
+    gives refusal 18 list 3 place 0)
     -- A dropped element stays, and what is dropped of its members goes.
     ∷ (of tree-of (list-of (primitive "a" 3 then primitive "b" 4)) ask drop ("l.element" ∷ "l.a" ∷ []) add []  -- 46
     gives (1 ∷ 2 ∷ 4 ∷ []) with-last 10)
@@ -186,6 +198,71 @@ others =
     ∷ (of tree-of (mapping "m" 1 (primitive "key" 2 then primitive "key" 3)) ask find "m" gives refusal 6 list 0 place 2)
     ∷ (of tree-of empty ask drop [] add (new (listing "element" 0 (primitive "x" 0)) none ∷ [])  -- 23
     gives refusal 6 list 1 place 1)
+    ∷ []
+
+-- ---- bytes and limits
+
+-- A request of these bytes; the additions tree and the request pool are those of what is lent.
+abbrev lists-are : (deletions additions : List ℕ) → (added : Lending) → Ask
+lists-are ds ps b = request (record { deletions = ds; additions = ps; added = b .records; request = b .pool })
+
+-- A record named `a`, with id 1, of a kind and so many direct children; and what is told of it, with 4 for one of its bytes.
+abbrev one : (kind kids : ℕ) → List ℕ
+one kind kids = row24 1 0 1 kind 0 kids 0 0
+
+abbrev with-4 : List ℕ → Reply → ℕ → Example
+with-4 r told at = (of lending (set r at 4) (text "a") [] 1 ask find "a") gives told
+
+-- n records of a kind that is none, with names of 255 bytes that no pool has, and one with a name of a last length.
+abbrev long-names : (n last : ℕ) → Lending
+long-names zero last = lending (row24 1 4_294_967_295 last 9 0 0 0 0) [] [] 1
+long-names (suc n) last =
+    let b = long-names n last in
+    lending (row24 1 4_294_967_295 255 9 0 0 0 0 ++ b .records) [] [] 1
+
+abbrev zeros : ℕ → List ℕ
+zeros n = replicate n 0
+
+abbrev byte-rules : List Example
+byte-rules =
+    -- 3: kind, flags, byte 11, children of a primitive, bytes 14 and 15; a type code of a primitive alone; any attribute.
+    map (with-4 (one 0 0) (refusal 3 list 0 place 0)) (9 ∷ 10 ∷ 11 ∷ 12 ∷ 13 ∷ 14 ∷ 15 ∷ [])
+    ++ map (with-4 (one 0 0) (found (pos 1))) (16 ∷ 17 ∷ 18 ∷ 19 ∷ 20 ∷ 21 ∷ 22 ∷ 23 ∷ [])
+    ++ map (with-4 (one 1 0) (refusal 3 list 0 place 0)) (16 ∷ 17 ∷ 18 ∷ 19 ∷ [])
+    ++ map (with-4 (one 1 0) (found (pos 1))) (20 ∷ 21 ∷ 22 ∷ 23 ∷ [])
+    ++ map (λ r. (of lending r (text "a") [] 1 ask find "a") gives refusal 3 list 0 place 0)
+    (one 2 0 ∷ one 2 2 ∷ one 3 1 ∷ one 3 3 ∷ [])
+    ++ map (λ r. (of lending r (text "a") [] 1 ask find "a") gives refusal 5 list 0 place 1)
+    (one 1 1 ∷ one 2 1 ∷ one 3 2 ∷ [])
+    -- An entry's has-path is 0 or 1, of a deletion 1; its last byte is 0; without a path offset and length are 0.
+    ++ map (λ e. lists-are (set e 7 4) [] (tree-of empty) gives refusal 3 list 2 place 0) (entry 0 0 1 ∷ entry 0 0 0 ∷ [])
+    ++ map (λ e. lists-are [] e (tree-of empty) gives refusal 3 list 3 place 0)
+    (set (entry 0 0 1) 7 4 ∷ set (entry 0 0 0) 7 4 ∷ entry 0 0 2 ∷ entry 1 0 0 ∷ entry 0 1 0 ∷ [])
+    -- A path's length has two bytes; an offset counts too.
+    ++ (lists-are (entry 0 256 1) [] (lending [] (zeros 256) [] 0) gives refusal 11 list 2 place 0)
+    ∷ (lists-are (entry 0 257 1) [] (lending [] (zeros 256) [] 0) gives refusal 4 list 2 place 0)
+    ∷ (lists-are (entry 257 0 1) [] (lending [] (zeros 256) [] 0) gives refusal 4 list 2 place 0)
+    ∷ []
+
+-- The limits: what is still let through, and one more.
+abbrev limits : List Example
+limits =
+    -- 64 deletions, additions, identifiers; 1,024 selected ids.
+    (lists-are (zeros 512) [] (tree-of empty) gives refusal 3 list 2 place 0)
+    ∷ (lists-are (zeros 520) [] (tree-of empty) gives refusal 2 list 0 place 0)
+    ∷ (lists-are [] (zeros 512) (tree-of empty) gives refusal 10 list 3 place 0)
+    ∷ (lists-are [] (zeros 520) (tree-of empty) gives refusal 2 list 0 place 0)
+    ∷ (of lent empty (zeros 64) 0 ask renumber-from 1 gives refusal 9 list 5 place 0)
+    ∷ (of lent empty (zeros 65) 0 ask drop [] add [] gives refusal 2 list 0 place 0)
+    ∷ (of tree-of empty ask choose (zeros 1024) gives ids-are [])
+    ∷ (of tree-of empty ask choose (zeros 1025) gives refusal 2 list 0 place 0)
+    -- 32,768 bytes in a pool, and as the sum of the name lengths, whatever else the records hold; 1,024 records.
+    ∷ (of lending [] (zeros 32768) [] 0 ask find "a" gives nothing)
+    ∷ (of lending [] (zeros 32769) [] 0 ask find "a" gives refusal 2 list 0 place 0)
+    ∷ (of long-names 128 128 ask find "a" gives refusal 3 list 0 place 0)
+    ∷ (of long-names 128 129 ask find "a" gives refusal 2 list 0 place 0)  -- 3
+    ∷ (lists-are [] [] (long-names 128 129) gives refusal 2 list 0 place 0)
+    ∷ (of lending (zeros 24600) [] [] 0 ask find "a" gives refusal 2 list 0 place 0)
     ∷ []
 
 -- ---- each refusal, once
@@ -244,6 +321,19 @@ base-order =
     ++ map (λ q. (of narrow (longer empty) ask q) gives refusal 1 list 0 place 0)
     ((drop [] add []) ∷ choose [] ∷ renumber-from 1 ∷ [])
 
+-- No record, and identifiers of 3 bytes.
+abbrev three-bytes : Lending
+three-bytes =
+    record {
+      records = [];
+      pool = [];
+      identifiers = zeros 3;
+      last = 0;
+      room-records = 0;
+      room-names = 0;
+      room-identifiers = 0;
+    }
+
 -- Of pruning and renumbering: 8 and 20; 8 and 9; 9 and 18. Identifiers of 3 bytes and room for 2 are 1, not 2.
 abbrev own-order : List Example
 own-order =
@@ -251,20 +341,10 @@ own-order =
     gives refusal 8 list 0 place 2)
     ∷ (of lent (primitive "a" 1 then primitive "a" 2) (99 ∷ []) 10 ask renumber-from 1 gives refusal 8 list 0 place 1)
     ∷ (of T-lent (99 ∷ []) 10 ask renumber-from 2_147_483_638 gives refusal 9 list 5 place 0)
-    ∷ (of record {
-      records = [];
-      pool = [];
-      identifiers = 0 ∷ 0 ∷ 0 ∷ [];
-      last = 0;
-      room-records = 24576;
-      room-names = 32768;
-      room-identifiers = 2;
-    } ask renumber-from 1 gives refusal 1 list 0 place 0)  -- 1
+    ∷ (of with-room 24576 32768 2 three-bytes ask renumber-from 1 gives refusal 1 list 0 place 0)  -- 1
+    ∷ (of with-room 24576 32768 3 three-bytes ask renumber-from 1 gives refusal 2 list 0 place 0)
+    ∷ (of with-room 24576 32767 0 (tree-of empty) ask drop [] add [] gives refusal 1 list 0 place 0)
     ∷ []
-
--- An update's lists: a request of these bytes.
-abbrev lists-are : (deletions additions : List ℕ) → (added : Lending) → Ask
-lists-are ds ps b = request (record { deletions = ds; additions = ps; added = b .records; request = b .pool })
 
 -- Of an update's lists: base 6 and additions tree 3; its 3 and 4; 4 and 5; 5 and 6; its 6 and deletions 3; their 3 and 4; their
 -- 4 and additions 3; their 3 and 4; their 4 and base 7; base 8 and 9; 9 and 10.
@@ -315,4 +395,4 @@ decided-order =
     ∷ []
 
 abbrev pub pinned : List Example
-pinned = names ++ updates ++ others ++ met ++ base-order ++ own-order ++ lists-order ++ decided-order
+pinned = names ++ updates ++ others ++ byte-rules ++ limits ++ met ++ base-order ++ own-order ++ lists-order ++ decided-order
