@@ -261,8 +261,11 @@ limits =
     ∷ (of lending [] (zeros 32769) [] 0 ask find "a" gives refusal 2 list 0 place 0)
     ∷ (of long-names 128 128 ask find "a" gives refusal 3 list 0 place 0)
     ∷ (of long-names 128 129 ask find "a" gives refusal 2 list 0 place 0)  -- 3
-    ∷ (lists-are [] [] (long-names 128 129) gives refusal 2 list 0 place 0)
     ∷ (of lending (zeros 24600) [] [] 0 ask find "a" gives refusal 2 list 0 place 0)
+    -- No whole number of records, entries, ids; the additions tree's too.
+    ∷ (lists-are (zeros 7) [] (tree-of empty) gives refusal 2 list 0 place 0)
+    ∷ (lists-are [] (zeros 7) (tree-of empty) gives refusal 2 list 0 place 0)
+    ∷ (lists-are [] [] (longer empty) gives refusal 2 list 0 place 0)
     ∷ []
 
 -- ---- each refusal, once
