@@ -85,6 +85,10 @@ dotted = primitive "x.y" 3
 abbrev nested : Forest Field
 nested = listing "x" 4 (struct "element" 5 (primitive "y" 6))
 
+-- A struct of a struct and a primitive.
+abbrev branched : Forest Field
+branched = struct "s" 0 (struct "a" 0 (primitive "b" 0) then primitive "c" 0)
+
 -- A root with id -1 and its member.
 abbrev pub minus-one : Lending
 minus-one = lending (row24 4_294_967_295 0 1 1 0 1 0 0 ++ row24 2 1 1 0 0 0 0 0) (text "ab") [] 2
@@ -139,8 +143,7 @@ updates =
     gives (11 ∷ 12 ∷ []) with-last 12)
     ∷ (drop [] add (("x" under "") ∷ []) gives refusal 15 list 3 place 0)  -- 15
     -- Ids in preorder, entry after entry; under one parent in entry order; each record counts.
-    ∷ (of tree-of empty ask drop [] add (
-      new (struct "s" 0 (struct "a" 0 (primitive "b" 0) then primitive "c" 0)) none ∷ at-root "x" ∷ [])
+    ∷ (of tree-of empty ask drop [] add (new branched none ∷ at-root "x" ∷ [])
     gives (11 ∷ 12 ∷ 13 ∷ 14 ∷ 15 ∷ []) with-last 15)
     ∷ (drop [] add (("x" under "node") ∷ ("y" under "node") ∷ [])
     gives (1 ∷ 4 ∷ 5 ∷ 11 ∷ 12 ∷ 2 ∷ 6 ∷ 7 ∷ 3 ∷ 8 ∷ 9 ∷ 10 ∷ []) with-last 12)
