@@ -5,6 +5,7 @@ use mathlib.Core.Path.{_≡_, refl}
 use mathlib.Core.Bool.{true, false}
 use mathlib.Core.List.{List, [], _∷_, _++_, map}
 use Rattle.paper.specs.Answer.{Answer, _>>=_, lowest}
+use Rattle.paper.specs.Refusals.{last-refusal}
 use Rattle.paper.specs.Forest.{empty, size, siblings, levels, preorder, counts, mapped, _then_}
 use Rattle.paper.specs.Rows.{rows, entered, look-name, look-id, look-parent}
 use Rattle.paper.specs.Sound.{text, fitting, misnamed, names, ids, sound, name-bytes, within}
@@ -29,7 +30,7 @@ use Rattle.paper.specs.Lister.{digits, decimal, signed, lines, listing, 
 use Rattle.paper.specs.Sample.{primitive, T-records, T-pool}
 use Rattle.paper.specs.Asked.{Lending, lending, T-lent, at-root, signed-id, answer-of, answer}
 use Rattle.paper.specs.Asked.{asked-update, asked-prune, put-prune, put-renumber}
-use Rattle.paper.specs.Pinned.{tree-of, longer, minus-one, pinned}
+use Rattle.paper.specs.Pinned.{tree-of, longer, minus-one, number-told, met, pinned}
 
 -- ---- what is asked
 
@@ -76,6 +77,8 @@ sought refusal list place found id slot =
 pub record Held : Type 0 where
   -- Each answer is the one given.
   pub answers : map (λ e. answer (e .asked)) pinned ≡ map (λ e. e .given) pinned
+  -- Each refusal is met, from 1 to the last.
+  pub each-met : map (λ e. number-told (e .given)) met ≡ from (λ i. i) 1 last-refusal
   -- The six numbers: refusal, list, place; then record count, name bytes, last id of an acceptance.
   pub changed-numbers : map changed (P7 ∷ dropped ∷ from-11 ∷ [])
       ≡ numbers 8 4 11 0 0 0 ∷ numbers 0 0 0 7 34 10 ∷ numbers 0 0 0 10 48 0 ∷ []
@@ -117,6 +120,7 @@ unfolding answer answer-of signed-id _>>=_ lowest size siblings levels preorder 
 pins =
     record {
       answers = refl;
+      each-met = refl;
       changed-numbers = refl;
       found-numbers = refl;
       buffers = refl;

@@ -1,23 +1,23 @@
 -- Rules of 01 that P1 to P13 don't show: questions and answers, most of them the smallest inputs of docs/DECISIONS.md, whose
 -- number stands beside them. Then each refusal once, and the order of any two that can meet. All of them are one list and
--- one claim (`pinned-hold`).
+-- one claim (`pins`, with what no such list shows).
 use Prim.Native.Nat.{ℕ, zero, suc, _*_}
 use Prim.Native.String.{String}
 use mathlib.Core.List.{List, [], _∷_, _++_, map}
 use mathlib.Core.Option.{none, some}
 use lib.IntN.{pos, negsuc}
 use lib.ListN.{take, set, replicate}
-use Rattle.paper.specs.declared.Kind.the-variants.{Primitive, Listing}
+use Rattle.paper.specs.declared.Kind.the-variants.{Primitive}
 use Rattle.paper.specs.Forest.{Forest, empty, _then_}
 use Rattle.paper.specs.Field.{Field}
 use Rattle.paper.specs.Sound.{text}
 use Rattle.paper.specs.Bytes.{from}
 use Rattle.paper.specs.Encode.{row24, record-bytes, pool-bytes}
-use Rattle.paper.specs.Sample.{column, primitive, required, struct, listing, mapping, T-records, T-pool}
+use Rattle.paper.specs.Sample.{column, primitive, required, struct, listing, mapping, T-records}
 use Rattle.paper.specs.Asked.{Lending, lending, lent, T-lent, New, new, at-root, _under_, Lists, entry}
 use Rattle.paper.specs.Asked.{Ask, renumber-from, identifiers-from, find, find-number, find-above, drop_add_, request}
 use Rattle.paper.specs.Asked.{choose, choose-full, of_ask_}
-use Rattle.paper.specs.Asked.{Reply, tree, ids-are, _with-last_, found, nothing, refusal_list_place_}
+use Rattle.paper.specs.Asked.{Reply, tree, updated, ids-are, _with-last_, found, nothing, refusal_list_place_}
 use Rattle.paper.specs.Worked.{Example, _gives_}
 
 -- ---- small trees
@@ -182,7 +182,7 @@ others =
     -- 20 stands at what is met first; a chosen list is met though its members are chosen too.
     ∷ (of tree-of listings ask choose (1 ∷ 2 ∷ []) gives refusal 20 list 0 place 1)  -- 60
     ∷ (choose (2 ∷ 7 ∷ []) gives refusal 20 list 0 place 3)  -- 61
-    ∷ (choose (9 ∷ 2 ∷ []) gives refusal 20 list 0 place 3)
+    ∷ (of tree-of (structs then listing "l" 6 (primitive "element" 7)) ask choose (4 ∷ 6 ∷ []) gives refusal 20 list 0 place 5)  -- 65
     -- A list has one child; a name of no bytes lies in its pool too; offset and length are added, not cut.
     ∷ (of tree-of (listing "l" 1 (primitive "element" 2 then primitive "element" 3)) ask find "l"  -- 12
     gives refusal 3 list 0 place 0)
@@ -281,7 +281,15 @@ no-tree = record { deletions = []; additions = entry 0 0 0; added = []; request 
 abbrev and-then : New → List New
 and-then a = at-root "floor" ∷ a ∷ []
 
--- From 1 to 20.
+-- The number of a refusal.
+abbrev pub number-told : Reply → ℕ
+number-told (tree i) = 0
+number-told (updated i last) = 0
+number-told (found i) = 0
+number-told nothing = 0
+number-told (refusal n list l place p) = n
+
+-- From 1 to the last.
 abbrev pub met : List Example
 met =
     (of narrow (tree-of empty) ask choose [] gives refusal 1 list 0 place 0)  -- 2
