@@ -16,3 +16,4 @@ pub mod Pointwise
 pub mod Same
 pub mod Finding
 pub mod Rows
+pub mod Sited

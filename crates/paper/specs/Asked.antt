@@ -1,4 +1,4 @@
--- What is asked of T: the questions as bytes, and the answers as they are read, in signed ids.
+-- What is asked of a tree, T if no other is named: the questions as bytes, and the answers as they are read, in signed ids.
 use Prim.Native.Nat.{ℕ, _+_, _-_}
 use Prim.Native.String.{String}
 use mathlib.Core.Bool.{Bool, true, false, cond}
@@ -8,34 +8,88 @@ use lib.Dec.{ltb}
 use lib.IntN.{ℤ, pos, negsuc}
 use lib.ListN.{length}
 use Rattle.paper.specs.Answer.{Answer, ok, refused}
+use Rattle.paper.specs.Forest.{Forest, empty, _then_, preorder, counts}
+use Rattle.paper.specs.Field.{Field}
 use Rattle.paper.specs.Rows.{Row}
 use Rattle.paper.specs.Sound.{text, ids}
 use Rattle.paper.specs.Bytes.{turned}
-use Rattle.paper.specs.Encode.{bytes16, bytes32, row24}
-use Rattle.paper.specs.Entries.{Result, update-entry, prune-entry, renumber-entry, find-name}
-use Rattle.paper.specs.Sample.{T-records, T-pool}
+use Rattle.paper.specs.Encode.{bytes16, bytes32, encode-records, record-bytes, pool-bytes}
+use Rattle.paper.specs.Entries.{Result, update-entry, prune-entry, renumber-entry, find-name, find-id, find-parent}
+use Rattle.paper.specs.Sample.{primitive, T-records, T-pool}
+
+-- ---- what is lent beside a request
+
+-- A tree's bytes, identifiers, the last id, and the sizes of the output buffers.
+pub record Lending : Type 0 where
+  pub records : List ℕ
+  pub pool : List ℕ
+  pub identifiers : List ℕ
+  pub last : ℕ
+  pub room-records : ℕ
+  pub room-names : ℕ
+  pub room-identifiers : ℕ
+
+abbrev pub id-bytes : List ℕ → List ℕ
+id-bytes [] = []
+id-bytes (i ∷ is) = bytes32 i (id-bytes is)
+
+-- With room for any answer.
+abbrev pub lending : (records pool identifiers : List ℕ) → (last : ℕ) → Lending
+lending s p i last =
+    record {
+      records = s;
+      pool = p;
+      identifiers = id-bytes i;
+      last = last;
+      room-records = 24576;
+      room-names = 32768;
+      room-identifiers = length (id-bytes i);
+    }
+
+abbrev pub lent : Forest Field → (identifiers : List ℕ) → (last : ℕ) → Lending
+lent t = lending (record-bytes t) (pool-bytes t)
+
+abbrev pub T-lent : (identifiers : List ℕ) → (last : ℕ) → Lending
+T-lent = lending T-records T-pool
 
 -- ---- questions
 
--- An addition: an optional primitive, by its name and its parent's path, if it has one.
+-- An addition: a column, and its parent's path, if it has one. A name alone is an optional primitive.
 pub record New : Type 0 where
-  pub name : String
+  pub column : Forest Field
   pub parent : Option String
 
+abbrev pub new : Forest Field → Option String → New
+new column parent = record { column = column; parent = parent }
+
 abbrev pub at-root : String → New
-at-root name = record { name = name; parent = none }
+at-root name = new (primitive name 0) none
 
 infix 30 _under_
 abbrev pub _under_ : String → String → New
-name under path = record { name = name; parent = some path }
+name under path = new (primitive name 0) (some path)
+
+-- The lists of a request, as bytes.
+pub record Lists : Type 0 where
+  pub deletions : List ℕ
+  pub additions : List ℕ
+  pub added : List ℕ
+  pub request : List ℕ
 
 infix 20 drop_add_
+infix 15 of_ask_
 pub data Ask : Type 0 where
   renumber-from : (start : ℕ) → Ask
+  identifiers-from : (start : ℕ) → Ask
   find : String → Ask
+  find-number : (id : ℕ) → Ask
+  find-above : (id : ℕ) → Ask
   drop_add_ : List String → List New → Ask
+  request : Lists → Ask
   choose : List ℕ → Ask
   choose-full : List ℕ → Ask
+  -- The same of what is lent.
+  of_ask_ : Lending → Ask → Ask
 
 -- ---- answers
 
@@ -73,40 +127,32 @@ joined [] = []
 joined (none ∷ ps) = joined ps
 joined (some p ∷ ps) = p ++ joined ps
 
+-- An entry: a path's offset and length, and whether it has one.
+abbrev pub entry : (at len has : ℕ) → List ℕ
+entry at len has = bytes32 at (bytes16 len (has ∷ 0 ∷ []))
+
 -- Path entries whose paths stand in the pool from an offset on.
 abbrev path-entries : ℕ → List (Option (List ℕ)) → List ℕ
 path-entries at [] = []
-path-entries at (none ∷ ps) = bytes32 0 (bytes16 0 (0 ∷ 0 ∷ path-entries at ps))
-path-entries at (some p ∷ ps) = bytes32 at (bytes16 (length p) (1 ∷ 0 ∷ path-entries (at + length p) ps))
+path-entries at (none ∷ ps) = entry 0 0 0 ++ path-entries at ps
+path-entries at (some p ∷ ps) = entry at (length p) 1 ++ path-entries (at + length p) ps
 
--- Records of the new columns, whose names stand there from an offset on.
-abbrev new-records : ℕ → List (Option (List ℕ)) → List ℕ
-new-records at [] = []
-new-records at (none ∷ xs) = new-records at xs
-new-records at (some x ∷ xs) = row24 0 at (length x) 0 0 0 0 0 ++ new-records (at + length x) xs
-
-abbrev id-bytes : List ℕ → List ℕ
-id-bytes [] = []
-id-bytes (i ∷ is) = bytes32 i (id-bytes is)
+abbrev columns : List New → Forest Field
+columns [] = empty
+columns (a ∷ adds) = a .column then columns adds
 
 -- The lists of a request, of what it drops and what it adds.
-pub record Lists : Type 0 where
-  pub deletions : List ℕ
-  pub additions : List ℕ
-  pub added : List ℕ
-  pub request : List ℕ
-
 abbrev pub lists : List String → List New → Lists
 lists drops adds =
     let paths = texts drops in
     let parents = map (λ a. some-text (a .parent)) adds in
-    let names = texts (map (λ a. a .name) adds) in
+    let tree = columns adds in
     let at = length (joined paths) in
     record {
       deletions = path-entries 0 paths;
       additions = path-entries at parents;
-      added = new-records (at + length (joined parents)) names;
-      request = joined paths ++ joined parents ++ joined names;
+      added = encode-records (at + length (joined parents)) (preorder tree) (counts tree);
+      request = joined paths ++ joined parents ++ pool-bytes tree;
     }
 
 -- ---- the questions, put to an update or a pruner of the entries' types: T's last id is 10, no identifiers
@@ -119,13 +165,23 @@ AnUpdate =
 abbrev pub APruner : Type 0
 APruner = (records pool selected : List ℕ) (full : Bool) (room-records room-names : ℕ) → Answer Result
 
+abbrev pub put-update : AnUpdate → Lending → Lists → Answer Result
+put-update f b q =
+    f (b .records) (b .pool) (b .identifiers) (b .last) (q .deletions) (q .additions) (q .added) (q .request)
+    (b .room-records) (b .room-names)
+
+abbrev pub put-prune : APruner → Lending → List ℕ → Bool → Answer Result
+put-prune f b selected full = f (b .records) (b .pool) (id-bytes selected) full (b .room-records) (b .room-names)
+
+abbrev pub put-renumber : Lending → ℕ → Answer Result
+put-renumber b start =
+    renumber-entry (b .records) (b .pool) (b .identifiers) start (b .room-records) (b .room-names) (b .room-identifiers)
+
 abbrev pub asked-update : AnUpdate → List String → List New → Answer Result
-asked-update f drops adds =
-    let q = lists drops adds in
-    f T-records T-pool [] 10 (q .deletions) (q .additions) (q .added) (q .request) 24576 32768
+asked-update f drops adds = put-update f (T-lent [] 10) (lists drops adds)
 
 abbrev pub asked-prune : APruner → List ℕ → Bool → Answer Result
-asked-prune f selected full = f T-records T-pool (id-bytes selected) full 24576 32768
+asked-prune f selected full = put-prune f (T-lent [] 10) selected full
 
 -- ---- the answers, as they are read
 
@@ -136,6 +192,10 @@ abbrev tree-reply : Answer Result → Reply
 tree-reply (ok r) = tree (shown r)
 tree-reply (refused n l p) = refusal n list l place p
 
+abbrev identifiers-reply : Answer Result → Reply
+identifiers-reply (ok r) = tree (map signed-id (r .identifiers))
+identifiers-reply (refused n l p) = refusal n list l place p
+
 abbrev pub update-reply : Answer Result → Reply
 update-reply (ok r) = updated (shown r) (signed-id (turned (r .last)))
 update-reply (refused n l p) = refusal n list l place p
@@ -145,9 +205,17 @@ find-reply (ok none) = nothing
 find-reply (ok (some r)) = found (signed-id (r .field .id))
 find-reply (refused n l p) = refusal n list l place p
 
+unfoldable pub answer-of : Lending → Ask → Reply
+answer-of b (renumber-from start) = tree-reply (put-renumber b start)
+answer-of b (identifiers-from start) = identifiers-reply (put-renumber b start)
+answer-of b (find name) = find-reply (find-name (b .records) (b .pool) (text name))
+answer-of b (find-number id) = find-reply (find-id (b .records) (b .pool) id)
+answer-of b (find-above id) = find-reply (find-parent (b .records) (b .pool) id)
+answer-of b (drop ds add adds) = update-reply (put-update update-entry b (lists ds adds))
+answer-of b (request q) = update-reply (put-update update-entry b q)
+answer-of b (choose selected) = tree-reply (put-prune prune-entry b selected false)
+answer-of b (choose-full selected) = tree-reply (put-prune prune-entry b selected true)
+answer-of b (of c ask q) = answer-of c q
+
 unfoldable pub answer : Ask → Reply
-answer (renumber-from start) = tree-reply (renumber-entry T-records T-pool [] start 24576 32768 0)
-answer (find name) = find-reply (find-name T-records T-pool (text name))
-answer (drop ds add new) = update-reply (asked-update update-entry ds new)
-answer (choose selected) = tree-reply (asked-prune prune-entry selected false)
-answer (choose-full selected) = tree-reply (asked-prune prune-entry selected true)
+answer = answer-of (T-lent [] 10)

@@ -1,9 +1,16 @@
 -- 01, Numbers given when a request is turned down: each number once, with its list and its place, in the order of 01's table.
 -- Lists: 0 base, 1 additions tree, 2 deletions, 3 additions, 4 rebuilt tree, 5 identifiers.
+-- The last number and the last list stand here alone; `tools/refusals` and the theorems read them.
 use Prim.Native.Nat.{ℕ}
 use mathlib.Core.Bool.{Bool, not}
 use mathlib.Core.Option.{Option}
 use Rattle.paper.specs.Answer.{Answer, refused, fault, fault-if, demand}
+
+abbrev pub last-refusal : ℕ
+last-refusal = 20
+
+abbrev pub last-list : ℕ
+last-list = 5
 
 -- refusal 1: an output buffer is below its size
 abbrev pub roomy : (enough : Bool) → Answer (Unit {0})

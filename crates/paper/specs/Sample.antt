@@ -9,7 +9,7 @@ use Rattle.paper.specs.Field.{Field}
 use Rattle.paper.specs.Sound.{text}
 
 -- The id of a field is the signed id plus 2^31.
-abbrev column : Kind → (flags : ℕ) → String → (id : ℕ) → Forest Field → Forest Field
+abbrev pub column : Kind → (flags : ℕ) → String → (id : ℕ) → Forest Field → Forest Field
 column kind flags name id members =
     let f : Field = record {
       id = 2_147_483_648 + id;
@@ -21,19 +21,19 @@ column kind flags name id members =
     } in
     node f members empty
 
-abbrev primitive : String → ℕ → Forest Field
+abbrev pub primitive : String → ℕ → Forest Field
 primitive name id = column Primitive 0 name id empty
 
-abbrev required : String → ℕ → Forest Field
+abbrev pub required : String → ℕ → Forest Field
 required name id = column Primitive 1 name id empty
 
-abbrev struct : String → ℕ → Forest Field → Forest Field
+abbrev pub struct : String → ℕ → Forest Field → Forest Field
 struct = column Structure 0
 
-abbrev listing : String → ℕ → Forest Field → Forest Field
+abbrev pub listing : String → ℕ → Forest Field → Forest Field
 listing = column Listing 0
 
-abbrev mapping : String → ℕ → Forest Field → Forest Field
+abbrev pub mapping : String → ℕ → Forest Field → Forest Field
 mapping = column Mapping 0
 
 -- `node` 1 struct of `button` 4 and `cost` 5; `visits` 2 list, `element` 6 struct of `day` 7;

@@ -17,4 +17,6 @@ pub mod Wrong
 pub mod One
 pub mod Ends
 pub mod Told
+pub mod Numbered
+pub mod Sites
 pub mod Promises

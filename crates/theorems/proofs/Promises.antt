@@ -10,6 +10,7 @@ use Rattle.paper.specs.Answer.{Answer, ok, refused}
 use Rattle.paper.specs.Forest.{Forest, size}
 use Rattle.paper.specs.Field.{Field}
 use Rattle.paper.specs.Update.{Request, Schema}
+use Rattle.paper.specs.Rebuild.{update}
 use Rattle.paper.specs.Rows.{Row}
 use Rattle.paper.specs.Bytes.{turned}
 use Rattle.paper.specs.Decode.{decode}
@@ -21,15 +22,19 @@ use Rattle.paper.specs.Sample.{T, T-records, T-pool}
 use Rattle.paper.specs.Asked.{AnUpdate, APruner, signed-id, answer, update-reply, _with-last_}
 use Rattle.paper.specs.Worked.{examples}
 use Rattle.paper.proofs.Hold.{T-decodes, all-hold}
+use Rattle.paper.proofs.Pins.{Held, pins}
 use Rattle.laws.specs.Fit.{Bytes}
-use Rattle.theorems.specs.Run.{Begins, Lasting, LastingRun}
-use Rattle.theorems.specs.Stored.{Stored, Lent, update-stored, run-stored, BeginsStored, LastingStored}
+use Rattle.theorems.specs.Run.{Column, Has, Begins, run, evolve, Lasting, LastingRun}
+use Rattle.theorems.specs.Stored.{Stored, Lent, schema-of, request-of, update-stored, run-stored, BeginsStored}
+use Rattle.theorems.specs.Stored.{LastingStored}
 use Rattle.theorems.specs.Again.{ReadsAgain}
 use Rattle.theorems.specs.Changed.{Pruned, Renumbered}
-use Rattle.theorems.specs.One.{Handed, Promised, PromisedFound, Told, RefusalsTold}
+use Rattle.theorems.specs.One.{Handed, Promised, Untouched, PromisedFound, Told, RefusalsTold}
+use Rattle.theorems.specs.Numbered.{OneNumberEach}
+use Rattle.theorems.specs.Sites.{IdsAreNoSlots}
 use Rattle.theorems.specs.Wrong.{P4, P5, RightUpdate, P8, P9, RightPruner}
 use Rattle.theorems.proofs.Signed.{signed-natural, signed-negative}
-use Rattle.theorems.proofs.Evolution.{lasting}
+use Rattle.theorems.proofs.Evolution.{evolved-stays, lasting, one-column}
 use Rattle.theorems.proofs.Storing.{lasting-stored}
 use Rattle.theorems.proofs.Beginning.{T-schema, T-stored, T-requests, T-begins, T-begins-stored}
 use Rattle.theorems.proofs.Beginning.{accepted-twice}
@@ -38,6 +43,8 @@ use Rattle.theorems.proofs.Again.{decoded-again, update-again, prune-ag
 use Rattle.theorems.proofs.Again.{prune-parts, renumber-numbers}
 use Rattle.theorems.proofs.One as One
 use Rattle.theorems.proofs.Told.{refusals-told, none-accepted}
+use Rattle.theorems.proofs.Numbered.{one-number-each}
+use Rattle.theorems.proofs.Sites.{ids-are-no-slots}
 use Rattle.theorems.proofs.Wrong.{right-update, right-pruner}
 
 -- ---- the worked examples
@@ -50,6 +57,11 @@ worked-tree = T-decodes
 -- in bytes and read in signed ids, is what 01 gives.
 pub worked-examples : map (λ e. answer (e .asked)) examples ≡ map (λ e. e .given) examples
 worked-examples = all-hold
+
+-- Rules that P1 to P13 don't show, each refusal, and the order of any two that can meet: one list, and one claim over it. Beside
+-- it the six numbers, the bytes in the buffers, and the lister's text.
+pub pinned-rules : Held
+pinned-rules = pins
 
 -- The signed reading is two's complement: n and -(n + 1), from their 32 bits.
 pub signed-reading : (n : ℕ) → n < 2_147_483_648
@@ -67,6 +79,22 @@ pub runs-last-stored : (s : Stored) → BeginsStored s → (requests : ℕ → L
     → LastingStored (run-stored s requests) requests
 runs-last-stored = lasting-stored
 
+-- Today no request changes a column: an id found in two schemas of a run, whichever two, names the same column in both.
+pub ids-keep-columns : (s : Schema) → Begins s → (requests : ℕ → Request) (i j : ℕ) (c d : Column)
+    → Has (run s requests i) c → Has (run s requests j) d → c .field .id ≡ d .field .id → c ≡ d
+ids-keep-columns s b requests =
+    one-column _ _ (λ i. evolved-stays (update (run s requests i) (requests i)) (requests i))
+    (runs-last s b requests .lasts)
+
+-- The same over bytes.
+pub ids-keep-columns-stored : (s : Stored) → BeginsStored s → (requests : ℕ → Lent) (i j : ℕ) (c d : Column)
+    → Has (schema-of (run-stored s requests i)) c → Has (schema-of (run-stored s requests j)) d
+    → c .field .id ≡ d .field .id → c ≡ d
+ids-keep-columns-stored s b requests =
+    one-column (λ i. schema-of (run-stored s requests i)) _
+    (λ i. evolved-stays (update-stored (run-stored s requests i) (requests i)) (request-of (requests i)))
+    (runs-last-stored s b requests .lasts)
+
 -- Neither is empty: T begins a run,
 pub runs-begin : Begins T-schema × BeginsStored T-stored
 runs-begin = (T-begins, T-begins-stored)
@@ -79,10 +107,10 @@ pub runs-go-on : (update-reply (update-stored T-stored (T-requests 0))
     ≡ (1 ∷ 4 ∷ 5 ∷ 3 ∷ 8 ∷ 9 ∷ 10 ∷ 12 ∷ 13 ∷ []) with-last 13)
 runs-go-on = accepted-twice
 
--- A renumbering ends a run: no run lasts in which T is followed by T renumbered from 4.
-pub renumbering-ends : (at : ℕ → Schema) (r : Result)
+-- A renumbering ends a run: no run lasts in which T is followed by T renumbered from 4, whatever was asked.
+pub renumbering-ends : (at : ℕ → Schema) (requests : ℕ → Request) (r : Result)
     → renumber-entry T-records T-pool [] 4 24576 32768 0 ≡ ok r
-    → at 0 .tree ≡ T → at 1 .tree ≡ r .tree → Lasting at → ⊥
+    → at 0 .tree ≡ T → at 1 .tree ≡ r .tree → Lasting at (λ i. evolve (requests i)) → ⊥
 renumbering-ends = Ends.renumbering-ends
 
 -- Another may begin, from what it answered, with a last id that is at least the highest that it gave.
@@ -143,6 +171,21 @@ one-answer = One.one-answer
 -- and so are two of a look-up.
 pub one-found : (a : Answer (Option Row)) (x y : Found) → PromisedFound a x → PromisedFound a y → x ≡ y
 one-found = One.one-found
+
+-- A refusal changes no byte. Of an outcome that keeps an entry's promise: where the definition refuses, and so where the
+-- number that is told is not 0, each output buffer is as it was. An entry is lent nothing else that it could write.
+pub refusals-change-no-byte : (a : Answer Result) (before after : Handed) → Promised a before after
+    → ((n l p : ℕ) → a ≡ refused n l p → Untouched before after)
+    × ((after .numbers .refusal ≡ 0 → ⊥) → Untouched before after)
+refusals-change-no-byte = One.untouched
+
+-- Each refusal has one number: the definitions give 1 to the last, each once, and none gives another's.
+pub each-refusal-has-one-number : OneNumberEach
+each-refusal-has-one-number = one-number-each
+
+-- An id is no slot: a look-up answers the id of the record that stands at the slot that it answers.
+pub an-id-is-no-slot : IdsAreNoSlots
+an-id-is-no-slot = ids-are-no-slots
 
 -- A refusal has a number of 01's table, from 1 to 20, and one of its lists, from 0 to 5.
 pub refusals-are-told : RefusalsTold

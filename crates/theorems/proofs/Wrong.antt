@@ -6,7 +6,7 @@ use mathlib.Core.List.{List, []}
 use native.Mathlib.Omega.{arith}
 use lib.ListN.{length, getD}
 use Rattle.paper.specs.Answer.{Answer, ok, refused, _>>=_, lowest}
-use Rattle.paper.specs.Forest.{Forest, size, siblings, levels, preorder, mapped, _then_}
+use Rattle.paper.specs.Forest.{Forest, size, siblings, levels, preorder, counts, mapped, _then_}
 use Rattle.paper.specs.Field.{Field}
 use Rattle.paper.specs.Rows.{rows, entered, look-name}
 use Rattle.paper.specs.Sound.{fitting, misnamed, names, ids, sound, name-bytes, within}
@@ -18,7 +18,7 @@ use Rattle.paper.specs.Lists.{ok-deletion, ok-addition, path-in, entries-ok, pa
 use Rattle.paper.specs.Lists.{deletion-paths, addition-paths, id-list}
 use Rattle.paper.specs.Layout.{deep, row-with, row, roots}
 use Rattle.paper.specs.Decode.{fields, decode}
-use Rattle.paper.specs.Encode.{row24, encode-names, pool-bytes}
+use Rattle.paper.specs.Encode.{row24, encode-records, encode-names, pool-bytes}
 use Rattle.paper.specs.Limits.{room, whole, sum-from, name-sum, tree-sized, pool-sized}
 use Rattle.paper.specs.Limits.{sized, sized-ids, sized-update}
 use Rattle.paper.specs.Entries.{Result, update-entry, prune-entry}
@@ -46,12 +46,12 @@ record Answers : Type 0 where
   P9-many : length (ids-of (P9 prune-entry)) ≡ 1
 
 answers : Answers
-unfolding update-entry prune-entry changed _>>=_ lowest size siblings levels preorder mapped _then_
+unfolding update-entry prune-entry changed _>>=_ lowest size siblings levels preorder counts mapped _then_
     rows entered look-name fitting misnamed names ids sound name-bytes within prune
     deleted member-taken placed placed-all planned fresh arrivals arriving rebuilt carried-out update
     word16 word32 turned ok-bytes in-pool kind-from name-of field-at from
     ok-deletion ok-addition path-in entries-ok path-of parent-path deletion-paths addition-paths id-list
-    deep row-with row roots fields decode row24 encode-names pool-bytes
+    deep row-with row roots fields decode row24 encode-records encode-names pool-bytes
     room whole sum-from name-sum tree-sized pool-sized sized sized-ids sized-update
 answers =
     record {

@@ -1,4 +1,4 @@
--- What the theorems speak of: runs of updates over forests and over bytes, numbers in a row, parts of a tree.
+-- What the theorems speak of: runs of updates over forests and over bytes, numbers in a row, parts of a tree, refusals, slots.
 pub mod Numbers
 pub mod Run
 pub mod Stored
@@ -6,3 +6,5 @@ pub mod Again
 pub mod Changed
 pub mod Wrong
 pub mod One
+pub mod Numbered
+pub mod Sites

@@ -5,6 +5,7 @@ use mathlib.Core.Bool.{Bool}
 use mathlib.Core.List.{List}
 use mathlib.Core.Option.{Option}
 use Rattle.paper.specs.Answer.{Answer, ok, refused}
+use Rattle.paper.specs.Refusals.{last-refusal, last-list}
 use Rattle.paper.specs.Rows.{Row}
 use Rattle.paper.specs.Entries.{Result, update-entry, prune-entry, renumber-entry}
 use Rattle.paper.specs.Entries.{find-name, find-id, find-parent}
@@ -27,16 +28,22 @@ pub record Promised (a : Answer Result) (before after : Handed) : Type 0 where
   pub names : after .names ≡ leaves out-names a (before .names)
   pub identifiers : after .identifiers ≡ leaves out-identifiers a (before .identifiers)
 
+-- Each buffer is as it was.
+pub record Untouched (before after : Handed) : Type 0 where
+  pub records : after .records ≡ before .records
+  pub names : after .names ≡ before .names
+  pub identifiers : after .identifiers ≡ before .identifiers
+
 -- A look-up hands back its numbers alone.
 abbrev pub PromisedFound : Answer (Option Row) → Found → Type 0
 PromisedFound a after = after ≡ found a
 
 -- ---- refusals
 
--- A refusal has a number from 1 to 20 and a list from 0 to 5.
+-- A refusal has a number from 1 to the last and a list from 0 to the last.
 pub data Told {A : Type 0} : Answer A → Type 0 where
   accepted : {a : A} → Told (ok a)
-  turned-down : {number list place : ℕ} → 1 ≤ number → number ≤ 20 → list ≤ 5
+  turned-down : {number list place : ℕ} → 1 ≤ number → number ≤ last-refusal → list ≤ last-list
       → Told (refused number list place)
 
 pub record RefusalsTold : Type 0 where

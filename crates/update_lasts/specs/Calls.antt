@@ -22,7 +22,7 @@ use Rattle.braidhurdle.specs.Numbers.{Left}
 -- ---- one call
 
 -- What a call lends beside what is stored, both output buffers before and after it, and the answer.
--- The added records are bytes, below 256, as a slice of u8 always is.
+-- The added records are bytes, below 256, as a slice of u8 always is (`lent_bytes`).
 pub record Call (A : Type 0) : Type 0 where
   pub identifiers : List ℕ
   pub deletions : List ℕ

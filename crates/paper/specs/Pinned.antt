@@ -1,0 +1,412 @@
+-- Rules of 01 that P1 to P13 don't show: questions and answers, most of them the smallest inputs of docs/DECISIONS.md, whose
+-- number stands beside them. Then each refusal once, and the order of any two that can meet. All of them are one list and
+-- one claim (`pins`, with what no such list shows).
+use Prim.Native.Nat.{ℕ, zero, suc, _*_}
+use Prim.Native.String.{String}
+use mathlib.Core.List.{List, [], _∷_, _++_, map}
+use mathlib.Core.Option.{none, some}
+use lib.IntN.{pos, negsuc}
+use lib.ListN.{take, set, replicate}
+use Rattle.paper.specs.declared.Kind.the-variants.{Primitive}
+use Rattle.paper.specs.Forest.{Forest, empty, _then_}
+use Rattle.paper.specs.Field.{Field}
+use Rattle.paper.specs.Sound.{text}
+use Rattle.paper.specs.Bytes.{from}
+use Rattle.paper.specs.Encode.{row24, record-bytes, pool-bytes}
+use Rattle.paper.specs.Sample.{column, primitive, required, struct, listing, mapping, T-records}
+use Rattle.paper.specs.Asked.{Lending, lending, lent, T-lent, New, new, at-root, _under_, Lists, entry}
+use Rattle.paper.specs.Asked.{Ask, renumber-from, identifiers-from, find, find-number, find-above, drop_add_, request}
+use Rattle.paper.specs.Asked.{choose, choose-full, of_ask_}
+use Rattle.paper.specs.Asked.{Reply, tree, updated, ids-are, _with-last_, found, nothing, refusal_list_place_}
+use Rattle.paper.specs.Worked.{Example, _gives_}
+
+-- ---- small trees
+
+-- A tree with no identifiers and last id 10.
+abbrev pub tree-of : Forest Field → Lending
+tree-of t = lent t [] 10
+
+-- Its first n records alone, with all the names.
+abbrev cut : ℕ → Forest Field → Lending
+cut n t = lending (take (n * 24) (record-bytes t)) (pool-bytes t) [] 10
+
+-- Its records alone, with no name.
+abbrev nameless : Forest Field → Lending
+nameless t = lending (record-bytes t) [] [] 10
+
+-- A byte more than its records.
+abbrev pub longer : Forest Field → Lending
+longer t = lending (record-bytes t ++ 0 ∷ []) (pool-bytes t) [] 10
+
+-- With room for so many bytes of records, names and identifiers.
+abbrev with-room : (records names identifiers : ℕ) → Lending → Lending
+with-room records names identifiers b =
+    record {
+      records = b .records;
+      pool = b .pool;
+      identifiers = b .identifiers;
+      last = b .last;
+      room-records = records;
+      room-names = names;
+      room-identifiers = identifiers;
+    }
+
+-- A byte less than the records of any answer may need.
+abbrev narrow : Lending → Lending
+narrow = with-room 24575 32768 0
+
+-- A flag that is none of the two, which 3 refuses.
+abbrev odd : String → ℕ → Forest Field
+odd name id = column Primitive 4 name id empty
+
+-- Structs within each other, all called `a`; the outermost has the highest id.
+abbrev chain : ℕ → Forest Field
+chain zero = empty
+chain (suc n) = struct "a" (suc n) (chain n)
+
+-- A map of structs to structs; lists of lists of structs; a map to lists of structs.
+abbrev structs : Forest Field
+structs = mapping "m" 1 (struct "key" 2 (primitive "a" 3) then struct "value" 4 (primitive "b" 5))
+
+abbrev listings : Forest Field
+listings = listing "l" 1 (listing "element" 2 (struct "element" 3 (primitive "a" 4)))
+
+abbrev to-lists : Forest Field
+to-lists = mapping "m" 1 (required "key" 2 then listing "value" 3 (struct "element" 4 (primitive "a" 5)))
+
+-- A list of structs of these members.
+abbrev list-of : Forest Field → Forest Field
+list-of members = listing "l" 1 (struct "element" 2 members)
+
+-- A member named `x.y`, and one whose short name below `l` is the same.
+abbrev dotted : Forest Field
+dotted = primitive "x.y" 3
+
+abbrev nested : Forest Field
+nested = listing "x" 4 (struct "element" 5 (primitive "y" 6))
+
+-- A struct of a struct and a primitive.
+abbrev branched : Forest Field
+branched = struct "s" 0 (struct "a" 0 (primitive "b" 0) then primitive "c" 0)
+
+-- A root with id -1 and its member.
+abbrev pub minus-one : Lending
+minus-one = lending (row24 4_294_967_295 0 1 1 0 1 0 0 ++ row24 2 1 1 0 0 0 0 0) (text "ab") [] 2
+
+-- ---- rules
+
+abbrev names : List Example
+names =
+    -- A short name leaves out structs that are elements or values, no list and no key.
+    (of tree-of listings ask find "l.element.a" gives found (pos 4))
+    ∷ (of tree-of listings ask find "l.a" gives nothing)
+    ∷ (of tree-of to-lists ask find "m.value.a" gives found (pos 5))
+    ∷ (of tree-of to-lists ask find "m.a" gives nothing)
+    ∷ (of tree-of structs ask find "m.b" gives found (pos 5))
+    ∷ (of tree-of structs ask find "m.a" gives nothing)
+    ∷ (find "visits.element" gives found (pos 6))  -- 54
+    -- The full name comes first; then the first entered, after its inside; a key and its value after both insides.
+    ∷ (of tree-of (list-of (primitive "a" 3) then primitive "l.a" 4) ask find "l.a" gives found (pos 4))
+    ∷ (of tree-of (list-of (dotted then nested)) ask find "l.x.y" gives found (pos 3))
+    ∷ (of tree-of (list-of (nested then dotted)) ask find "l.x.y" gives found (pos 6))
+    ∷ (of tree-of (list-of (listing "a" 5 (struct "element" 3 (primitive "element" 4)))) ask find "l.a.element"  -- 52
+    gives found (pos 4))
+    ∷ (of tree-of (list-of (mapping "m" 3 (required "key" 4 then struct "value" 5 (primitive "key" 6))))  -- 51
+    ask find "l.m.key"
+    gives found (pos 6))
+    -- Ids are signed; the parent of a root and of an id that is not there is nothing.
+    ∷ (find-number 7 gives found (pos 7))
+    ∷ (find-number 0 gives nothing)
+    ∷ (of minus-one ask find-number 4_294_967_295 gives found (negsuc 0))  -- 57
+    ∷ (of minus-one ask find-above 2 gives found (negsuc 0))
+    ∷ (find-above 7 gives found (pos 6))
+    ∷ (find-above 1 gives nothing)  -- 56
+    ∷ (find-above 99 gives nothing)
+    ∷ []
+
+abbrev updates : List Example
+updates =
+    -- A map's value receives, not its key, which does by its own path; and one step is gone, no more.
+    (of tree-of structs ask drop [] add (("x" under "m") ∷ []) gives (1 ∷ 2 ∷ 3 ∷ 4 ∷ 5 ∷ 11 ∷ []) with-last 11)
+    ∷ (of tree-of structs ask drop [] add (("x" under "m.key") ∷ []) gives (1 ∷ 2 ∷ 3 ∷ 11 ∷ 4 ∷ 5 ∷ []) with-last 11)
+    ∷ (of tree-of listings ask drop [] add (("x" under "l") ∷ []) gives refusal 16 list 3 place 0)  -- 38
+    ∷ (of tree-of listings ask drop [] add (("x" under "l.element") ∷ []) gives (1 ∷ 2 ∷ 3 ∷ 4 ∷ 11 ∷ []) with-last 11)
+    -- A name is taken at the root, and free if what has it is dropped; under a parent also if the struct itself is.
+    ∷ (drop [] add (at-root "node" ∷ []) gives refusal 17 list 3 place 0)
+    ∷ (drop ("node" ∷ []) add (at-root "node" ∷ []) gives (2 ∷ 6 ∷ 7 ∷ 3 ∷ 8 ∷ 9 ∷ 10 ∷ 11 ∷ []) with-last 11)
+    ∷ (drop [] add (("cost" under "node") ∷ []) gives refusal 17 list 3 place 0)
+    ∷ (drop ("node" ∷ []) add (("cost" under "node") ∷ []) gives (2 ∷ 6 ∷ 7 ∷ 3 ∷ 8 ∷ 9 ∷ 10 ∷ []) with-last 11)
+    ∷ (drop ("visits" ∷ []) add (("day" under "visits") ∷ []) gives refusal 17 list 3 place 0)  -- 37
+    -- The base as it was is looked in; the added column alone is; a path of no bytes is a path.
+    ∷ (drop [] add (new (struct "s" 0 empty) none ∷ ("x" under "s") ∷ []) gives refusal 15 list 3 place 1)  -- 35
+    ∷ (of tree-of empty ask drop [] add (new (struct "s" 0 (required "a.b" 0)) none ∷ [])  -- 34
+    gives (11 ∷ 12 ∷ []) with-last 12)
+    ∷ (drop [] add (("x" under "") ∷ []) gives refusal 15 list 3 place 0)  -- 15
+    -- Ids in preorder, entry after entry; under one parent in entry order; each record counts.
+    ∷ (of tree-of empty ask drop [] add (new branched none ∷ at-root "x" ∷ [])
+    gives (11 ∷ 12 ∷ 13 ∷ 14 ∷ 15 ∷ []) with-last 15)
+    ∷ (drop [] add (("x" under "node") ∷ ("y" under "node") ∷ [])
+    gives (1 ∷ 4 ∷ 5 ∷ 11 ∷ 12 ∷ 2 ∷ 6 ∷ 7 ∷ 3 ∷ 8 ∷ 9 ∷ 10 ∷ []) with-last 12)
+    ∷ (of lent empty [] 2_147_483_646 ask drop [] add (new (struct "s" 0 (primitive "a" 0)) none ∷ [])
+    gives refusal 18 list 3 place 0)
+    -- A dropped element stays, and what is dropped of its members goes.
+    ∷ (of tree-of (list-of (primitive "a" 3 then primitive "b" 4)) ask drop ("l.element" ∷ "l.a" ∷ []) add []  -- 46
+    gives (1 ∷ 2 ∷ 4 ∷ []) with-last 10)
+    -- The last id: any is taken, the highest may be given, and vanished additions count.
+    ∷ (of tree-of (primitive "a" 11) ask drop [] add [] gives (11 ∷ []) with-last 10)  -- 30
+    ∷ (of lent empty [] 2_147_483_646 ask drop [] add (at-root "x" ∷ [])  -- 39
+    gives (2_147_483_647 ∷ []) with-last 2_147_483_647)
+    ∷ (of T-lent [] 2_147_483_647 ask drop ("node" ∷ []) add (("x" under "node") ∷ [])  -- 40
+    gives refusal 18 list 3 place 0)
+    -- The places of 7 and 8: by slots, of the later one, in the rebuilt tree's order.
+    ∷ (of T-lent [] 1 ask drop [] add (("x" under "node") ∷ []) gives refusal 7 list 4 place 4)  -- 27
+    ∷ (of tree-of (struct "a" 1 (primitive "x" 2) then struct "a" 3 (primitive "x" 4)) ask drop [] add []  -- 24
+    gives refusal 8 list 0 place 2)
+    ∷ (of tree-of (struct "a" 1 (primitive "b" 2) then primitive "a.b" 3) ask drop [] add []  -- 26
+    gives refusal 8 list 0 place 2)
+    ∷ []
+
+abbrev others : List Example
+others =
+    -- Identifiers are mapped in the order given; a start below 0 is one like any other; an empty tree takes no number.
+    (of T-lent (7 ∷ 4 ∷ 7 ∷ []) 10 ask identifiers-from 11 gives ids-are (17 ∷ 14 ∷ 17 ∷ []))
+    ∷ (of tree-of structs ask renumber-from 4_294_967_294  -- 42
+    gives tree (negsuc 1 ∷ negsuc 0 ∷ pos 0 ∷ pos 1 ∷ pos 2 ∷ []))
+    ∷ (of tree-of empty ask renumber-from 2_147_483_647 gives ids-are [])  -- 41
+    -- A chosen key is never 20, and keeps the whole map if its value does not stay; its inside is ignored.
+    ∷ (of tree-of (mapping "m" 1 (listing "key" 2 (primitive "element" 3) then primitive "value" 4)) ask choose (2 ∷ [])  -- 58
+    gives ids-are (1 ∷ 2 ∷ 3 ∷ 4 ∷ []))
+    ∷ (choose (8 ∷ 9 ∷ []) gives ids-are (3 ∷ 8 ∷ 9 ∷ []))  -- 59
+    ∷ (of tree-of structs ask choose-full (3 ∷ []) gives ids-are [])  -- 63
+    ∷ (of tree-of (struct "s" 1 empty) ask choose-full [] gives ids-are [])  -- 62
+    -- 20 stands at what is met first; a chosen list is met though its members are chosen too.
+    ∷ (of tree-of listings ask choose (1 ∷ 2 ∷ []) gives refusal 20 list 0 place 1)  -- 60
+    ∷ (choose (2 ∷ 7 ∷ []) gives refusal 20 list 0 place 3)  -- 61
+    ∷ (of tree-of (structs then listing "l" 6 (primitive "element" 7)) ask choose (4 ∷ 6 ∷ []) gives refusal 20 list 0 place 5)  -- 65
+    -- A list has one child; a name of no bytes lies in its pool too; offset and length are added, not cut.
+    ∷ (of tree-of (listing "l" 1 (primitive "element" 2 then primitive "element" 3)) ask find "l"  -- 12
+    gives refusal 3 list 0 place 0)
+    ∷ (of lending (row24 1 1 0 0 0 0 0 0) (text "a") [] 1 ask find "" gives found (pos 1))  -- 17
+    ∷ (of lending (row24 1 2 0 0 0 0 0 0) (text "a") [] 1 ask find "" gives refusal 4 list 0 place 0)
+    ∷ (of lending (row24 1 4_294_967_295 1 0 0 0 0 0) (text "a") [] 1 ask find "" gives refusal 4 list 0 place 0)  -- 18
+    -- The place of 5: the first record of level 17, or the record count; the lower one.
+    ∷ (of tree-of (chain 17) ask find "a" gives refusal 5 list 0 place 16)  -- 19
+    ∷ (of cut 16 (chain 17) ask find "a" gives refusal 5 list 0 place 16)  -- 20
+    ∷ (of cut 18 (chain 17 then struct "b" 18 (primitive "c" 19)) ask find "a" gives refusal 5 list 0 place 16)  -- 21
+    ∷ (of cut 2 (struct "a" 1 (primitive "b" 2 then primitive "c" 3)) ask find "a" gives refusal 5 list 0 place 2)
+    -- 6 goes by bytes and stands at the child; a root may be called `element`.
+    ∷ (of tree-of (listing "l" 1 (primitive "Element" 2)) ask find "l" gives refusal 6 list 0 place 1)  -- 22
+    ∷ (of tree-of (mapping "m" 1 (required "value" 2 then primitive "value" 3)) ask find "m"
+    gives refusal 6 list 0 place 1)
+    ∷ (of tree-of (mapping "m" 1 (primitive "key" 2 then primitive "key" 3)) ask find "m" gives refusal 6 list 0 place 2)
+    ∷ (of tree-of empty ask drop [] add (new (listing "element" 0 (primitive "x" 0)) none ∷ [])  -- 23
+    gives refusal 6 list 1 place 1)
+    ∷ []
+
+-- ---- bytes and limits
+
+-- A request of these bytes; the additions tree and the request pool are those of what is lent.
+abbrev lists-are : (deletions additions : List ℕ) → (added : Lending) → Ask
+lists-are ds ps b = request (record { deletions = ds; additions = ps; added = b .records; request = b .pool })
+
+-- A record named `a`, with id 1, of a kind and so many direct children; and what is told of it, with 4 for one of its bytes.
+abbrev one : (kind kids : ℕ) → List ℕ
+one kind kids = row24 1 0 1 kind 0 kids 0 0
+
+abbrev with-4 : List ℕ → Reply → ℕ → Example
+with-4 r told at = (of lending (set r at 4) (text "a") [] 1 ask find "a") gives told
+
+-- n records of a kind that is none, with names of 255 bytes that no pool has, and one with a name of a last length.
+abbrev long-names : (n last : ℕ) → Lending
+long-names zero last = lending (row24 1 4_294_967_295 last 9 0 0 0 0) [] [] 1
+long-names (suc n) last =
+    let b = long-names n last in
+    lending (row24 1 4_294_967_295 255 9 0 0 0 0 ++ b .records) [] [] 1
+
+abbrev zeros : ℕ → List ℕ
+zeros n = replicate n 0
+
+abbrev byte-rules : List Example
+byte-rules =
+    -- 3: kind, flags, byte 11, children of a primitive, bytes 14 and 15; a type code of a primitive alone; any attribute.
+    map (with-4 (one 0 0) (refusal 3 list 0 place 0)) (9 ∷ 10 ∷ 11 ∷ 12 ∷ 13 ∷ 14 ∷ 15 ∷ [])
+    ++ map (with-4 (one 0 0) (found (pos 1))) (16 ∷ 17 ∷ 18 ∷ 19 ∷ 20 ∷ 21 ∷ 22 ∷ 23 ∷ [])
+    ++ map (with-4 (one 1 0) (refusal 3 list 0 place 0)) (16 ∷ 17 ∷ 18 ∷ 19 ∷ [])
+    ++ map (with-4 (one 1 0) (found (pos 1))) (20 ∷ 21 ∷ 22 ∷ 23 ∷ [])
+    ++ map (λ r. (of lending r (text "a") [] 1 ask find "a") gives refusal 3 list 0 place 0)
+    (one 2 0 ∷ one 2 2 ∷ one 3 1 ∷ one 3 3 ∷ [])
+    ++ map (λ r. (of lending r (text "a") [] 1 ask find "a") gives refusal 5 list 0 place 1)
+    (one 1 1 ∷ one 2 1 ∷ one 3 2 ∷ [])
+    -- An entry's has-path is 0 or 1, of a deletion 1; its last byte is 0; without a path offset and length are 0.
+    ++ map (λ e. lists-are (set e 7 4) [] (tree-of empty) gives refusal 3 list 2 place 0) (entry 0 0 1 ∷ entry 0 0 0 ∷ [])
+    ++ map (λ e. lists-are [] e (tree-of empty) gives refusal 3 list 3 place 0)
+    (set (entry 0 0 1) 7 4 ∷ set (entry 0 0 0) 7 4 ∷ entry 0 0 2 ∷ entry 1 0 0 ∷ entry 0 1 0 ∷ [])
+    -- A path's length has two bytes; an offset counts too.
+    ++ (lists-are (entry 0 256 1) [] (lending [] (zeros 256) [] 0) gives refusal 11 list 2 place 0)
+    ∷ (lists-are (entry 0 257 1) [] (lending [] (zeros 256) [] 0) gives refusal 4 list 2 place 0)
+    ∷ (lists-are (entry 257 0 1) [] (lending [] (zeros 256) [] 0) gives refusal 4 list 2 place 0)
+    ∷ []
+
+-- The limits: what is still let through, and one more.
+abbrev limits : List Example
+limits =
+    -- 64 deletions, additions, identifiers; 1,024 selected ids.
+    (lists-are (zeros 512) [] (tree-of empty) gives refusal 3 list 2 place 0)
+    ∷ (lists-are (zeros 520) [] (tree-of empty) gives refusal 2 list 0 place 0)
+    ∷ (lists-are [] (zeros 512) (tree-of empty) gives refusal 10 list 3 place 0)
+    ∷ (lists-are [] (zeros 520) (tree-of empty) gives refusal 2 list 0 place 0)
+    ∷ (of lent empty (zeros 64) 0 ask renumber-from 1 gives refusal 9 list 5 place 0)
+    ∷ (of lent empty (zeros 65) 0 ask drop [] add [] gives refusal 2 list 0 place 0)
+    ∷ (of tree-of empty ask choose (zeros 1024) gives ids-are [])
+    ∷ (of tree-of empty ask choose (zeros 1025) gives refusal 2 list 0 place 0)
+    -- 32,768 bytes in a pool, and as the sum of the name lengths, whatever else the records hold; 1,024 records.
+    ∷ (of lending [] (zeros 32768) [] 0 ask find "a" gives nothing)
+    ∷ (of lending [] (zeros 32769) [] 0 ask find "a" gives refusal 2 list 0 place 0)
+    ∷ (of long-names 128 128 ask find "a" gives refusal 3 list 0 place 0)
+    ∷ (of long-names 128 129 ask find "a" gives refusal 2 list 0 place 0)  -- 3
+    ∷ (of lending (zeros 24600) [] [] 0 ask find "a" gives refusal 2 list 0 place 0)
+    -- No whole number of records, entries, ids; the additions tree's too.
+    ∷ (lists-are (zeros 7) [] (tree-of empty) gives refusal 2 list 0 place 0)
+    ∷ (lists-are [] (zeros 7) (tree-of empty) gives refusal 2 list 0 place 0)
+    ∷ (lists-are [] [] (longer empty) gives refusal 2 list 0 place 0)
+    ∷ []
+
+-- ---- each refusal, once
+
+-- The lists of a request for one addition without a tree.
+abbrev no-tree : Lists
+no-tree = record { deletions = []; additions = entry 0 0 0; added = []; request = [] }
+
+-- An addition that passes, then another.
+abbrev and-then : New → List New
+and-then a = at-root "floor" ∷ a ∷ []
+
+-- The number of a refusal.
+abbrev pub number-told : Reply → ℕ
+number-told (tree i) = 0
+number-told (updated i last) = 0
+number-told (found i) = 0
+number-told nothing = 0
+number-told (refusal n list l place p) = n
+
+-- From 1 to the last.
+abbrev pub met : List Example
+met =
+    (of narrow (tree-of empty) ask choose [] gives refusal 1 list 0 place 0)  -- 2
+    ∷ (of T-lent (from (λ i. i) 0 65) 10 ask renumber-from 1 gives refusal 2 list 0 place 0)  -- 11
+    ∷ (of tree-of (primitive "a" 1 then odd "b" 2) ask find "a" gives refusal 3 list 0 place 1)  -- 10
+    ∷ (of lending T-records (text "node") [] 10 ask choose [] gives refusal 4 list 0 place 1)
+    ∷ (of cut 9 (chain 10) ask renumber-from 1 gives refusal 5 list 0 place 9)
+    ∷ (of tree-of (mapping "m" 1 (required "key" 2 then primitive "worth" 3)) ask choose [] gives refusal 6 list 0 place 2)
+    ∷ (of tree-of (primitive "a" 1 then primitive "b" 1) ask renumber-from 1 gives refusal 7 list 0 place 1)
+    ∷ (of tree-of (primitive "a" 1 then primitive "a" 2) ask find-number 1 gives refusal 8 list 0 place 1)  -- 9
+    ∷ (of T-lent (1 ∷ 7 ∷ []) 10 ask drop ("visits" ∷ []) add [] gives refusal 9 list 5 place 1)  -- 28
+    ∷ (request no-tree gives refusal 10 list 3 place 0)
+    ∷ (drop ("node" ∷ "floor" ∷ []) add [] gives refusal 11 list 2 place 1)
+    ∷ (of T-lent (5 ∷ []) 10 ask drop ("visits" ∷ "node.cost" ∷ []) add [] gives refusal 12 list 2 place 1)
+    ∷ (drop [] add and-then (at-root "a.b") gives refusal 13 list 3 place 1)
+    ∷ (drop [] add and-then (new (required "a" 0) none) gives refusal 14 list 3 place 1)
+    ∷ (drop [] add and-then ("a" under "day") gives refusal 15 list 3 place 1)
+    ∷ (drop [] add and-then ("a" under "node.cost") gives refusal 16 list 3 place 1)
+    ∷ (drop [] add and-then ("price" under "parts") gives refusal 17 list 3 place 1)
+    ∷ (of T-lent [] 2_147_483_646 ask drop [] add and-then (at-root "a") gives refusal 18 list 3 place 1)
+    ∷ (of tree-of (chain 16) ask drop [] add (("x" under "a.a.a.a.a.a.a.a.a.a.a.a.a.a.a.a") ∷ [])
+    gives refusal 19 list 4 place 0)
+    ∷ (choose (3 ∷ []) gives refusal 20 list 0 place 6)
+    ∷ []
+
+-- ---- the order: what is asked breaks two rules, and the first is told
+
+-- Every entry, of one base: all tell the same.
+abbrev each-tells : Lending → Reply → List Example
+each-tells b r =
+    map (λ q. (of b ask q) gives r)
+    ((drop [] add []) ∷ choose [] ∷ renumber-from 1 ∷ find "a" ∷ find-number 1 ∷ find-above 1 ∷ [])
+
+-- Of the base: 2 and 3; 3 and 4; 4 and 5; 5 and 6; 6 and 7; 7 and 8. 1 and 2, where there are buffers.
+abbrev base-order : List Example
+base-order =
+    each-tells (longer (odd "a" 1)) (refusal 2 list 0 place 0)
+    ++ each-tells (nameless (primitive "a" 1 then odd "b" 2)) (refusal 3 list 0 place 1)
+    ++ each-tells (lending (row24 1 0 1 1 0 1 0 0) [] [] 1) (refusal 4 list 0 place 0)
+    ++ each-tells (cut 3 (listing "a" 1 (primitive "x" 2) then struct "b" 3 (primitive "c" 4))) (refusal 5 list 0 place 3)
+    ++ each-tells (tree-of (primitive "a" 1 then listing "b" 1 (primitive "x" 2))) (refusal 6 list 0 place 2)
+    ++ each-tells (tree-of (primitive "a" 1 then primitive "a" 2 then primitive "b" 1)) (refusal 7 list 0 place 2)
+    ++ map (λ q. (of narrow (longer empty) ask q) gives refusal 1 list 0 place 0)
+    ((drop [] add []) ∷ choose [] ∷ renumber-from 1 ∷ [])
+
+-- No record, and identifiers of 3 bytes.
+abbrev three-bytes : Lending
+three-bytes =
+    record {
+      records = [];
+      pool = [];
+      identifiers = zeros 3;
+      last = 0;
+      room-records = 0;
+      room-names = 0;
+      room-identifiers = 0;
+    }
+
+-- Of pruning and renumbering: 8 and 20; 8 and 9; 9 and 18. Identifiers of 3 bytes and room for 2 are 1, not 2.
+abbrev own-order : List Example
+own-order =
+    (of tree-of (listing "a" 1 (primitive "element" 2) then primitive "a" 3) ask choose (1 ∷ [])
+    gives refusal 8 list 0 place 2)
+    ∷ (of lent (primitive "a" 1 then primitive "a" 2) (99 ∷ []) 10 ask renumber-from 1 gives refusal 8 list 0 place 1)
+    ∷ (of T-lent (99 ∷ []) 10 ask renumber-from 2_147_483_638 gives refusal 9 list 5 place 0)
+    ∷ (of with-room 24576 32768 2 three-bytes ask renumber-from 1 gives refusal 1 list 0 place 0)  -- 1
+    ∷ (of with-room 24576 32768 3 three-bytes ask renumber-from 1 gives refusal 2 list 0 place 0)
+    ∷ (of with-room 24576 32767 0 (tree-of empty) ask drop [] add [] gives refusal 1 list 0 place 0)
+    ∷ []
+
+-- Of an update's lists: base 6 and additions tree 3; its 3 and 4; 4 and 5; 5 and 6; its 6 and deletions 3; their 3 and 4; their
+-- 4 and additions 3; their 3 and 4; their 4 and base 7; base 8 and 9; 9 and 10.
+abbrev lists-order : List Example
+lists-order =
+    (of tree-of (listing "a" 1 (primitive "x" 2)) ask lists-are [] [] (tree-of (odd "b" 0))
+    gives refusal 6 list 0 place 1)
+    ∷ (lists-are [] [] (nameless (primitive "a" 0 then odd "b" 0)) gives refusal 3 list 1 place 1)
+    ∷ (lists-are [] [] (lending (row24 0 0 1 1 0 1 0 0) [] [] 0) gives refusal 4 list 1 place 0)
+    ∷ (lists-are [] [] (cut 3 (listing "a" 0 (primitive "x" 0) then struct "b" 0 (primitive "c" 0)))
+    gives refusal 5 list 1 place 3)
+    ∷ (lists-are (entry 0 0 0) [] (tree-of (listing "a" 0 (primitive "x" 0))) gives refusal 6 list 1 place 1)
+    ∷ (lists-are (entry 0 9 1 ++ entry 0 0 0) [] (tree-of empty) gives refusal 3 list 2 place 1)  -- 14
+    ∷ (lists-are (entry 0 9 1) (entry 1 0 0) (tree-of empty) gives refusal 4 list 2 place 0)
+    ∷ (lists-are [] (entry 0 9 1 ++ entry 1 0 0) (tree-of empty) gives refusal 3 list 3 place 1)  -- 13
+    ∷ (of tree-of (primitive "a" 1 then primitive "b" 1) ask lists-are [] (entry 0 9 1) (tree-of empty)
+    gives refusal 4 list 3 place 0)
+    ∷ (of lent (primitive "a" 1 then primitive "a" 2) (99 ∷ []) 10 ask drop [] add [] gives refusal 8 list 0 place 1)
+    ∷ (of T-lent (99 ∷ []) 10 ask request no-tree gives refusal 9 list 5 place 0)
+    ∷ []
+
+-- T, where an id passes at the first addition.
+abbrev spent : Lending
+spent = T-lent [] 2_147_483_647
+
+-- Of what is decided: 10 and 11; 12 of the first deletion and 11 of the next; 11 and 12; 12 and 13; 13 and 14; 14 and 15, 16, 17;
+-- 15, 16, 17 and 18; 18 of the first addition and 13 of the next; 18 and 19; 19 and 7; 7 and 8; 8 and 9 of the rebuilt tree.
+abbrev decided-order : List Example
+decided-order =
+    (lists-are (entry 0 0 1) (entry 0 0 0) (tree-of empty) gives refusal 10 list 3 place 0)  -- 31
+    ∷ (of T-lent (5 ∷ []) 10 ask drop ("node.cost" ∷ "floor" ∷ []) add [] gives refusal 12 list 2 place 0)  -- 32
+    ∷ (of T-lent (5 ∷ []) 10 ask drop ("floor" ∷ "node.cost" ∷ []) add [] gives refusal 11 list 2 place 0)
+    ∷ (of T-lent (5 ∷ []) 10 ask drop ("node.cost" ∷ []) add (at-root "a.b" ∷ []) gives refusal 12 list 2 place 0)
+    ∷ (drop [] add (new (required "a.b" 0) none ∷ []) gives refusal 13 list 3 place 0)
+    ∷ (drop [] add (new (required "a" 0) (some "day") ∷ []) gives refusal 14 list 3 place 0)
+    ∷ (drop [] add (new (required "a" 0) (some "node.cost") ∷ []) gives refusal 14 list 3 place 0)
+    ∷ (drop [] add (new (required "node" 0) none ∷ []) gives refusal 14 list 3 place 0)
+    ∷ (of spent ask drop [] add (("a" under "day") ∷ []) gives refusal 15 list 3 place 0)
+    ∷ (of spent ask drop [] add (("a" under "node.cost") ∷ []) gives refusal 16 list 3 place 0)
+    ∷ (of spent ask drop [] add (at-root "node" ∷ []) gives refusal 17 list 3 place 0)
+    ∷ (of spent ask drop [] add and-then (at-root "a.b") gives refusal 18 list 3 place 0)
+    ∷ (of lent (chain 16) [] 2_147_483_647 ask drop [] add (("x" under "a.a.a.a.a.a.a.a.a.a.a.a.a.a.a.a") ∷ [])
+    gives refusal 18 list 3 place 0)
+    ∷ (of lent (chain 16) [] 0 ask drop [] add (("x" under "a.a.a.a.a.a.a.a.a.a.a.a.a.a.a.a") ∷ [])
+    gives refusal 19 list 4 place 0)
+    ∷ (of T-lent [] 9 ask drop ("visits.element" ∷ []) add (("day" under "visits") ∷ []) gives refusal 7 list 4 place 10)
+    ∷ (of T-lent (5 ∷ []) 10 ask drop ("node" ∷ []) add and-then (at-root "floor") gives refusal 8 list 4 place 8)
+    ∷ []
+
+abbrev pub pinned : List Example
+pinned = names ++ updates ++ others ++ byte-rules ++ limits ++ met ++ base-order ++ own-order ++ lists-order ++ decided-order

@@ -1,0 +1,36 @@
+-- An id is no slot. 01: an id is what data files carry, a slot a place in today's list; both are small numbers, and no slot may
+-- be handed out as an id. In the code they are types of their own (`FieldId`, `Slot`); here both are numbers, and what is meant
+-- is that each stands for what it says: the record at the answered slot is there, and has the answered id.
+use Prim.Native.Nat.{ℕ, _<_}
+use mathlib.Core.Path.{_≡_}
+use mathlib.Core.List.{List}
+use Rattle.paper.specs.Bytes.{turned, rec-at, slots}
+use Rattle.paper.specs.Entries.{find-name, find-id, find-parent}
+use Rattle.paper.specs.Outcome.{Found, found}
+use Rattle.paper.specs.Sample.{T-records, T-pool}
+
+-- Where something is found. Two numbers that `turned` makes one are the same 32 bits.
+pub record AtItsSlot (records : List ℕ) (f : Found) : Type 0 where
+  pub there : f .slot < slots records
+  pub same-id : turned (f .id) ≡ turned (rec-at records (f .slot) .id)
+
+abbrev pub found-at : (id slot : ℕ) → Found
+found-at id slot = record { refusal = 0; list = 0; place = 0; found = 1; id = id; slot = slot }
+
+abbrev pub not-found : Found
+not-found = record { refusal = 0; list = 0; place = 0; found = 0; id = 0; slot = 0 }
+
+pub record IdsAreNoSlots : Type 0 where
+  pub by-name : (s p x : List ℕ) → found (find-name s p x) .found ≡ 1 → AtItsSlot s (found (find-name s p x))
+  -- What is found by an id has that id.
+  pub by-id : (s p : List ℕ) (i : ℕ) → found (find-id s p i) .found ≡ 1
+      → AtItsSlot s (found (find-id s p i)) × (turned (found (find-id s p i) .id) ≡ turned i)
+  pub by-parent : (s p : List ℕ) (i : ℕ) → found (find-parent s p i) .found ≡ 1
+      → AtItsSlot s (found (find-parent s p i))
+  -- The two differ, both ways: T has ids 3 and 6 and slots 3 and 6. Id 3 is at slot 6 and id 6 at slot 4; slot 3 has
+  -- id 2. Slot 0 is there and id 0 is not; id 10 is there and slot 10 is not.
+  pub id-3 : found (find-id T-records T-pool 3) ≡ found-at 3 6
+  pub id-6 : found (find-id T-records T-pool 6) ≡ found-at 6 4
+  pub slot-3 : rec-at T-records 3 .id ≡ 2
+  pub id-0 : found (find-id T-records T-pool 0) ≡ not-found
+  pub id-10 : found (find-id T-records T-pool 10) ≡ found-at 10 9
