@@ -50,7 +50,7 @@
 #include <stdint.h>
 
 /* The version of this boundary. It changes with any name, argument, result or size here. */
-#define BRAIDHURDLE_VERSION 1
+#define BRAIDHURDLE_VERSION 2
 /* The least output buffers, in bytes. */
 #define BRAIDHURDLE_RECORD_ROOM 24576
 #define BRAIDHURDLE_NAME_ROOM 32768
@@ -73,6 +73,13 @@ struct braidhurdle_found {
     uint32_t found;
     int32_t id;
     uint32_t slot;
+};
+
+/* Where a name stands in the pool. found is 0 or 1. Where there is no record, or on a refusal, offset and length are 0. */
+struct braidhurdle_name {
+    uint32_t refusal, list, place;
+    uint32_t found;
+    uint32_t offset, length;
 };
 
 /* Drops and adds columns. Deletions and additions are path entries into request_pool; the k-th root of added_records belongs to
@@ -112,6 +119,12 @@ struct braidhurdle_found braidhurdle_find_id(
 /* The column above that of an id: its id and slot. Nothing for a root, and for an id that the tree has not. Refusals 2 to 8. */
 struct braidhurdle_found braidhurdle_find_parent(
     const uint8_t *records, size_t records_len, const uint8_t *pool, size_t pool_len, int32_t id);
+
+/* The name of the record at a slot: `length` bytes of the pool from `offset` on. That record alone is read, so it takes the same
+ * time for every tree, and the tree is not tested: ask a look-up first. Nothing for a slot behind the last record. Refusal 4,
+ * list 0 and the slot as its place, where the name passes the end of the pool. */
+struct braidhurdle_name braidhurdle_found_name(
+    const uint8_t *records, size_t records_len, const uint8_t *pool, size_t pool_len, uint32_t slot);
 
 #ifdef __cplusplus
 }
