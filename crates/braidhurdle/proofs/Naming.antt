@@ -10,8 +10,8 @@ use Rattle.paper.specs.Answer.{ok, refused, _>>=_, lowest}
 use Rattle.paper.specs.Field.{Field}
 use Rattle.paper.specs.Rows.{Row}
 use Rattle.paper.specs.Bytes.{rec-at, in-pool, name-of, field-at, slots}
-use Rattle.index.specs.Shown.{FoundIn}
-use Rattle.index.proofs.Showing.{row-here}
+use Rattle.index.specs.Finds.{FoundIn}
+use Rattle.index.proofs.Standing.{row-here}
 use Rattle.braidhurdle.specs.Name.{part-at, found-name, name-numbers, Shows}
 
 module _ (s pool : List ℕ) (k : ℕ) where

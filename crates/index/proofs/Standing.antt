@@ -1,16 +1,15 @@
 -- A row that a look-up finds is the record at its slot: the tree has the field of each slot where preorder has the slot.
 use Prim.Native.Nat.{ℕ, _<_}
-use mathlib.Core.Path.{_≡_, sym, ap, _∙_}
-use mathlib.Core.Bool.{true, true≢false}
-use mathlib.Core.List.{List, []}
+use mathlib.Core.Path.{_≡_, ap, _∙_}
+use mathlib.Core.Bool.{true}
+use mathlib.Core.List.{List}
 use mathlib.Core.Option.{Option, some}
-use native.Mathlib.Omega.{arith}
 use lib.ListN.{length}
 use Rattle.paper.specs.Answer.{ok, _>>=_}
 use Rattle.paper.specs.Forest.{Forest, node, mapped}
 use Rattle.paper.specs.Field.{Field}
 use Rattle.paper.specs.Rows.{Row, Start, top, row, below, beside, look-name, look-id, look-parent}
-use Rattle.paper.specs.Bytes.{turned, in-pool, name-of, field-at, kids-at, rec-at, slots}
+use Rattle.paper.specs.Bytes.{turned, in-pool, field-at, kids-at, slots}
 use Rattle.paper.specs.Decode.{fields, decode}
 use Rattle.paper.specs.Limits.{sized}
 use Rattle.paper.specs.Entries.{read, find-name, find-id, find-parent}
@@ -19,7 +18,7 @@ use Rattle.laws.proofs.Preorder.{size-mapped}
 use Rattle.laws.proofs.Taken.{Laid, roots-take}
 use Rattle.laws.proofs.Rows.{name-has, id-has, parent-has}
 use Rattle.plan.proofs.Taking.{decoded-named}
-use Rattle.index.specs.Shown.{FoundIn, by-name, by-id, by-parent, PartOf, Shown}
+use Rattle.index.specs.Finds.{FoundIn, by-name, by-id, by-parent}
 
 -- 2 was passed; the record at the row's slot is in the list, its name in the pool, and its field is the row's.
 pub record Here (s pool : List ℕ) (r : Row) : Type 0 where
@@ -69,33 +68,3 @@ module _ (s pool : List ℕ) where
       found-here (λ t. look-id t (turned i)) (λ t h r. id-has fld AtSlot LaidAt laid-step t h r (turned i)) r e
   row-here r (by-parent i e) =
       found-here (λ t. look-parent t (turned i)) (λ t h r. parent-has fld AtSlot LaidAt laid-step t h r (turned i)) r e
-
-  -- ---- what is shown
-
-  module _ (at : ℕ × ℕ) (k : ℕ) (x : List ℕ) (x-at : ℕ × ℕ) where
-    -- No bytes, where there is no slot or no name.
-    pub shown-none : (x ≡ []) → ((k < slots s) → in-pool (length pool) s k ≡ true → ⊥) → Shown s pool at k x x-at
-    shown-none e never =
-        record {
-          found = λ r f q. absurd (let h = row-here r f in never (rw (← q) (h .there)) (rw (← q) (h .pooled)));
-          inside = λ l h. absurd (never l h);
-          no-slot = λ _. e;
-          no-name = λ _. e;
-        }
-
-    -- The name.
-    pub shown-name : k < slots s → in-pool (length pool) s k ≡ true
-        → PartOf at (rec-at s k .name-at) (name-of pool s k) x x-at → Shown s pool at k x x-at
-    unfolding field-at
-    shown-name l h p =
-        record {
-          found = λ r f q.
-              record {
-                bytes = p .bytes ∙ ap (name-of pool s) (sym q) ∙ sym (ap (λ (f : Field). f .name) (row-here r f .field));
-                block = p .block;
-                offset-in = p .offset-in;
-              };
-          inside = λ _ _. p;
-          no-slot = λ n. absurd (omega arith);
-          no-name = λ n. absurd (true≢false (sym h ∙ n));
-        }
