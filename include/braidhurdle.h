@@ -1,9 +1,10 @@
 /* braidhurdle.h: columns of a table schema, changed, pruned, renumbered and looked up.
  *
  * This header is the manual of the C boundary. Every function is a thin layer over a proved library: what it says here of
- * sizes, of what is written and of what a refusal leaves is proved of the Rattle source (docs/PROMISES.md). What is not proved
- * is this declaration itself: keep it as it is. examples/c/calls.c calls every function; examples/c/revise.c takes a tree in files
- * through a board revision; docs/USING.md says how to link.
+ * sizes, of what is written and of what a refusal leaves is proved of the Rattle source (docs/PROMISES.md), and so is the order
+ * of arguments and of a result's numbers (crates/braidhurdle/proofs/Tied.antt). What is not proved is this declaration itself:
+ * keep it as it is. examples/c/calls.c calls every function; examples/c/revise.c takes a tree in files through a board revision;
+ * docs/USING.md says how to link.
  *
  * Calls. No function has a state, allocates, or keeps a pointer: each may be called from any thread at any time. No call needs a
  * check first: any bytes at all get an answer. Each list is a pointer and a length in BYTES, and its pointer needs no alignment.
@@ -43,7 +44,7 @@
 #include <stdint.h>
 
 /* The version of this boundary. It changes with any name, argument, result or size here. */
-#define BRAIDHURDLE_VERSION 1
+#define BRAIDHURDLE_VERSION 2
 /* The least output buffers, in bytes. */
 #define BRAIDHURDLE_RECORD_ROOM 24576
 #define BRAIDHURDLE_NAME_ROOM 32768
@@ -108,9 +109,16 @@ struct braidhurdle_found {
     uint32_t slot;
 };
 
-/* Answers 1, the version of this boundary, which its name has too: an archive of another version has another name here. A program
+/* Where a name stands in the pool. found is 0 or 1. Where there is no record, or on a refusal, offset and length are 0. */
+struct braidhurdle_name {
+    uint32_t refusal, list, place;
+    uint32_t found;
+    uint32_t offset, length;
+};
+
+/* Answers 2, the version of this boundary, which its name has too: an archive of another version has another name here. A program
  * that refers to it therefore links with no archive whose functions are declared otherwise. */
-uint32_t braidhurdle_abi_1(void);
+uint32_t braidhurdle_abi_2(void);
 
 /* Drops and adds columns. Deletions and additions are path entries into request_pool; the k-th root of added_records belongs to
  * the k-th addition, its names too stand in request_pool, and ids in it are ignored. Ids are handed out from last_id + 1: the
@@ -149,6 +157,12 @@ struct braidhurdle_found braidhurdle_find_id(
 /* The column above that of an id: its id and slot. Nothing for a root, and for an id that the tree has not. Refusals 2 to 8. */
 struct braidhurdle_found braidhurdle_find_parent(
     const uint8_t *records, size_t records_len, const uint8_t *pool, size_t pool_len, int32_t id);
+
+/* The name of the record at a slot: `length` bytes of the pool from `offset` on. That record alone is read, so it takes the same
+ * time for every tree, and the tree is not tested: ask a look-up first. Nothing for a slot behind the last record. Refusal 4,
+ * list 0 and the slot as its place, where the name passes the end of the pool. */
+struct braidhurdle_name braidhurdle_found_name(
+    const uint8_t *records, size_t records_len, const uint8_t *pool, size_t pool_len, uint32_t slot);
 
 #ifdef __cplusplus
 }

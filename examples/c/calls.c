@@ -107,6 +107,26 @@ static void look_ups(void)
     held("find_parent: above a root stands nothing", nothing(braidhurdle_find_parent(T, 1)));
 }
 
+static int shown(struct braidhurdle_name n, const char *name)
+{
+    return n.refusal == 0 && n.found == 1 && n.length == strlen(name) && memcmp(pool + n.offset, name, n.length) == 0;
+}
+
+static int no_name(struct braidhurdle_name n, uint32_t number, uint32_t place)
+{
+    return n.refusal == number && n.list == 0 && n.place == place && n.found == 0 && n.offset == 0 && n.length == 0;
+}
+
+static void names_of_slots(void)
+{
+    held("found_name: slot 5 has day, the pool's own bytes", shown(braidhurdle_found_name(T, 5), "day"));
+    held("found_name: there is no slot 10", no_name(braidhurdle_found_name(T, 10), 0, 0));
+    held("found_name: a pool that ends in price is refused with 4 at slot 9, and its day is shown",
+         no_name(braidhurdle_found_name(t, sizeof t, pool, sizeof names - 2, 9), 4, 9) &&
+             shown(braidhurdle_found_name(t, sizeof t, pool, sizeof names - 2, 5), "day"));
+    held("found_name: nothing has no name", no_name(braidhurdle_found_name(NOTHING, NOTHING, 0), 0, 0));
+}
+
 static void updates(void)
 {
     /* one pool for paths and new names, which may share bytes in it */
@@ -195,6 +215,7 @@ static void nulls(void)
 int main(void)
 {
     look_ups();
+    names_of_slots();
     updates();
     prunings();
     renumberings();

@@ -1,1 +1,3 @@
 pub mod Telling
+pub mod Naming
+pub mod Tied

@@ -22,8 +22,8 @@ use Rattle.record.specs.declared.Sizes.{Sizes}
 use Rattle.record.specs.declared.Changed.{Changed}
 use Rattle.record.specs.declared.Changed.the-variants as changing
 use Rattle.record.specs.Says.{found-row, looked, changes}
-use Rattle.index.specs.Shown.{FoundIn, by-name, by-id, by-parent}
-use Rattle.index.proofs.Showing.{row-here}
+use Rattle.index.specs.Finds.{FoundIn, by-name, by-id, by-parent}
+use Rattle.index.proofs.Standing.{row-here}
 use Rattle.prune.specs.Pruning.{Prunes}
 use Rattle.update_write.specs.Ending.{Answers}
 use Rattle.renumber.specs.Renumbering.{Renumbers}

@@ -7,6 +7,9 @@ use record::Changed;
 use record::FieldId;
 use record::Found;
 use record::Sought;
+use record::le32;
+use record::name_ok;
+use record::wide;
 use renumber::renumber;
 use update::update;
 ghost use mathlib.Core.Path.{_≡_};
@@ -14,6 +17,7 @@ ghost use lib.ListN.{length};
 ghost use Rattle.paper.specs.Entries.{find-name, find-id, find-parent, prune-entry, renumber-entry, update-entry};
 ghost use Rattle.paper.specs.Outcome.{found};
 ghost use Rattle.braidhurdle.specs.Numbers.{found-in, found-numbers, sought-numbers, changed-numbers, full-mode, Left, LeftThree};
+ghost use Rattle.braidhurdle.specs.Name.{found-name, name-numbers};
 
 // The answer of update, pruning and renumbering. On a refusal the last three are 0.
 #[repr(C)]
@@ -35,6 +39,17 @@ pub struct FoundNumbers {
     pub found: u32,
     pub id: u32,
     pub slot: u32,
+}
+
+// Where a name stands in the lent pool. On a refusal, and where there is no record, offset and length are 0.
+#[repr(C)]
+pub struct NameNumbers {
+    pub refusal: u32,
+    pub list: u32,
+    pub place: u32,
+    pub found: u32,
+    pub offset: u32,
+    pub length: u32,
 }
 
 fn lay_changed(changed: Changed) -> ChangedNumbers
@@ -102,10 +117,10 @@ fn lay_sought(sought: Sought) -> FoundNumbers
 // The version of these functions, in its name too: whoever is compiled against other declarations asks for another name, and finds
 // none here. A change of any declaration raises both.
 #[no_mangle]
-pub extern "C" fn braidhurdle_abi_1() -> u32
-    ensures { λ r. ⌜ r ≡ 1 ⌝ }
+pub extern "C" fn braidhurdle_abi_2() -> u32
+    ensures { λ r. ⌜ r ≡ 2 ⌝ }
 {
-    1
+    2
 }
 
 // Drops and adds columns; ids are handed out from `last_id` + 1.
@@ -202,4 +217,40 @@ pub extern "C" fn braidhurdle_find_parent(records: &[u8], pool: &[u8], id: u32) 
     ensures { λ r. ⌜ r ≡ found-in (found (find-parent (now (records .entry)) (now (pool .entry)) id)) ⌝ }
 {
     lay_sought(find_parent(records, pool, FieldId(id)))
+}
+
+// The name of the record at a slot, as a part of the lent pool. That record alone is read; the tree is not tested.
+#[no_mangle]
+pub extern "C" fn braidhurdle_found_name(records: &[u8], pool: &[u8], slot: u32) -> NameNumbers
+    ensures { λ r. ⌜ r ≡ name-numbers (found-name (now (records .entry)) (now (pool .entry)) slot) ⌝ }
+{
+    let k = slot as usize;
+    if records.len() / 24 <= k {
+        return NameNumbers {
+            refusal: 0,
+            list: 0,
+            place: 0,
+            found: 0,
+            offset: 0,
+            length: 0,
+        };
+    }
+    if !name_ok(records, pool.len(), k) {
+        return NameNumbers {
+            refusal: 4, // refusal 4
+            list: 0,
+            place: slot,
+            found: 0,
+            offset: 0,
+            length: 0,
+        };
+    }
+    NameNumbers {
+        refusal: 0,
+        list: 0,
+        place: 0,
+        found: 1,
+        offset: le32(records, k * 24 + 4),
+        length: wide(records[k * 24 + 8]),
+    }
 }

@@ -2,4 +2,4 @@ pub mod Rows
 pub mod Looking
 pub mod Sounding
 pub mod Opening
-pub mod Showing
+pub mod Standing

@@ -16,8 +16,6 @@ use record::FieldId;
 use record::Found;
 use record::Slot;
 use record::Sought;
-use record::name_at;
-use record::name_ok;
 use tree::Shaped;
 use tree::read_tree;
 ghost use mathlib.Core.Path.{_≡_};
@@ -32,7 +30,6 @@ ghost use Rattle.index_ids.specs.Chain.{Chained};
 ghost use Rattle.index_ids.specs.Ids.{id-bucket, Indexed};
 ghost use Rattle.index_names.specs.Told.{Sources};
 ghost use Rattle.index_short_names.specs.Seek.{seen};
-ghost use Rattle.index.specs.Shown.{Shown};
 ghost use Rattle.index.specs.Index.{Rooms, Falling, Index, NamesIndexed, Indexing, at-slot, found-slot, short-slot, ById, ByParent, Opened};
 
 // Refusal 7, and the index of ids.
@@ -455,19 +452,4 @@ pub fn find_parent(records: &[u8], pool: &[u8], id: FieldId) -> Sought
     }
     let m = records.len() / 24;
     Sought::Looked(look_parent(&ids, m, &id_heads, &id_next, &ups, id))
-}
-
-// A found record's name: the very part of the lent pool that holds it. No bytes where the slot has no name in the pool.
-pub fn found_name<'a>(records: &[u8], pool: &'a [u8], slot: Slot) -> &'a [u8]
-    ensures { λ r. ⌜ Shown (now (records .entry)) (now (pool .entry)) (pool .entry .ptr) (slot .0) (now r) (r .ptr) ⌝ }
-{
-    let k = slot.0;
-    let none = 0;
-    if records.len() / 24 <= k {
-        return &pool[none..none];
-    }
-    if !name_ok(records, pool.len(), k) {
-        return &pool[none..none];
-    }
-    name_at(pool, records, k)
 }

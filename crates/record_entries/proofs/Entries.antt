@@ -2,20 +2,18 @@
 use mathlib.Core.Path.{_≡_, sym, ap, _∙_}
 use mathlib.Core.List.{List}
 use mathlib.Core.Bool.{Bool, true}
-use Prim.Native.Nat.{ℕ, _+_, _-_, _≤_, _<_}
+use Prim.Native.Nat.{ℕ, _+_, _-_, _≤_}
 use native.Mathlib.Nat.{add-sub-cancel-left}
 use native.Mathlib.Omega.{arith}
 use borrow.Author.Tests.{leb-true}
 use lib.ListN.{length, take, drop}
 use Rattle.paper.specs.Answer.{lowest}
 use Rattle.paper.specs.Lists.{entry-at, path-in, path-of, entries, entries-ok}
-use Rattle.laws.proofs.Basics.{unbind, fault-ok}
-use Rattle.laws.proofs.Fitting.{lowest-none}
 use Rattle.record.specs.declared.Refusal.{Refusal}
 use Rattle.record.specs.declared.Check.{Check}
 use Rattle.record.specs.declared.Check.the-variants.{Fine, Refused}
 use Rattle.record.specs.Says.{tested, checked}
-use Rattle.record.proofs.Testing.{tested-fault, chain-goes, chain-stops, checked-ok}
+use Rattle.record.proofs.Testing.{tested-fault, chain-goes, chain-stops}
 
 module _ (list : ℕ) (rule : List ℕ → ℕ → Bool) (s pool : List ℕ) where
   -- 3, then 4
@@ -28,19 +26,7 @@ module _ (list : ℕ) (rule : List ℕ → ℕ → Bool) (s pool : List ℕ) whe
     unfolding entries-ok
     rule-goes b d eb = eb ∙ tested-fault 4 list (lowest (path-in (length pool) s) 0 (entries s)) ∙ sym (ap checked (chain-goes 3 list (lowest (rule s) 0 (entries s)) a _ ea d))
 
-  -- what an accepted list tells of each entry: `search accepted`
-  module _ (a : Check) (ea : a ≡ checked (entries-ok list rule s pool)) (d : a ≡ Fine) (k : ℕ) (l : k < entries s) where
-    pub entry-fine : rule s k ≡ true
-    unfolding entries-ok
-    entry-fine = unbind _ _ (checked-ok _ a ea d) λ u e _. lowest-none (rule s) 0 (entries s) (fault-ok 3 list _ e) k (omega arith) (omega arith)
-
-    pub path-fine : path-in (length pool) s k ≡ true
-    unfolding entries-ok
-    path-fine = unbind _ _ (checked-ok _ a ea d) λ u _ e. lowest-none (path-in (length pool) s) 0 (entries s) (fault-ok 4 list _ e) k (omega arith) (omega arith)
-
 pub ruleset listing = (rule-stops, rule-goes)
-
-pub ruleset accepted = (entry-fine, path-fine)
 
 -- ---- a path is a part of the request pool
 

@@ -7,7 +7,7 @@ use native.Mathlib.Omega.{arith}
 use borrow.Author.Tests.{leb-true, not-true, not-false}
 use lib.Dec.{eqb, leb}
 use lib.ListN.{length}
-use Rattle.paper.specs.Limits.{whole, sum-from, name-lens, name-sum, tree-sized, pool-sized, sized, sized-ids, sized-update}
+use Rattle.paper.specs.Limits.{whole, sum-from, name-lens, name-sum, tree-sized, sized, sized-ids, sized-update}
 use Rattle.laws.proofs.RoundTrip.{both}
 
 pub whole-most : (item most : ℕ) (s : List ℕ) → whole item most s ≡ true → length s ≤ item * most
@@ -17,10 +17,6 @@ whole-most item most s e = leb-true (length s) (item * most) (both (eqb (length 
 pub tree-most : (s p : List ℕ) → sized s p ≡ true → length s ≤ 24576
 unfolding sized tree-sized
 tree-most s p e = whole-most 24 1024 s (both (whole 24 1024 s) _ (both (tree-sized s) _ e .0) .0)
-
-pub pool-most : (s p : List ℕ) → sized s p ≡ true → length p ≤ 32768
-unfolding sized pool-sized
-pool-most s p e = leb-true (length p) 32768 (both (tree-sized s) _ e .1)
 
 -- where `sized_identifiers` or `sized_selected` said yes: `search ids-within`
 module _ (most : ℕ) (s p i : List ℕ) (t : Bool) (e : t ≡ sized-ids most s p i) (f : not t ≡ false) where

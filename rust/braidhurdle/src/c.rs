@@ -1,4 +1,4 @@
-//! The six C functions as they are: slices in, six numbers out, nothing allocated and nothing
+//! The C functions as they are: slices in, six numbers out, nothing allocated and nothing
 //! kept. What a function writes and what a refusal leaves is told in `include/braidhurdle.h`.
 //! The unsafe code of the crate is here, but for the room that is made on the heap.
 //!
@@ -50,15 +50,33 @@ pub struct Found {
     pub slot: u32,
 }
 
+/// Where a name stands in the pool. Where there is none, or on a refusal, offset and length are 0.
+#[repr(C)]
+#[derive(Clone, Copy, Debug, Default, PartialEq, Eq)]
+pub struct Name {
+    /// 0, or 4 where the name passes the end of the pool.
+    pub refusal: u32,
+    /// The list that a refusal speaks of.
+    pub list: u32,
+    /// The place in that list: the slot.
+    pub place: u32,
+    /// 0 or 1.
+    pub found: u32,
+    /// Where the name begins in the pool.
+    pub offset: u32,
+    /// Its bytes.
+    pub length: u32,
+}
+
 /// Only an archive whose functions are those that are declared here has this one, so that no other
 /// links.
 #[cfg(archive)]
 #[used]
 static DECLARED: unsafe extern "C" fn() -> u32 = {
     unsafe extern "C" {
-        fn braidhurdle_abi_1() -> u32;
+        fn braidhurdle_abi_2() -> u32;
     }
-    braidhurdle_abi_1
+    braidhurdle_abi_2
 };
 
 /// One function of the archive. Its arguments are lists, a number, lists, and buffers to write, in
@@ -132,4 +150,8 @@ function! {
 function! {
     /// The column above that of an id.
     find_parent is braidhurdle_find_parent(records pool; id: i32;;) -> Found
+}
+function! {
+    /// The name of the record at a slot. That record alone is read: the tree is not tested.
+    found_name is braidhurdle_found_name(records pool; slot: u32;;) -> Name
 }

@@ -4,7 +4,7 @@ use alloc::vec;
 use alloc::vec::Vec;
 
 use crate::layout::{DEFAULT, Kind, MOST_LEVELS, RECORD_BYTES, REQUIRED, Record};
-use crate::{Field, FieldId, Refusal, Slot, Tree, TreeRef};
+use crate::{Field, FieldId, Refusal, Slot, Tree, TreeRef, c};
 
 /// A column as it stands in a tree.
 #[derive(Clone, Copy, Debug, PartialEq, Eq, Hash)]
@@ -174,6 +174,13 @@ impl<'a> Columns<'a> {
         let above = [(FieldId(0), Slot(0), 0); MOST_LEVELS];
         Columns { tree, next: 0, above, names: [&[]; MOST_LEVELS], level: 0 }
     }
+
+    /// The name at a slot, the very part of the pool that holds it; none where there is none.
+    fn name(self, slot: Slot) -> Option<&'a [u8]> {
+        let part = c::found_name(self.records, self.pool, slot.0);
+        let from = (part.found == 1).then_some(part.offset as usize)?;
+        self.pool.get(from..)?.get(..part.length as usize)
+    }
 }
 
 impl<'a> Iterator for Columns<'a> {
@@ -183,7 +190,7 @@ impl<'a> Iterator for Columns<'a> {
     fn next(&mut self) -> Option<Column<'a>> {
         let bytes = self.tree.records.get(self.next * RECORD_BYTES..)?.first_chunk()?;
         let record = Record::read(bytes);
-        let name = record.name(self.tree.pool)?;
+        let name = self.tree.name(Slot(self.next as u32))?;
         let kind = Kind::from_number(record.kind)?;
         while self.level > 0 && self.above[self.level - 1].2 == 0 {
             self.level -= 1;

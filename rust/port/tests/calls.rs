@@ -2,6 +2,7 @@
 
 use std::sync::atomic::{AtomicUsize, Ordering};
 
+use braidhurdle::c;
 use cases::{
     Ask, ByJudge, Case, Generator, Sizes, answer, ask_of, lists, outcome, packed, prim, prune_by,
     renumber_by, strukt, the_tree, update_of,
@@ -82,4 +83,41 @@ fn t_damaged_in_every_byte_gets_the_texts_answer_from_every_entry() {
             });
         }
     });
+}
+
+/// 01's table: the name's offset and length of the record at a slot, and what 4 asks of them.
+fn name_by_text(records: &[u8], pool: &[u8], slot: u32) -> c::Name {
+    let Some(record) = records.chunks_exact(24).nth(slot as usize) else {
+        return c::Name::default();
+    };
+    let offset = u32::from_le_bytes(record[4..8].try_into().expect("four bytes"));
+    let length = u32::from(record[8]);
+    if u64::from(offset) + u64::from(length) > pool.len() as u64 {
+        return c::Name { refusal: 4, place: slot, ..c::Name::default() };
+    }
+    c::Name { found: 1, offset, length, ..c::Name::default() }
+}
+
+#[test]
+fn a_slots_name_is_what_its_record_says_and_no_other_byte_matters() {
+    if let Some(why) = absent() {
+        println!("T was not put to the port: {why}");
+        return;
+    }
+    let (records, pool) = packed(&the_tree());
+    let same = |records: &[u8], pool: &[u8]| {
+        for slot in [0, 1, 5, 8, 9, 10, 11, u32::MAX / 24, u32::MAX] {
+            let ours = c::found_name(records, pool, slot);
+            assert_eq!(ours, name_by_text(records, pool, slot), "slot {slot} of {records:?}");
+        }
+    };
+    for byte in 0..records.len() {
+        for value in 0..=255 {
+            let mut damaged = records.clone();
+            damaged[byte] = value;
+            same(&damaged, &pool);
+        }
+        same(&records[..byte], &pool);
+    }
+    (0..=pool.len()).for_each(|end| same(&records, &pool[..end]));
 }

@@ -1,0 +1,14 @@
+-- What a look-up in lent bytes finds.
+use Prim.Native.Nat.{ℕ}
+use mathlib.Core.Path.{_≡_}
+use mathlib.Core.List.{List}
+use mathlib.Core.Option.{some}
+use Rattle.paper.specs.Answer.{ok}
+use Rattle.paper.specs.Entries.{find-name, find-id, find-parent}
+use Rattle.paper.specs.Rows.{Row}
+
+-- A row that a look-up in these bytes finds.
+pub data FoundIn (s pool : List ℕ) (r : Row) : Type 0 where
+  by-name : (name : List ℕ) → find-name s pool name ≡ ok (some r) → FoundIn s pool r
+  by-id : (id : ℕ) → find-id s pool id ≡ ok (some r) → FoundIn s pool r
+  by-parent : (id : ℕ) → find-parent s pool id ≡ ok (some r) → FoundIn s pool r
