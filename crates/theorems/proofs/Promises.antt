@@ -193,7 +193,7 @@ each-refusal-has-one-number = one-number-each
 pub an-id-is-no-slot : IdsAreNoSlots
 an-id-is-no-slot = ids-are-no-slots
 
--- A refusal has a number of 01's table, from 1 to 20, and one of its lists, from 0 to 5.
+-- A refusal has a number of 01's table, from 1 to the last, and one of its lists, from 0 to the last.
 pub refusals-are-told : RefusalsTold
 refusals-are-told = refusals-told
 
