@@ -41,7 +41,7 @@ P7 = asked-update update-entry [] (at-root "floor" ∷ at-root "floor" ∷ [])
 abbrev dropped : Answer Result
 dropped = asked-update update-entry ("node" ∷ []) []
 
--- T's first root, T as it is and a chosen list; no column; T with identifiers 7 and 4, numbered from 11.
+-- T, pruned; T with identifiers 7 and 4, numbered from 11.
 abbrev chosen : List ℕ → Answer Result
 chosen selected = asked-prune prune-entry selected false
 

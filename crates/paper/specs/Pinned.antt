@@ -1,6 +1,6 @@
 -- Rules of 01 that P1 to P13 don't show: questions and answers, most of them the smallest inputs of docs/DECISIONS.md, whose
 -- number stands beside them. Then each refusal once, and the order of any two that can meet. All of them are one list and
--- one claim (`pins`, with what no such list shows).
+-- one claim (`pins`, with what no such list shows). The limits are a list apart, because their lists are long (theorems' `limits-hold`).
 use Prim.Native.Nat.{ℕ, zero, suc, _*_}
 use Prim.Native.String.{String}
 use mathlib.Core.List.{List, [], _∷_, _++_, map}
@@ -216,12 +216,15 @@ one kind kids = row24 1 0 1 kind 0 kids 0 0
 abbrev with-4 : List ℕ → Reply → ℕ → Example
 with-4 r told at = (of lending (set r at 4) (text "a") [] 1 ask find "a") gives told
 
--- n records of a kind that is none, with names of 255 bytes that no pool has, and one with a name of a last length.
-abbrev long-names : (n last : ℕ) → Lending
-long-names zero last = lending (row24 1 4_294_967_295 last 9 0 0 0 0) [] [] 1
-long-names (suc n) last =
-    let b = long-names n last in
-    lending (row24 1 4_294_967_295 255 9 0 0 0 0 ++ b .records) [] [] 1
+-- The same bytes again and again.
+abbrev times : ℕ → List ℕ → List ℕ
+times zero r = []
+times (suc n) r = r ++ times n r
+
+-- 128 records of a kind that is none, with names of 255 bytes that no pool has, and one whose name has a last length.
+abbrev long-names : (last : ℕ) → Lending
+long-names last =
+    lending (times 128 (row24 1 4_294_967_295 255 9 0 0 0 0) ++ row24 1 4_294_967_295 last 9 0 0 0 0) [] [] 1
 
 abbrev zeros : ℕ → List ℕ
 zeros n = replicate n 0
@@ -248,7 +251,7 @@ byte-rules =
     ∷ []
 
 -- The limits: what is still let through, and one more.
-abbrev limits : List Example
+abbrev pub limits : List Example
 limits =
     -- 64 deletions, additions, identifiers; 1,024 selected ids.
     (lists-are (zeros 512) [] (tree-of empty) gives refusal 3 list 2 place 0)
@@ -262,8 +265,8 @@ limits =
     -- 32,768 bytes in a pool, and as the sum of the name lengths, whatever else the records hold; 1,024 records.
     ∷ (of lending [] (zeros 32768) [] 0 ask find "a" gives nothing)
     ∷ (of lending [] (zeros 32769) [] 0 ask find "a" gives refusal 2 list 0 place 0)
-    ∷ (of long-names 128 128 ask find "a" gives refusal 3 list 0 place 0)
-    ∷ (of long-names 128 129 ask find "a" gives refusal 2 list 0 place 0)  -- 3
+    ∷ (of long-names 128 ask find "a" gives refusal 3 list 0 place 0)
+    ∷ (of long-names 129 ask find "a" gives refusal 2 list 0 place 0)  -- 3
     ∷ (of lending (zeros 24600) [] [] 0 ask find "a" gives refusal 2 list 0 place 0)
     -- No whole number of records, entries, ids; the additions tree's too.
     ∷ (lists-are (zeros 7) [] (tree-of empty) gives refusal 2 list 0 place 0)
@@ -409,4 +412,4 @@ decided-order =
     ∷ []
 
 abbrev pub pinned : List Example
-pinned = names ++ updates ++ others ++ byte-rules ++ limits ++ met ++ base-order ++ own-order ++ lists-order ++ decided-order
+pinned = names ++ updates ++ others ++ byte-rules ++ met ++ base-order ++ own-order ++ lists-order ++ decided-order

@@ -18,5 +18,6 @@ pub mod One
 pub mod Ends
 pub mod Told
 pub mod Numbered
+pub mod Limits
 pub mod Sites
 pub mod Promises

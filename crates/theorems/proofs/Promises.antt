@@ -21,6 +21,7 @@ use Rattle.paper.specs.Outcome.{changed, Found}
 use Rattle.paper.specs.Sample.{T, T-records, T-pool}
 use Rattle.paper.specs.Asked.{AnUpdate, APruner, signed-id, answer, update-reply, _with-last_}
 use Rattle.paper.specs.Worked.{examples}
+use Rattle.paper.specs.Pinned.{limits}
 use Rattle.paper.proofs.Hold.{T-decodes, all-hold}
 use Rattle.paper.proofs.Pins.{Held, pins}
 use Rattle.laws.specs.Fit.{Bytes}
@@ -44,6 +45,7 @@ use Rattle.theorems.proofs.Again.{prune-parts, renumber-numbers}
 use Rattle.theorems.proofs.One as One
 use Rattle.theorems.proofs.Told.{refusals-told, none-accepted}
 use Rattle.theorems.proofs.Numbered.{one-number-each}
+use Rattle.theorems.proofs.Limits.{limits-hold}
 use Rattle.theorems.proofs.Sites.{ids-are-no-slots}
 use Rattle.theorems.proofs.Wrong.{right-update, right-pruner}
 
@@ -62,6 +64,10 @@ worked-examples = all-hold
 -- it the six numbers, the bytes in the buffers, and the lister's text.
 pub pinned-rules : Held
 pinned-rules = pins
+
+-- The limits: what is still let through, and one more.
+pub pinned-limits : map (λ e. answer (e .asked)) limits ≡ map (λ e. e .given) limits
+pinned-limits = limits-hold
 
 -- The signed reading is two's complement: n and -(n + 1), from their 32 bits.
 pub signed-reading : (n : ℕ) → n < 2_147_483_648
@@ -187,7 +193,7 @@ each-refusal-has-one-number = one-number-each
 pub an-id-is-no-slot : IdsAreNoSlots
 an-id-is-no-slot = ids-are-no-slots
 
--- A refusal has a number of 01's table, from 1 to 20, and one of its lists, from 0 to 5.
+-- A refusal has a number of 01's table, from 1 to the last, and one of its lists, from 0 to the last.
 pub refusals-are-told : RefusalsTold
 refusals-are-told = refusals-told
 

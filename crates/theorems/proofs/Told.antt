@@ -1,5 +1,5 @@
--- Each refusal has a number from 1 to 20 and a list from 0 to
--- 5: every step of an entry gives one of 01's table.
+-- Each refusal has a number from 1 to the last and a list from 0 to the last: every step of an entry gives one of 01's
+-- table.
 use Prim.Native.Nat.{ℕ, zero, suc, _+_, _≤_}
 use mathlib.Core.Path.{_≡_, sym}
 use mathlib.Core.Bool.{Bool, true, false, not, _&&_}
@@ -13,6 +13,7 @@ use Rattle.paper.specs.declared.Kind.the-variants.{Primitive, Structure, Listin
 use Rattle.paper.specs.declared.Role.{Role}
 use Rattle.paper.specs.Answer.{Answer, ok, refused, _>>=_, fault, fault-if, demand, among, same, repeated}
 use Rattle.paper.specs.Answer.{place-of, lowest}
+use Rattle.paper.specs.Refusals.{last-refusal, last-list}
 use Rattle.paper.specs.Forest.{Forest, empty, node, size, siblings}
 use Rattle.paper.specs.declared.Role.the-variants.{Member}
 use Rattle.paper.specs.Field.{Field, id-of, kind-of, first, after, highest}
@@ -42,7 +43,7 @@ unfolding _>>=_
 told-bind (accepted {a = a}) h = h a
 told-bind (turned-down l g k) h = turned-down l g k
 
-module _ (n l : ℕ) (low : 1 ≤ n) (high : n ≤ 20) (list : l ≤ 5) where
+module _ (n l : ℕ) (low : 1 ≤ n) (high : n ≤ last-refusal) (list : l ≤ last-list) where
   told-fault : (o : Option ℕ) → Told (fault n l o)
   told-fault none = accepted
   told-fault (some p) = turned-down low high list
@@ -62,7 +63,7 @@ told-elim false h k = k
 
 -- ---- a tree
 
-module _ (list : ℕ) (l : list ≤ 5) (kids : ℕ → ℕ) (n : ℕ) where
+module _ (list : ℕ) (l : list ≤ last-list) (kids : ℕ → ℕ) (n : ℕ) where
   deep-told : (c k : ℕ) → Told (deep list c k)
   unfolding deep
   deep-told zero k = accepted
@@ -90,9 +91,9 @@ module _ (list : ℕ) (l : list ≤ 5) (kids : ℕ → ℕ) (n : ℕ) where
       (told-bind (row-told 15 (kids k) (suc k)) (λ a. told-bind (roots-told most (a .next)) (λ b. accepted)))
       accepted
 
--- 1 to 20, and 0 to 5.
+-- From 1 and from 0 to the last.
 abbrev Known : ℕ → ℕ → Type 0
-Known n l = (1 ≤ n) × (n ≤ 20) × (l ≤ 5)
+Known n l = (1 ≤ n) × (n ≤ last-refusal) × (l ≤ last-list)
 
 step : (n l : ℕ) → Known n l → (o : Option ℕ) → Told (fault n l o)
 step n l h = told-fault n l (h .0) (h .1) (h .2)
@@ -103,7 +104,7 @@ test n l h = told-if n l (h .0) (h .1) (h .2)
 asked : {A : Type 0} (n l : ℕ) → Known n l → (p : ℕ) (o : Option A) → Told (demand n l p o)
 asked n l h = told-demand n l (h .0) (h .1) (h .2)
 
-decode-told : (list : ℕ) → list ≤ 5 → (s p : List ℕ) → Told (decode list s p)
+decode-told : (list : ℕ) → list ≤ last-list → (s p : List ℕ) → Told (decode list s p)
 unfolding decode
 decode-told list l s p =
     told-bind (step 3 list (omega arith, omega arith, l) (lowest (ok-bytes s) 0 (slots s))) λ _.
@@ -111,14 +112,14 @@ decode-told list l s p =
     told-bind (roots-told list l (kids-at s) (slots s) (slots s) 0) λ t.
     told-bind (step 6 list (omega arith, omega arith, l) (misnamed Member 0 (fields p s (t .trees)))) λ _. accepted
 
-entries-told : (list : ℕ) → list ≤ 5 → (rule : List ℕ → ℕ → Bool) (s p : List ℕ)
+entries-told : (list : ℕ) → list ≤ last-list → (rule : List ℕ → ℕ → Bool) (s p : List ℕ)
     → Told (entries-ok list rule s p)
 unfolding entries-ok
 entries-told list l rule s p =
     told-bind (step 3 list (omega arith, omega arith, l) (lowest (rule s) 0 (entries s))) λ _.
     step 4 list (omega arith, omega arith, l) (lowest (path-in (length p) s) 0 (entries s))
 
-sound-told : (list : ℕ) → list ≤ 5 → (t : Forest Field) (identifiers : List ℕ)
+sound-told : (list : ℕ) → list ≤ last-list → (t : Forest Field) (identifiers : List ℕ)
     → Told (sound list t identifiers)
 unfolding sound
 sound-told list l t identifiers =
