@@ -1,18 +1,24 @@
 -- The name of a slot: `search naming`. And of a column that a look-up found: its name, as a part of the lent pool.
-use Prim.Native.Nat.{ℕ, _<_, _≤_}
+use Prim.Native.Nat.{ℕ, _+_, _<_, _≤_}
 use mathlib.Core.Path.{_≡_, refl, sym, ap, _∙_}
 use mathlib.Core.Bool.{Bool, true, false, not}
 use mathlib.Core.List.{List}
 use mathlib.Core.Option.{none, some}
 use borrow.Author.Tests.{lt-ltb, le-ltb, leb-true, not-true, not-false}
-use lib.ListN.{length}
+use lib.ListN.{length, take, drop}
+use borrow.Fn.World.{ArgsD, ResD}
+use contract.Lifetimes.{Lfts}
+use denote.Ref.{now}
+use denote.Triple.Clauses.{AtExit}
 use Rattle.paper.specs.Answer.{ok, refused, _>>=_, lowest}
 use Rattle.paper.specs.Field.{Field}
 use Rattle.paper.specs.Rows.{Row}
 use Rattle.paper.specs.Bytes.{rec-at, in-pool, name-of, field-at, slots}
+use Rattle.record.proofs.name_at as name-at
+use Rattle.record.proofs.name_at.Reads as name-at-reads
 use Rattle.index.specs.Finds.{FoundIn}
 use Rattle.index.proofs.Standing.{row-here}
-use Rattle.braidhurdle.specs.Name.{part-at, found-name, name-numbers, Shows}
+use Rattle.braidhurdle.specs.Name.{Part, part-at, found-name, name-numbers, Shows}
 
 module _ (s pool : List ℕ) (k : ℕ) where
   no-slot : slots s ≤ k → found-name s pool k ≡ ok none
@@ -55,3 +61,15 @@ found-shows s pool r f =
       inside = leb-true _ _ (h .pooled);
       bytes = sym (ap (λ (x : Field). x .name) (h .field));
     }
+
+-- And it is what `record::name_at` returns, with no copy: the pool's own bytes from that offset on, so many.
+module _ (κs : Lfts 2) (a : ArgsD name-at.signature κs) (r : ResD name-at.signature κs) (s : AtExit name-at.ended κs) where
+  abbrev part : Part
+  part = part-at (now (a .1 .0)) (a .1 .1 .0)
+
+  pub name-at-says : name-at-reads.Learnt κs a r s
+      ≡ ((now r ≡ take (part .size) (drop (part .offset) (now (a .0))))
+      × (r .ptr .0 ≡ a .0 .ptr .0)
+      × (r .ptr .1 ≡ a .0 .ptr .1 + part .offset))
+  unfolding name-of
+  name-at-says = refl
