@@ -11,12 +11,12 @@ look-name-spec =
     tie.close
     (tie.spec
     (λ c κs. (c .before .before .before .before .before .pre .1 .spelt, (c .before .before .before .before .before .pre .1 .hashed, c .before .before .before .before .before .pre .1 .by-name)))  -- find-full-requires
-    (λ c. search needs)  -- enum-known-full
-    (λ c κs. ?)  -- with-id-requires
-    (λ c. ?)  -- returns
     (λ c. search needs)  -- enum-told
+    (λ c κs. found-below-room _ _ _ (c .before .before .find-full .ensures) (c .before .before .before .before .before .before .before .before .pre .0 .few))  -- with-id-requires
+    (λ c. by-full _ _ _ _ _ (c .before .before .before .before .before .before .before .before .before .pre .0) _ (c .before .before .before .before .before .before .before .before .before .pre .1 .raised) _ _ (c .before .before .before .find-full .ensures) _ _ (c .before .enum-told .given .1) (c .with-id .ensures))  -- returns
+    (λ c. search needs)  -- enum-told-2
     (λ c κs. search needs)  -- has-dot-requires
-    (λ c. ?)  -- returns-2
-    (λ c κs. ?)  -- look-short-requires
-    (λ c. ?)  -- returns-3
+    (λ c. by-root _ _ _ _ _ (c .before .before .before .before .before .before .before .before .before .before .pre .0) _ (c .before .before .before .before .before .before .before .before .before .before .pre .1 .raised) _ _ (c .before .before .before .before .find-full .ensures) (c .before .before .enum-told2 .given .1) _ (c .before .has-dot .ensures) (c .if1 .taken))  -- returns-2
+    (λ c κs. plan-sources _ _ _ _ _ (c .before .before .before .before .before .before .before .before .before .before .pre .0))  -- look-short-requires
+    (λ c. by-short _ _ _ _ _ (c .before .before .before .before .before .before .before .before .before .before .before .pre .0) _ (c .before .before .before .before .before .before .before .before .before .before .before .pre .1 .raised) _ _ (c .before .before .before .before .before .find-full .ensures) _ (c .before .before .before .enum-told2 .given .1) (c .look-short .ensures))  -- returns-3
     )

@@ -14,6 +14,6 @@ look-short-spec =
     (λ c. search needs)  -- enum-known-short
     (λ c. search needs)  -- enum-told
     (λ c. short-none _ _ _ _ _ _ (c .before .before .seek .ensures) _ _ (c .enum-told .given .1))  -- returns
-    (λ c κs. short-below _ _ _ _ _ _ (c .before .before .seek .ensures) _ (c .short .given .1) (c .before .before .before .before .before .before .before .before .pre .few))  -- with-id-requires
-    (λ c. short-some _ _ _ _ _ _ (c .before .before .before .seek .ensures) _ (c .before .short .given .1) _ _ (c .with-id .ensures))  -- returns-2
+    (λ c κs. short-below _ _ _ _ _ _ (c .before .before .before .seek .ensures) _ (c .before .short .given .1) (c .before .before .before .before .before .before .before .before .before .pre .few))  -- with-id-requires
+    (λ c. short-some _ _ _ _ _ _ (c .before .before .before .before .seek .ensures) _ (c .before .before .short .given .1) _ _ (c .with-id .ensures))  -- returns-2
     )
