@@ -105,4 +105,4 @@ module _ (s is new : List ℕ) (m : ℕ) (out : List ℕ) where
             let f : from g 0 (i + 1) ≡ from g 0 i ++ (g i ∷ []) = from-append g 0 i 1 ∙ rw (zero-add i) in
             record { so-far = eo ∙ rw (eb, k .so-far, n₁, f, bytes-append (from g 0 i) (g i ∷ []), e₂) (sets-append (id-bytes (from g 0 i)) (bytes32 x []) out 0) }
 
-pub ruleset mapping = (mapping-starts, mapping-done, bytes-room, never-missing, slot-few, mapping-goes)
+pub ruleset mapping = (mapping-starts, mapping-done, bytes-room, slot-few, mapping-goes)

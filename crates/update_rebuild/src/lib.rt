@@ -6,7 +6,6 @@ use record::kids_at;
 use record::kind_at;
 use record::long;
 use record::low_32;
-use record::place;
 use record::under_of;
 use tree::Walked;
 use tree::row_end;
@@ -157,7 +156,7 @@ fn add_all(
             j += 1;
             continue;
         }
-        let first = place(firsts[j]);
+        let first = record::place(firsts[j]);
         let start = starts[j];
         let step = add_tree(recs, n, first, start, levels, slots, ids, kids, here);
         let Step::Went(w) = step else {
