@@ -1,10 +1,10 @@
 // The lister: from lent bytes to its text.
 use index::open_base;
-use index_ids::place;
 use index_names::name_of;
 use plan::put_bytes;
 use record::Check;
 use record::Refusal;
+use record::place;
 ghost use mathlib.Core.Path.{_≡_};
 ghost use Prim.Native.Nat.{_+_, _-_, _<_, _≤_};
 ghost use lib.ListN.{length, take, drop};
@@ -66,13 +66,6 @@ fn put_signed(out: &mut [u8], at: usize, id: u32) -> usize
     put_decimal(out, at + 1, 4294967295 - id + 1)
 }
 
-// A length, which a u16 keeps below 65,536.
-fn span(x: u16) -> usize
-    ensures { λ r. ⌜ (r ≡ x) × (r < 65536) ⌝ }
-{
-    x as usize
-}
-
 // The full name of a slot from `at` on: its own name at the end, then the names above it, each before a dot.
 fn put_full<'a>(
     pool: &'a [u8],
@@ -90,7 +83,7 @@ fn put_full<'a>(
     requires { ⌜ (slot < m) × (Spelt (lent (now pool) (now base) (now request) (now added)) (now slots) m (now ups) (now lens) × (at + 65535 ≤ length (now out))) ⌝ }
     ensures { λ r. ⌜ Put (full-at (name-in (lent (now (pool .entry)) (now (base .entry)) (now (request .entry)) (now (added .entry))) (now (slots .entry))) (now (ups .entry)) slot) at (now (out .entry)) r (now (out .exit)) × (r ≤ at + 65535) ⌝ }
 {
-    let stop = at + span(lens[slot]);
+    let stop = at + place(lens[slot]);
     let mut end = stop;
     let mut here = slot;
     loop {
