@@ -10,6 +10,6 @@ mark-spec = tie.close (tie.spec
     (λ c. search needs)  -- enum-known-found
     (λ c. search needs)  -- enum-told
     (λ c. search (mark-none, needs))  -- returns
-    (λ c. let l = c .before .before .before .pre .small _ (c .found .given .1) in omega arith)  -- element-write-marks
+    (λ c. let l = c .before .before .before .pre .small _ (c .before .found .given .1) in omega arith)  -- element-write-marks
     (λ c. search (mark-some, needs))  -- returns-2
     )
