@@ -66,6 +66,13 @@ fn put_signed(out: &mut [u8], at: usize, id: u32) -> usize
     put_decimal(out, at + 1, 4294967295 - id + 1)
 }
 
+// A length, which a u16 keeps below 65,536.
+fn span(x: u16) -> usize
+    ensures { λ r. ⌜ (r ≡ x) × (r < 65536) ⌝ }
+{
+    place(x)
+}
+
 // The full name of a slot from `at` on: its own name at the end, then the names above it, each before a dot.
 fn put_full<'a>(
     pool: &'a [u8],
@@ -83,7 +90,7 @@ fn put_full<'a>(
     requires { ⌜ (slot < m) × (Spelt (lent (now pool) (now base) (now request) (now added)) (now slots) m (now ups) (now lens) × (at + 65535 ≤ length (now out))) ⌝ }
     ensures { λ r. ⌜ Put (full-at (name-in (lent (now (pool .entry)) (now (base .entry)) (now (request .entry)) (now (added .entry))) (now (slots .entry))) (now (ups .entry)) slot) at (now (out .entry)) r (now (out .exit)) × (r ≤ at + 65535) ⌝ }
 {
-    let stop = at + place(lens[slot]);
+    let stop = at + span(lens[slot]);
     let mut end = stop;
     let mut here = slot;
     loop {

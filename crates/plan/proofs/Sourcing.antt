@@ -19,7 +19,7 @@ use Rattle.plan.specs.Sources.{source-kind, source-len, row-of, source-r
 
 pub row-is : (i a m c d : List ℕ) (id at len kind flags kids code attribute : ℕ) → i ≡ bytes32 id [] → a ≡ bytes32 at [] → m ≡ bytes32 kids [] → c ≡ bytes32 code [] → d ≡ bytes32 attribute []
     → getD i 0 0 ∷ getD i 1 0 ∷ getD i 2 0 ∷ getD i 3 0 ∷ getD a 0 0 ∷ getD a 1 0 ∷ getD a 2 0 ∷ getD a 3 0 ∷ len ∷ kind ∷ flags ∷ 0 ∷ getD m 0 0 ∷ getD m 1 0 ∷ 0 ∷ 0
-        ∷ getD c 0 0 ∷ getD c 1 0 ∷ getD c 2 0 ∷ getD c 3 0 ∷ getD d 0 0 ∷ getD d 1 0 ∷ getD d 2 0 ∷ getD d 3 0 ∷ [] ≡ row24 id at len kind flags kids code attribute
+    ∷ getD c 0 0 ∷ getD c 1 0 ∷ getD c 2 0 ∷ getD c 3 0 ∷ getD d 0 0 ∷ getD d 1 0 ∷ getD d 2 0 ∷ getD d 3 0 ∷ [] ≡ row24 id at len kind flags kids code attribute
 unfolding row24
 row-is i a m c d id at len kind flags kids code attribute ei ea em ec ed = rw (ei, ea, em, ec, ed)
 

@@ -126,8 +126,30 @@ fn row_bytes(
     let c = word_bytes(code);
     let d = word_bytes(attribute);
     [
-        i[0], i[1], i[2], i[3], a[0], a[1], a[2], a[3], len, kind, flags, 0, m[0], m[1], 0, 0, c[0],
-        c[1], c[2], c[3], d[0], d[1], d[2], d[3],
+        i[0],
+        i[1],
+        i[2],
+        i[3],
+        a[0],
+        a[1],
+        a[2],
+        a[3],
+        len,
+        kind,
+        flags,
+        0,
+        m[0],
+        m[1],
+        0,
+        0,
+        c[0],
+        c[1],
+        c[2],
+        c[3],
+        d[0],
+        d[1],
+        d[2],
+        d[3],
     ]
 }
 

@@ -77,14 +77,7 @@ pub fn row_end(recs: &[u8], n: usize, slot: usize, count: u32, levels: usize, li
 }
 
 // Where `count` trees end that were read from `slot` on: the slot behind their last record.
-pub fn row_past(
-    recs: &[u8],
-    n: usize,
-    slot: usize,
-    count: u32,
-    levels: usize,
-    list: u32,
-) -> usize
+pub fn row_past(recs: &[u8], n: usize, slot: usize, count: u32, levels: usize, list: u32) -> usize
     requires { ⌜ Rowed list (now recs) n levels count slot ⌝ }
     ensures { λ r. ⌜ r ≡ part list (kids-at (now (recs .entry))) n levels count slot .next ⌝ }
 {

@@ -20,23 +20,23 @@ put-full-spec =
     (tie.spec
     Inv-loop
     μ-loop
-    (λ c. search (climbing, needs))  -- mul-place
-    (λ c. search (climbing, needs))  -- element-copy-out-place
-    (λ c κs. search (climbing, needs))  -- place-requires
+    (λ c. search (climbing, needs))  -- mul-span
+    (λ c. search (climbing, needs))  -- element-copy-out-span
+    (λ c κs. search (climbing, needs))  -- span-requires
     (λ c. omega arith)  -- add-stop
     (λ c. search (climbing, needs))  -- loop-holds
     (λ c κs. search (climbing, needs))  -- name-of-requires
     (λ c. let r = climb-room _ _ _ _ _ _ _ _ (c .before .before .before .before .before .before .before .before .before .pre .0) (c .before .before .before .before .before .before .before .before .before .pre .1 .0) _ _ _ _ (c .before .loop .inv) (c .name-of .ensures) in omega (arith, r))  -- sub-from
     (λ c κs. climb-fits _ _ _ _ _ _ _ _ (c .before .before .before .before .before .before .before .before .before .before .pre .0) (c .before .before .before .before .before .before .before .before .before .before .pre .1 .0) _ _ _ _ (c .before .before .loop .inv) (c .before .name-of .ensures))  -- put-bytes-requires
-    (λ c. search (climbing, needs))  -- mul-place-2
-    (λ c. search (climbing, needs))  -- element-copy-out-place-2
-    (λ c κs. search (climbing, needs))  -- place-requires-2
+    (λ c. search (climbing, needs))  -- mul-place
+    (λ c. search (climbing, needs))  -- element-copy-out-place
+    (λ c κs. search (climbing, needs))  -- place-requires
     (λ c. search (climbing, needs))  -- same-length
     (λ c. (search (climbing, needs), omega arith))  -- returns
-    (λ c. let r = climb-dot _ _ _ _ _ _ _ _ (c .before .before .before .before .before .before .before .before .before .before .before .before .before .before .before .before .pre .0) (c .before .before .before .before .before .before .before .before .before .before .before .before .before .before .before .before .pre .1 .0) _ _ _ _ (c .before .before .before .before .before .before .before .before .loop .inv) (c .before .before .before .before .before .before .before .name-of .ensures) _ (c .before .place2 .ensures) (c .if1 .left) _ (c .before .before .before .before .before .put-bytes .ensures) in omega (arith, r))  -- sub-out
-    (λ c. climb-write _ _ _ _ _ _ _ _ (c .before .before .before .before .before .before .before .before .before .before .before .before .before .before .before .before .pre .0) (c .before .before .before .before .before .before .before .before .before .before .before .before .before .before .before .before .pre .1 .0) _ _ _ _ (c .before .before .before .before .before .before .before .before .loop .inv) (c .before .before .before .before .before .before .before .name-of .ensures) _ (c .before .place2 .ensures) (c .if1 .left) _ (c .before .before .before .before .before .put-bytes .ensures))  -- slice-write-out
-    (λ c. let r = climb-dot _ _ _ _ _ _ _ _ (c .before .before .before .before .before .before .before .before .before .before .before .before .before .before .before .before .pre .0) (c .before .before .before .before .before .before .before .before .before .before .before .before .before .before .before .before .pre .1 .0) _ _ _ _ (c .before .before .before .before .before .before .before .before .loop .inv) (c .before .before .before .before .before .before .before .name-of .ensures) _ (c .before .place2 .ensures) (c .if1 .left) _ (c .before .before .before .before .before .put-bytes .ensures) in omega (arith, r))  -- sub-end
+    (λ c. let r = climb-dot _ _ _ _ _ _ _ _ (c .before .before .before .before .before .before .before .before .before .before .before .before .before .before .before .before .pre .0) (c .before .before .before .before .before .before .before .before .before .before .before .before .before .before .before .before .pre .1 .0) _ _ _ _ (c .before .before .before .before .before .before .before .before .loop .inv) (c .before .before .before .before .before .before .before .name-of .ensures) _ (c .before .place .ensures) (c .if1 .left) _ (c .before .before .before .before .before .put-bytes .ensures) in omega (arith, r))  -- sub-out
+    (λ c. climb-write _ _ _ _ _ _ _ _ (c .before .before .before .before .before .before .before .before .before .before .before .before .before .before .before .before .pre .0) (c .before .before .before .before .before .before .before .before .before .before .before .before .before .before .before .before .pre .1 .0) _ _ _ _ (c .before .before .before .before .before .before .before .before .loop .inv) (c .before .before .before .before .before .before .before .name-of .ensures) _ (c .before .place .ensures) (c .if1 .left) _ (c .before .before .before .before .before .put-bytes .ensures))  -- slice-write-out
+    (λ c. let r = climb-dot _ _ _ _ _ _ _ _ (c .before .before .before .before .before .before .before .before .before .before .before .before .before .before .before .before .pre .0) (c .before .before .before .before .before .before .before .before .before .before .before .before .before .before .before .before .pre .1 .0) _ _ _ _ (c .before .before .before .before .before .before .before .before .loop .inv) (c .before .before .before .before .before .before .before .name-of .ensures) _ (c .before .place .ensures) (c .if1 .left) _ (c .before .before .before .before .before .put-bytes .ensures) in omega (arith, r))  -- sub-end
     (λ c. search needs)  -- sub-here
-    (λ c. climb-falls _ _ _ _ _ _ _ _ (c .before .before .before .before .before .before .before .before .before .before .before .before .before .before .before .before .pre .0) (c .before .before .before .before .before .before .before .before .before .before .before .before .before .before .before .before .pre .1 .0) _ _ _ _ (c .before .before .before .before .before .before .before .before .loop .inv) (c .before .before .before .before .before .before .before .name-of .ensures) _ (c .before .place2 .ensures) (c .if1 .left))  -- loop-less
-    (λ c. climb-goes _ _ _ _ _ _ _ _ (c .before .before .before .before .before .before .before .before .before .before .before .before .before .before .before .before .pre .0) (c .before .before .before .before .before .before .before .before .before .before .before .before .before .before .before .before .pre .1 .0) _ _ _ _ (c .before .before .before .before .before .before .before .before .loop .inv) (c .before .before .before .before .before .before .before .name-of .ensures) _ (c .before .place2 .ensures) (c .if1 .left) _ (c .before .before .before .before .before .put-bytes .ensures))  -- loop-again
+    (λ c. climb-falls _ _ _ _ _ _ _ _ (c .before .before .before .before .before .before .before .before .before .before .before .before .before .before .before .before .pre .0) (c .before .before .before .before .before .before .before .before .before .before .before .before .before .before .before .before .pre .1 .0) _ _ _ _ (c .before .before .before .before .before .before .before .before .loop .inv) (c .before .before .before .before .before .before .before .name-of .ensures) _ (c .before .place .ensures) (c .if1 .left))  -- loop-less
+    (λ c. climb-goes _ _ _ _ _ _ _ _ (c .before .before .before .before .before .before .before .before .before .before .before .before .before .before .before .before .pre .0) (c .before .before .before .before .before .before .before .before .before .before .before .before .before .before .before .before .pre .1 .0) _ _ _ _ (c .before .before .before .before .before .before .before .before .loop .inv) (c .before .before .before .before .before .before .before .name-of .ensures) _ (c .before .place .ensures) (c .if1 .left) _ (c .before .before .before .before .before .put-bytes .ensures))  -- loop-again
     )
