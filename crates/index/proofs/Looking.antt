@@ -1,7 +1,7 @@
 -- A chain finds the lowest slot that has the id or the full name, and the rows' slots are in that order: so the look-ups of the code are
 -- the paper's.
 use mathlib.Core.Path.{_≡_, refl, sym, ap, subst, _∙_}
-use mathlib.Core.Bool.{Bool, true, false, not}
+use mathlib.Core.Bool.{Bool, true, not}
 use mathlib.Core.List.{List, [], _∷_}
 use mathlib.Core.Option.{Option, none, some}
 use Prim.Native.Nat.{ℕ, zero, suc, _-_, _<_, _≤_}

@@ -4,7 +4,6 @@ use record::kids_at;
 use record::kind_at;
 use record::turn;
 use tree_walk::is_map;
-ghost use mathlib.Core.Path.{_≡_};
 ghost use Prim.Native.Nat.{_+_, _<_};
 ghost use mathlib.Core.Bool.{true, false};
 ghost use Rattle.paper.specs.Bytes.{kind-at, kids-at, slots};

@@ -9,7 +9,7 @@ use native.Mathlib.Omega.{arith}
 use lib.Dec.{eqb}
 use lib.ListN.{length, getD}
 use lib.Seq.{sets, length-sets}
-use Rattle.paper.specs.Answer.{any, among, place-of}
+use Rattle.paper.specs.Answer.{among, place-of}
 use Rattle.paper.specs.Bytes.{turned, from}
 use Rattle.paper.specs.Lists.{id-at, id-list}
 use Rattle.paper.specs.Encode.{bytes32, id-bytes}

@@ -7,7 +7,6 @@ use Rattle.prune_columns.proofs.copy_records.Tie as tie
 use Rattle.prune_columns.proofs.copy_records.Reads as reads
 use Rattle.prune_columns.proofs.copy_records.Lts as lts
 use Rattle.record.proofs.kids_at.Reads as kids-at-reads
-use Rattle.record.proofs.id_bits_at.Reads as id-bits-at-reads
 
 abbrev Inv-loop : tie.InvT-loop
 Inv-loop recs from to slots₀ ids₀ kids₀ at i₀ p₀ slots ids kids i p = Copying recs from i slots₀ ids₀ kids₀ at slots ids kids p × (i ≤ to)

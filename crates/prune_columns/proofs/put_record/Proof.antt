@@ -5,7 +5,6 @@ use Rattle.prune_columns.proofs.put_record.Statement.{statement}
 use Rattle.prune_columns.proofs.put_record.Tie as tie
 use Rattle.prune_columns.proofs.put_record.Reads as reads
 use Rattle.prune_columns.proofs.put_record.Lts as lts
-use Rattle.record.proofs.id_bits_at.Reads as id-bits-at-reads
 
 pub put-record-spec : {M : Type 1} → statement M
 put-record-spec =

@@ -10,7 +10,6 @@ use Rattle.update_rebuild.proofs.add_all.Tie as tie
 use Rattle.update_rebuild.proofs.add_all.Reads as reads
 use Rattle.update_rebuild.proofs.add_all.Lts as lts
 use Rattle.update_rebuild.proofs.add_tree.Reads as add-tree-reads
-use Rattle.record.proofs.place.Reads as place-reads
 
 abbrev Inv-loop : tie.InvT-loop
 Inv-loop recs n unders firsts starts total q levels slots₀ ids₀ kids₀ j₀ here₀ slots ids kids j here = Onward (arriving (additions recs n unders firsts starts total) (parent q)) (here₀ .next) levels (here₀ .at) (here₀ .count) slots₀ ids₀ kids₀ (arriving-from recs n unders firsts starts total q j) (here .next) (here .at) (here .count) slots ids kids

@@ -11,7 +11,6 @@ use Rattle.update_rebuild.proofs.put_added.Tie as tie
 use Rattle.update_rebuild.proofs.put_added.Reads as reads
 use Rattle.update_rebuild.proofs.put_added.Lts as lts
 use Rattle.record.proofs.low_32.Reads as low-32-reads
-use Rattle.record.proofs.long.Reads as long-reads
 use Rattle.record.proofs.kids_at.Reads as kids-at-reads
 
 abbrev Inv-loop : tie.InvT-loop
