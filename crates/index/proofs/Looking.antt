@@ -1,16 +1,13 @@
 -- A chain finds the lowest slot that has the id or the full name, and the rows' slots are in that order: so the look-ups of the code are
 -- the paper's.
 use mathlib.Core.Path.{_≡_, refl, sym, ap, subst, _∙_}
-use mathlib.Core.Bool.{Bool, true, false, not}
+use mathlib.Core.Bool.{Bool, true, not}
 use mathlib.Core.List.{List, [], _∷_}
 use mathlib.Core.Option.{Option, none, some}
-use Prim.Native.Nat.{ℕ, zero, suc, _+_, _-_, _<_, _≤_}
-use native.Mathlib.Numerals.{add-one, sub-one}
+use Prim.Native.Nat.{ℕ, zero, suc, _-_, _<_, _≤_}
 use native.Mathlib.Omega.{arith}
 use borrow.Author.Tests.{not-true}
 use lib.Dec.{eqb}
-use mir.Syntax.{w64}
-use mir.Val.{Fits}
 use lib.ListN.{getD}
 use Rattle.paper.specs.declared.Kind.{Kind}
 use Rattle.paper.specs.declared.Role.the-variants.{Member}
@@ -20,16 +17,19 @@ use Rattle.paper.specs.Forest.{Forest, mapped}
 use Rattle.paper.specs.Field.{Field}
 use Rattle.paper.specs.Rows.{Row, top, rows, entered, look-id, look-name, look-parent, look-some, parent-of}
 use Rattle.paper.specs.Sound.{names, ids}
+use Rattle.record.specs.declared.Slot.{Slot}
+use Rattle.record.specs.declared.FoundSlot.{FoundSlot}
+use Rattle.record.specs.declared.FoundSlot.the-variants as slots
 use Rattle.record.specs.declared.Found.{Found}
 use Rattle.record.specs.declared.Found.the-variants.{At, Nothing}
-use Rattle.record.specs.Says.{found-row}
+use Rattle.record.specs.Says.{found-row, slot-before}
 use Rattle.laws.proofs.Words.{turned-twice}
 use Rattle.laws.proofs.Finding.{eqb-flip}
 use Rattle.plan.specs.Plan.{Lent, kids-in, planned-field, plan-fields, Plan}
 use Rattle.plan.proofs.Standing.{field-in}
-use Rattle.index_ids.specs.Chain.{pick, lowest-below}
+use Rattle.index_ids.specs.Chain.{Below, lowest-below}
 use Rattle.index_ids.specs.Ids.{id-in, is-id}
-use Rattle.index_ids.proofs.Chains.{below-zero, below-suc}
+use Rattle.index_ids.proofs.Chains.{found-within}
 use Rattle.index_ids.proofs.Repeats.{slot-at, found-below}
 use Rattle.index_names.specs.Walk.{walk, trees-of}
 use Rattle.index_names.specs.Full.{fulls, ups, full-at}
@@ -43,43 +43,28 @@ use Rattle.index_short_names.proofs.Fitting.{left-in}
 use Rattle.index_short_names.proofs.Seeking.{past-is, found-is}
 use Rattle.index_short_names.proofs.Entered as short
 use Rattle.index_short_names.proofs.Entered.{short-rel, dotless, found-in}
-use Rattle.index.specs.Index.{Raised, Falling, at-slot, found-slot, short-slot}
+use Rattle.index.specs.Index.{Raised, Falling, at-slot, found-slot, held, short-slot}
 use Rattle.index.proofs.Rows.{field-id, field-name, plan-is, ids-are, names-are, Rel, none-found, found-at, parent-at, id-rel, full-rel}
 
 -- ---- places
 
-below-most : (p : ℕ → Bool) (b best k : ℕ) → best ≤ b → k ≤ b → lowest-below p best k ≤ b
-below-most p b best zero l q = rw (below-zero p best) l
-below-most p b best (suc k) l q = rw (below-suc p best k) (below-most p b (pick (p k) (suc k) best) k (go (p k)) (omega arith))
-  where
-    go : (t : Bool) → pick t (suc k) best ≤ b
-    go true = q
-    go false = l
+pub up-small : (us : List ℕ) (m k u : ℕ) → Falling m us → k < m → m ≤ 1024 → u ≡ getD us k 0 → (u ≡ 0 → ⊥) → u - 1 < 1024
+up-small us m k u f q w e z = let y = f .falls k q in omega arith
 
-pub place-within : (p : ℕ → Bool) (at m : ℕ) → at ≡ lowest-below p 0 m → at ≤ m
-place-within p at m e = rw e (below-most p m 0 m (omega arith) (omega arith))
+held-before : (at : ℕ) → held (slot-before at) ≡ slot-at at
+unfolding slot-before
+held-before zero = refl
+held-before (suc k) = refl
 
-pub up-small : (us : List ℕ) (m at u : ℕ) → Falling m us → at ≤ m → m ≤ 1024 → (at ≡ 0 → ⊥) → u ≡ getD us (at - 1) 0 → (u ≡ 0 → ⊥) → u - 1 < 1024
-up-small us m at u f q w h e z = let y = f .falls (at - 1) (omega arith) in omega arith
-
-seen-is : (k : ℕ) → seen k ≡ slot-at k
-unfolding seen
-seen-is zero = refl
-seen-is (suc k) = refl
-
--- The place of a slot of an array of ids, as an answer.
-module _ (is : List ℕ) (at : ℕ) where
-  pub nothing-at : at ≡ 0 → Nothing ≡ found-slot is (seen at)
-  unfolding found-slot seen
+-- A slot of an array of ids, as an answer.
+module _ (is : List ℕ) (w : FoundSlot) where
+  pub nothing-at : w ≡ slots.Nothing → Nothing ≡ found-slot is (held w)
+  unfolding found-slot
   nothing-at e = rw e
 
-  pub slot-found : (r : Found) → (at ≡ 0 → ⊥) → r ≡ at-slot (turned (getD is (at - 1) 0)) (at - 1) → r ≡ found-slot is (seen at)
-  unfolding found-slot seen
-  slot-found r h e = go at h e
-    where
-      go : (k : ℕ) → (k ≡ 0 → ⊥) → r ≡ at-slot (turned (getD is (k - 1) 0)) (k - 1) → r ≡ found-slot is (seen k)
-      go zero h e = absurd (h refl)
-      go (suc k) h e = rw (sub-one (suc k)) at e
+  pub slot-found : (s : Slot) (r : Found) → w ≡ slots.At s → r ≡ at-slot (turned (getD is (s .0) 0)) (s .0) → r ≡ found-slot is (held w)
+  unfolding found-slot
+  slot-found s r h e = rw h e
 
 pub at-is : (id slot : ℕ) → id < 4294967296 → At (record { 0 = id }) (record { 0 = slot }) ≡ at-slot (turned id) slot
 at-is id slot l = rw (turned-twice id l)
@@ -112,29 +97,29 @@ module _ (l : Lent) (xs is ks : List ℕ) (m : ℕ) (p : Plan l xs is ks m) wher
 
   -- ---- by id
 
-  module _ (i at : ℕ) (e : at ≡ lowest-below (is-id is i) 0 m) where
-    id-found : Rel fld 0 (ups 0 places) (look-id (plan-fields l xs is ks m) i) (slot-at at)
+  module _ (i : ℕ) (w : FoundSlot) (e : w ≡ slot-before (lowest-below (is-id is i) 0 m)) where
+    id-found : Rel fld 0 (ups 0 places) (look-id (plan-fields l xs is ks m) i) (held w)
     unfolding look-id
     id-found =
-        let q : place-of (λ a. eqb a i) 0 (ids (mapped fld places)) ≡ slot-at at =
-        ap (place-of (λ a. eqb a i) 0) ids-in-order ∙ place-ext (λ a. eqb a i) (eqb i) 0 (from (id-in is) 0 m) (λ a. eqb-flip a i) ∙ sym (found-below (eqb i) (id-in is) m) ∙ ap slot-at (sym e) in
+        let q : place-of (λ a. eqb a i) 0 (ids (mapped fld places)) ≡ held w =
+        ap (place-of (λ a. eqb a i) 0) ids-in-order ∙ place-ext (λ a. eqb a i) (eqb i) 0 (from (id-in is) 0 m) (λ a. eqb-flip a i) ∙ sym (ap held e ∙ held-before _ ∙ found-below (eqb i) (id-in is) m) in
         rw (plan-is l xs is ks m p, ← q) (id-rel fld places (all-numbered (kids-in ks) m) (λ a. eqb a i))
 
-    pub by-id : found-row (look-id (plan-fields l xs is ks m) i) ≡ found-slot is (seen at)
-    by-id = rel-slot id-found ∙ ap (found-slot is) (sym (seen-is at))
+    pub by-id : found-row (look-id (plan-fields l xs is ks m) i) ≡ found-slot is (held w)
+    by-id = rel-slot id-found
 
     -- ---- by parent
 
     module _ (us : List ℕ) (rs : Raised ks m us) where
-      pub no-id : at ≡ 0 → Nothing ≡ found-row (look-parent (plan-fields l xs is ks m) i)
+      pub no-id : w ≡ slots.Nothing → Nothing ≡ found-row (look-parent (plan-fields l xs is ks m) i)
       unfolding look-parent found-row
-      no-id z = go (look-id (plan-fields l xs is ks m) i) (subst (λ w. Rel fld 0 (ups 0 places) (look-id (plan-fields l xs is ks m) i) (slot-at w)) z id-found)
+      no-id z = go (look-id (plan-fields l xs is ks m) i) (subst (λ (v : FoundSlot). Rel fld 0 (ups 0 places) (look-id (plan-fields l xs is ks m) i) (held v)) z id-found)
         where
           go : (O : Option Row) → Rel fld 0 (ups 0 places) O none → Nothing ≡ found-row (look-some (plan-fields l xs is ks m) (parent-of O))
           go none none-found = refl
 
-      parent-is : (k : ℕ) → at ≡ suc k → k < m → parent-of (look-id (plan-fields l xs is ks m) i) ≡ parent-at fld (getD us k 0)
-      parent-is k z q = go (look-id (plan-fields l xs is ks m) i) (slot-at at) id-found (ap slot-at z)
+      parent-is : (k : ℕ) → held w ≡ some k → k < m → parent-of (look-id (plan-fields l xs is ks m) i) ≡ parent-at fld (getD us k 0)
+      parent-is k z q = go (look-id (plan-fields l xs is ks m) i) (held w) id-found z
         where
           go : (O : Option Row) (o : Option ℕ) → Rel fld 0 (ups 0 places) O o → o ≡ some k → parent-of O ≡ parent-at fld (getD us k 0)
           go none none none-found w = absurd (let y : _≡_ {A = ℕ} 0 1 = cc in omega arith)
@@ -142,9 +127,9 @@ module _ (l : Lent) (xs is ks : List ℕ) (m : ℕ) (p : Plan l xs is ks m) wher
               let y : j ≡ k = let x : i ≡ k = cc in omega arith in
               h ∙ rw (y, rs .above k q)
 
-      module _ (u : ℕ) (h : at ≡ 0 → ⊥) (q : at ≤ m) (eu : u ≡ getD us (at - 1) 0) where
+      module _ (u : ℕ) (s : Slot) (h : w ≡ slots.At s) (eu : u ≡ getD us (s .0) 0) where
         parent-at-place : parent-of (look-id (plan-fields l xs is ks m) i) ≡ parent-at fld u
-        parent-at-place = let z : at ≡ suc (at - 1) = omega arith in parent-is (at - 1) z (omega arith) ∙ ap (parent-at fld) (sym eu)
+        parent-at-place = parent-is (s .0) (ap held h) (found-within (is-id is i) m w e s h) ∙ ap (parent-at fld) (sym eu)
 
         pub no-parent : u ≡ 0 → Nothing ≡ found-row (look-parent (plan-fields l xs is ks m) i)
         unfolding look-parent found-row
@@ -165,10 +150,10 @@ module _ (l : Lent) (xs is ks : List ℕ) (m : ℕ) (p : Plan l xs is ks m) wher
     abbrev short-row : Option Row
     short-row = find (λ r. same (r .short) x) (entered [] top (plan-fields l xs is ks m))
 
-    full-found : (at : ℕ) → at ≡ lowest-below (is-full l xs us x) 0 m → Rel fld 0 (ups 0 places) full-row (slot-at at)
-    full-found at e =
-        let q : place-of (λ y. same y x) 0 (names [] (mapped fld places)) ≡ slot-at at =
-        ap (place-of (λ y. same y x) 0) (names-in-order ∙ sym (fulls-are (name-in l xs) (kids-in ks) m us (rs .above))) ∙ sym (found-below (λ y. same y x) (full-at (name-in l xs) us) m) ∙ ap slot-at (sym e) in
+    full-found : (w : FoundSlot) → w ≡ slot-before (lowest-below (is-full l xs us x) 0 m) → Rel fld 0 (ups 0 places) full-row (held w)
+    full-found w e =
+        let q : place-of (λ y. same y x) 0 (names [] (mapped fld places)) ≡ held w =
+        ap (place-of (λ y. same y x) 0) (names-in-order ∙ sym (fulls-are (name-in l xs) (kids-in ks) m us (rs .above))) ∙ sym (ap held e ∙ held-before _ ∙ found-below (λ y. same y x) (full-at (name-in l xs) us) m) in
         rw (plan-is l xs is ks m p, ← q) (full-rel fld places (all-numbered (kids-in ks) m) (λ y. same y x))
 
     rel-first : {vs : List ℕ} {O : Option Row} (k : ℕ) (O′ : Option Row) → Rel fld 0 vs O (some k) → found-row (or-else O O′) ≡ found-slot is (some k)
@@ -188,17 +173,16 @@ module _ (l : Lent) (xs is ks : List ℕ) (m : ℕ) (p : Plan l xs is ks m) wher
         (subst (λ (s : (ℕ → List ℕ) × (ℕ → Kind)). short.Rel fld (find (λ r. same (r .short) x) (entered [] top (mapped fld places))) (seek-in (s .0) (s .1) Member (some x) none places)) parts
         (short-rel fld x places top [] none (all-numbered (kids-in ks) m) short.none-found))
 
-    module _ (at : ℕ) (e : at ≡ lowest-below (is-full l xs us x) 0 m) where
-      pub by-full : (r : Found) → 0 < at → r ≡ found-slot is (seen at) → r ≡ found-row (look-name (plan-fields l xs is ks m) x)
+    module _ (w : FoundSlot) (e : w ≡ slot-before (lowest-below (is-full l xs us x) 0 m)) where
+      pub by-full : (r : Found) (s : Slot) → w ≡ slots.At s → r ≡ found-slot is (held w) → r ≡ found-row (look-name (plan-fields l xs is ks m) x)
       unfolding look-name
-      by-full r h er =
-          let z : at ≡ suc (at - 1) = omega arith in
-          er ∙ ap (found-slot is) (seen-is at ∙ ap slot-at z) ∙ sym (rel-first (at - 1) short-row (subst (λ w. Rel fld 0 (ups 0 places) full-row (slot-at w)) z (full-found at e)))
+      by-full r s h er =
+          er ∙ ap (λ (v : FoundSlot). found-slot is (held v)) h ∙ sym (rel-first (s .0) short-row (subst (λ (v : FoundSlot). Rel fld 0 (ups 0 places) full-row (held v)) h (full-found w e)))
 
-      no-full : at ≤ 0 → full-row ≡ none
-      no-full h = let z : at ≡ 0 = omega arith in rel-none (subst (λ w. Rel fld 0 (ups 0 places) full-row (slot-at w)) z (full-found at e))
+      no-full : w ≡ slots.Nothing → full-row ≡ none
+      no-full h = rel-none (subst (λ (v : FoundSlot). Rel fld 0 (ups 0 places) full-row (held v)) h (full-found w e))
 
-      pub by-short : (r : Found) → at ≤ 0 → r ≡ found-slot is (short-slot l xs ks m x) → r ≡ found-row (look-name (plan-fields l xs is ks m) x)
+      pub by-short : (r : Found) → w ≡ slots.Nothing → r ≡ found-slot is (short-slot l xs ks m x) → r ≡ found-row (look-name (plan-fields l xs is ks m) x)
       unfolding look-name found-row found-slot
       by-short r h er = er ∙ rw (no-full h) (sym (go short-row (short-slot l xs ks m x) short-found))
         where
@@ -206,7 +190,7 @@ module _ (l : Lent) (xs is ks : List ℕ) (m : ℕ) (p : Plan l xs is ks m) wher
           go none none short.none-found = refl
           go (some r) (some k) (short.found-at f g) = rw (f, g, field-id l xs is k)
 
-      pub by-root : at ≤ 0 → (b : Bool) → b ≡ among 46 x → not b ≡ true → Nothing ≡ found-row (look-name (plan-fields l xs is ks m) x)
+      pub by-root : w ≡ slots.Nothing → (b : Bool) → b ≡ among 46 x → not b ≡ true → Nothing ≡ found-row (look-name (plan-fields l xs is ks m) x)
       unfolding found-slot
       by-root h b eb t =
           let none-full : find (λ r. same (r .full) x) (rows top (mapped fld places)) ≡ none = rw (plan-is l xs is ks m p) at (no-full h) in
@@ -222,22 +206,18 @@ module _ (l : Lent) (xs : List ℕ) (kids : ℕ → ℕ) (m : ℕ) (x : List ℕ
   unfolding sighting seen
   walked = rw (left-in x 0 (omega arith)) at ew
 
-  pub short-none : (is : List ℕ) (j : ℕ) → w ≡ sighted.Past j → Nothing ≡ found-slot is (short-in)
+  pub short-none : (is : List ℕ) (j : Slot) → w ≡ sighted.Past j → Nothing ≡ found-slot is (short-in)
   unfolding found-slot
   short-none is j e = rw (past-is (short-in) _ j (sym e ∙ walked) .0)
 
-  module _ (k : ℕ) (e : w ≡ sighted.Found k) where
-    pub short-some : (is : List ℕ) (r : Found) → r ≡ found-slot is (seen (k + 1)) → r ≡ found-slot is (short-in)
-    unfolding seen
-    short-some is r h = h ∙ ap (found-slot is) (ap seen (add-one k) ∙ sym (found-is (short-in) _ k (sym e ∙ walked)))
+  module _ (k : Slot) (e : w ≡ sighted.Found k) where
+    pub short-some : (is : List ℕ) (r : Found) → r ≡ found-slot is (some (k .0)) → r ≡ found-slot is (short-in)
+    short-some is r h = h ∙ ap (found-slot is) (sym (found-is (short-in) _ k (sym e ∙ walked)))
 
-    short-room : k < m
+    short-room : k .0 < m
     short-room =
-        found-in (name-in l xs) (kind-in l xs) m k (trees-of kids m) 0 Member (some x) none (all-numbered kids m) (omega (arith, all-there kids m))
+        found-in (name-in l xs) (kind-in l xs) m (k .0) (trees-of kids m) 0 Member (some x) none (all-numbered kids m) (omega (arith, all-there kids m))
         (λ q. absurd (let z : _≡_ {A = ℕ} 0 1 = cc in omega arith)) (found-is (short-in) _ k (sym e ∙ walked))
 
-    pub short-place : m ≤ 1024 → k + 1 ≤ 1024
-    short-place h = let z = short-room in omega arith
-
-    pub short-fits : m ≤ 1024 → Fits w64 (k + 1)
-    short-fits h = let z = short-room in record { fits = omega arith }
+    pub short-below : m ≤ 1024 → Below (slots.At k)
+    short-below h = let z = short-room in record { small = λ s q. let y : s .0 ≡ k .0 = ap (λ (x : Slot). x .0) (let v : s ≡ k = cc in v) in omega arith }

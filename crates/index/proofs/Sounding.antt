@@ -16,7 +16,8 @@ use Rattle.record.specs.declared.Check.the-variants.{Fine, Refused}
 use Rattle.record.specs.Says.{tested, checked}
 use Rattle.record.proofs.Testing.{tested-fault, chain-goes, chain-stops}
 use Rattle.plan.specs.Plan.{Lent, kids-in, plan-fields, Plan}
-use Rattle.index_ids.specs.Ids.{ids-in, rule-7, rule-9, Indexed}
+use Rattle.index_ids.specs.Ids.{ids-in, rule-7, Indexed}
+use Rattle.index_identifiers.specs.Nine.{rule-9}
 use Rattle.index_names.specs.Walk.{walk, trees-of}
 use Rattle.index_names.specs.Hash.{hash-on, hash-of}
 use Rattle.index_names.specs.Full.{fulls, ups}

@@ -14,6 +14,8 @@ use Rattle.paper.specs.Sound.{sound}
 use Rattle.record.specs.declared.Refusal.{Refusal}
 use Rattle.record.specs.declared.Check.{Check}
 use Rattle.record.specs.declared.Check.the-variants as check
+use Rattle.record.specs.declared.FoundSlot.{FoundSlot}
+use Rattle.record.specs.declared.FoundSlot.the-variants as slots
 use Rattle.record.specs.declared.Found.{Found}
 use Rattle.record.specs.declared.Found.the-variants.{At, Nothing}
 use Rattle.record.specs.Says.{tested, checked, found-row}
@@ -74,6 +76,11 @@ at-slot id k = At (record { 0 = turned id }) (record { 0 = k })
 unfoldable pub found-slot : List ℕ → Option ℕ → Found
 found-slot is none = Nothing
 found-slot is (some k) = at-slot (id-in is k) k
+
+-- The slot that was found.
+abbrev pub held : FoundSlot → Option ℕ
+held slots.Nothing = none
+held (slots.At s) = some (s .0)
 
 -- The look-up of an id, and of the record above one: in whatever plan has these ids, and these places above.
 pub record ById (is : List ℕ) (m id : ℕ) (r : Found) : Type 0 where

@@ -1,21 +1,22 @@
 // index.rs: ids, parents and names of a planned tree, which the base is too. Refusals 7 to 9, and the look-ups.
-use index_ids::check_identifiers;
+use index_identifiers::check_identifiers;
 use index_ids::check_ids;
 use index_ids::clear;
-use index_ids::place;
 use index_names::check_names;
 use index_names::find_full;
 use index_names::mark_row;
 use index_short_names::Sighting;
-use index_short_names::has_dot;
 use index_short_names::seek;
 use paper::Role;
 use plan::take_base;
 use record::Check;
 use record::FieldId;
 use record::Found;
+use record::FoundSlot;
 use record::Slot;
 use record::Sought;
+use record::has_dot;
+use record::place;
 use tree::Shaped;
 use tree::read_tree;
 ghost use mathlib.Core.Path.{_≡_};
@@ -26,11 +27,10 @@ ghost use Rattle.paper.specs.Entries.{find-name, find-id, find-parent};
 ghost use Rattle.paper.specs.Rows.{look-name};
 ghost use Rattle.record.specs.Says.{found-row, looked};
 ghost use Rattle.plan.specs.Plan.{lent, plan-fields, Plan};
-ghost use Rattle.index_ids.specs.Chain.{Chained};
+ghost use Rattle.index_ids.specs.Chain.{Below, Chained};
 ghost use Rattle.index_ids.specs.Ids.{id-bucket, Indexed};
 ghost use Rattle.index_names.specs.Told.{Sources};
-ghost use Rattle.index_short_names.specs.Seek.{seen};
-ghost use Rattle.index.specs.Index.{Rooms, Falling, Index, NamesIndexed, Indexing, at-slot, found-slot, short-slot, ById, ByParent, Opened};
+ghost use Rattle.index.specs.Index.{Rooms, Falling, Index, NamesIndexed, Indexing, at-slot, found-slot, held, short-slot, ById, ByParent, Opened};
 
 // Refusal 7, and the index of ids.
 fn index_ids(
@@ -155,15 +155,16 @@ fn found_at(id: u32, slot: usize) -> Found
     Found::At(FieldId(id), Slot(slot))
 }
 
-// The slot before a place, with its id; nothing at place 0.
-fn found_place(ids: &[u32; 1024], at: usize) -> Found
-    requires { ⌜ at ≤ 1024 ⌝ }
-    ensures { λ r. ⌜ r ≡ found-slot (now (ids .entry)) (seen at) ⌝ }
+// A slot that was found, with its id.
+fn with_id(ids: &[u32; 1024], found: FoundSlot) -> Found
+    requires { ⌜ Below found ⌝ }
+    ensures { λ r. ⌜ r ≡ found-slot (now (ids .entry)) (held found) ⌝ }
 {
-    if at == 0 {
+    let FoundSlot::At(slot) = found else {
         return Found::Nothing;
-    }
-    found_at(ids[at - 1], at - 1)
+    };
+    let k = slot.0;
+    found_at(ids[k], k)
 }
 
 // The record that has the id.
@@ -178,7 +179,7 @@ pub fn look_id(
     ensures { λ r. ⌜ ById (now (ids .entry)) m (id .0) r ⌝ }
 {
     let want = id.0;
-    found_place(ids, index_ids::find_id(ids, id_heads, id_next, m, want))
+    with_id(ids, index_ids::find_id(ids, id_heads, id_next, m, want))
 }
 
 // The record above the one that has the id.
@@ -194,11 +195,12 @@ pub fn look_parent(
     ensures { λ r. ⌜ ByParent (now (ids .entry)) (now (ups .entry)) m (id .0) r ⌝ }
 {
     let want = id.0;
-    let at = index_ids::find_id(ids, id_heads, id_next, m, want);
-    if at == 0 {
+    let found = index_ids::find_id(ids, id_heads, id_next, m, want);
+    let FoundSlot::At(slot) = found else {
         return Found::Nothing;
-    }
-    let up = place(ups[at - 1]);
+    };
+    let k = slot.0;
+    let up = place(ups[k]);
     if up == 0 {
         return Found::Nothing;
     }
@@ -236,10 +238,10 @@ fn look_short<'a>(
         0,
         0,
     );
-    let Sighting::Found(k) = short else {
+    let Sighting::Found(slot) = short else {
         return Found::Nothing;
     };
-    found_place(ids, k + 1)
+    with_id(ids, FoundSlot::At(slot))
 }
 
 // The record that has the full name; else the first entered that has the short name, which has a dot where it is no full name.
@@ -264,7 +266,7 @@ pub fn look_name<'a>(
     requires { ⌜ Plan (lent (now pool) (now base) (now request) (now added)) (now slots) (now ids) (now kids) m × Index (lent (now pool) (now base) (now request) (now added)) (now slots) (now ids) (now kids) m (now «id_heads») (now «id_next») (now ups) (now lens) (now hashes) (now «name_heads») (now «name_next») ⌝ }
     ensures { λ r. ⌜ r ≡ found-row (look-name (plan-fields (lent (now (pool .entry)) (now (base .entry)) (now (request .entry)) (now (added .entry))) (now (slots .entry)) (now (ids .entry)) (now (kids .entry)) m) (now (name .entry))) ⌝ }
 {
-    let at = find_full(
+    let full = find_full(
         pool,
         base,
         request,
@@ -278,8 +280,8 @@ pub fn look_name<'a>(
         name_next,
         name,
     );
-    if 0 < at {
-        return found_place(ids, at);
+    if let FoundSlot::At(_) = full {
+        return with_id(ids, full);
     }
     if !has_dot(name) {
         return Found::Nothing;

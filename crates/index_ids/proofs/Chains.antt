@@ -10,7 +10,12 @@ use borrow.Author.Tests.{eqb-true, eqb-false, eq-eqb, ne-eqb}
 use lib.Dec.{eqb}
 use lib.ListN.{length, getD, set, length-set}
 use lib.Seq.{getD-set-same, getD-set-other}
-use Rattle.index_ids.specs.Chain.{last, pick, lowest-below, Chained, Cleared, Entered}
+use Rattle.record.specs.declared.Slot.{Slot}
+use Rattle.record.specs.declared.FoundSlot.{FoundSlot}
+use Rattle.record.specs.declared.FoundSlot.the-variants.{At}
+use Rattle.record.specs.Says.{slot-before}
+use Rattle.record.proofs.Slots.{the-slot}
+use Rattle.index_ids.specs.Chain.{last, pick, lowest-below, Below, Chained, Cleared, Entered}
 
 pub eqb-cases : (a b : ℕ) → (a ≡ b) ⊎ (a ≡ b → ⊥)
 eqb-cases a b = go (eqb a b) refl
@@ -68,6 +73,23 @@ module _ (p : ℕ → Bool) where
     pub skip : (best k : ℕ) → lowest-below p best k ≡ lowest-below p best (last bucket b k)
     skip best zero = rw (last-zero bucket b)
     skip best (suc k) = ⊎-elim (λ e. rw (last-in bucket b k e)) (λ e. rw (last-out bucket b k e, below-not best k (never k e)) (skip best k)) (eqb-cases (bucket k) b)
+
+-- ---- what a search finds is a slot of those searched
+
+below-most : (p : ℕ → Bool) (b best k : ℕ) → best ≤ b → k ≤ b → lowest-below p best k ≤ b
+below-most p b best zero l q = rw (below-zero p best) l
+below-most p b best (suc k) l q = rw (below-suc p best k) (below-most p b (pick (p k) (suc k) best) k (go (p k)) (omega arith))
+  where
+    go : (t : Bool) → pick t (suc k) best ≤ b
+    go true = q
+    go false = l
+
+module _ (p : ℕ → Bool) (k : ℕ) (w : FoundSlot) (e : w ≡ slot-before (lowest-below p 0 k)) where
+  pub found-within : (s : Slot) → w ≡ At s → s .0 < k
+  found-within s q = let z = the-slot (lowest-below p 0 k) w s e q in let y = below-most p k 0 k (omega arith) (omega arith) in omega arith
+
+  pub found-below-room : k ≤ 1024 → Below w
+  found-below-room l = record { small = λ s q. let z = found-within s q in omega arith }
 
 -- What is left of a search: the slots below the place `at`, which is of the bucket b, or 0. W is the whole answer.
 pub record Left (bucket : ℕ → ℕ) (p : ℕ → Bool) (b k W best at : ℕ) : Type 0 where

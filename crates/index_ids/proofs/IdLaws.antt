@@ -3,24 +3,26 @@ use mathlib.Core.Path.{_≡_, refl, sym, ap, _∙_}
 use mathlib.Core.Logic.{_⊎_, inl, inr}
 use mathlib.Core.Bool.{Bool, true, false, not}
 use mathlib.Core.List.{List}
-use mathlib.Core.Option.{none}
-use Prim.Native.Nat.{ℕ, _+_, _-_, _*_, _/_, _%_, _<_, _≤_}
+use Prim.Native.Nat.{ℕ, suc, _+_, _-_, _*_, _/_, _%_, _<_, _≤_}
 use native.Mathlib.Omega.{arith}
 use borrow.Author.Tests.{eqb-true, eq-eqb, ne-eqb}
 use lib.Dec.{eqb}
 use lib.ListN.{length, getD, set, length-set}
 use lib.Seq.{getD-set-same, getD-set-other}
-use Rattle.paper.specs.Answer.{among, lowest}
-use Rattle.paper.specs.Bytes.{turned, word32}
-use Rattle.paper.specs.Lists.{id-at, id-list}
+use Rattle.paper.specs.Answer.{lowest}
+use Rattle.paper.specs.Bytes.{turned}
 use Rattle.laws.proofs.Words.{turned-twice}
+use Rattle.record.specs.declared.Slot.{Slot}
+use Rattle.record.specs.declared.FoundSlot.{FoundSlot}
+use Rattle.record.specs.declared.FoundSlot.the-variants.{At, Nothing}
 use Rattle.record.specs.declared.Check.the-variants.{Fine, Refused}
-use Rattle.record.specs.Says.{tested, refusal-of}
+use Rattle.record.specs.Says.{tested, refusal-of, slot-before}
+use Rattle.record.proofs.Slots.{no-slot, the-slot}
 use Rattle.record.proofs.Lowest.{look-starts, look-goes, look-stops, look-ends}
 use Rattle.index_ids.specs.Chain.{pick, lowest-below, Chained, Cleared, Entered}
-use Rattle.index_ids.specs.Ids.{bucket-of, id-in, id-bucket, is-id, new-id, ids-in, rule-7, rule-9, Indexed}
+use Rattle.index_ids.specs.Ids.{bucket-of, id-in, id-bucket, is-id, new-id, rule-7, Indexed}
 use Rattle.index_ids.proofs.Chains.{Left, eqb-cases, chain-starts, chain-goes, chain-falls, chain-ends, chain-enters, chain-fresh}
-use Rattle.index_ids.proofs.Repeats.{repeats, any-found, place-lowest}
+use Rattle.index_ids.proofs.Repeats.{repeats}
 
 -- ---- clearing
 
@@ -85,13 +87,17 @@ module _ (is heads next : List ℕ) (k id b : ℕ) (eb : b ≡ bucket-of (turned
   pub id-falls : (W best at at′ : ℕ) → Left (id-bucket is) (is-id is (turned id)) b k W best at → 0 < at → at′ ≡ getD next (at - 1) 0 → at′ < at
   id-falls = chain-falls (id-bucket is) (is-id is (turned id)) b k only heads next ch
 
-  pub id-ends : (W best at : ℕ) → Left (id-bucket is) (is-id is (turned id)) b k W best at → at ≤ 0 → best ≡ W
-  id-ends = chain-ends (id-bucket is) (is-id is (turned id)) b k only heads next ch
+  pub id-ends : (W best at : ℕ) (w : FoundSlot) → Left (id-bucket is) (is-id is (turned id)) b k W best at → at ≤ 0 → w ≡ slot-before best → w ≡ slot-before W
+  id-ends W best at w h l e = e ∙ ap slot-before (chain-ends (id-bucket is) (is-id is (turned id)) b k only heads next ch W best at h l)
 
-pub id-new : (is : List ℕ) (k id r : ℕ) → turned id ≡ id-in is k → r ≡ lowest-below (is-id is (turned id)) 0 k → eqb r 0 ≡ new-id is k
-id-new is k id r e h = rw (h, e)
+module _ (is : List ℕ) (k id : ℕ) (w : FoundSlot) (e : turned id ≡ id-in is k) (h : w ≡ slot-before (lowest-below (is-id is (turned id)) 0 k)) where
+  pub id-new : w ≡ Nothing → true ≡ new-id is k
+  id-new q = let z = no-slot (lowest-below (is-id is (turned id)) 0 k) w h q in rw (rw e at z)
 
-pub ruleset ids = (same-is, better-is, better-not, bucket-is, id-starts, id-goes, id-falls, id-ends, id-new)
+  pub id-old : (s : Slot) → w ≡ At s → false ≡ new-id is k
+  id-old s q = let z = the-slot (lowest-below (is-id is (turned id)) 0 k) w s h q in rw (rw e at z, ne-eqb (suc (s .0)) 0 (λ y. omega arith))
+
+pub ruleset ids = (same-is, better-is, better-not, bucket-is, id-starts, id-goes, id-falls, id-ends, id-new, id-old)
 
 -- ---- 7
 
@@ -130,41 +136,3 @@ checking-ends is m list heads next k h l =
     record { answer = look-ends (new-id is) 7 list (lowest (new-id is) 0 m) k m (h .whole) l ∙ sym (all-new list is m); index = λ z. rw e at (h .index) }
 
 pub ruleset checking = (checking-starts, checking-goes, checking-stops, checking-ends)
-
--- ---- 9
-
-unfoldable pub there : (s is : List ℕ) (m : ℕ) → ℕ → Bool
-there s is m i = among (id-at s i) (ids-in is m)
-
-pub nine-is : (s is : List ℕ) (m : ℕ) → rule-9 s is m ≡ tested 9 5 (lowest (there s is m) 0 (length s / 4))
-unfolding rule-9 id-list there
-nine-is s is m = ap (tested 9 5) (place-lowest (λ i. among i (ids-in is m)) (id-at s) 0 (length s / 4))
-
-pub there-is : (s is : List ℕ) (m i id r : ℕ) → id ≡ word32 s (i * 4) → r ≡ lowest-below (is-id is (turned id)) 0 m → not (eqb r 0) ≡ there s is m i
-unfolding there
-there-is s is m i id r ei e = sym (any-found (eqb (id-at s i)) (id-in is) m r (rw ei at e))
-
--- What holds at the loop's head: n identifiers, of which i were found.
-pub record Naming (s is : List ℕ) (m n i : ℕ) : Type 0 where
-  pub count : n ≡ length s / 4
-  pub small : i ≤ n
-  pub whole : lowest (there s is m) 0 n ≡ lowest (there s is m) i (n - i)
-
-pub nine-starts : (s is : List ℕ) (m : ℕ) → Naming s is m (length s / 4) 0
-nine-starts s is m = record { count = refl; small = omega arith; whole = look-starts (there s is m) (length s / 4) }
-
-module _ (s is : List ℕ) (m n i : ℕ) (h : Naming s is m n i) where
-  pub nine-room : length s ≤ 256 → i < n → i * 4 + 4 ≤ length s
-  nine-room l q = let z = h .count in omega arith
-
-  module _ (id r : ℕ) (l : i < n) (ei : id ≡ word32 s (i * 4)) (er : r ≡ lowest-below (is-id is (turned id)) 0 m) where
-    pub nine-goes : (r ≡ 0 → ⊥) → Naming s is m n (i + 1)
-    nine-goes q = record { count = h .count; small = omega arith; whole = look-goes (there s is m) (lowest (there s is m) 0 n) i n (not (eqb r 0)) (h .whole) l (there-is s is m i id r ei er) (rw (ne-eqb r 0 q)) }
-
-    pub nine-stops : r ≡ 0 → Refused (refusal-of 9 5 i) ≡ rule-9 s is m
-    nine-stops q = look-stops (there s is m) 9 5 (lowest (there s is m) 0 n) i n (not (eqb r 0)) (h .whole) l (there-is s is m i id r ei er) (rw q) ∙ sym (nine-is s is m ∙ rw (← (h .count)))
-
-  pub nine-ends : n ≤ i → Fine ≡ rule-9 s is m
-  nine-ends l = look-ends (there s is m) 9 5 (lowest (there s is m) 0 n) i n (h .whole) l ∙ sym (nine-is s is m ∙ rw (← (h .count)))
-
-pub ruleset nine = (nine-starts, nine-room, nine-goes, nine-stops, nine-ends)

@@ -5,6 +5,9 @@ use mathlib.Core.Bool.{Bool, true, false}
 use mathlib.Core.List.{List}
 use lib.Dec.{eqb}
 use lib.ListN.{length, getD, set}
+use Rattle.record.specs.declared.Slot.{Slot}
+use Rattle.record.specs.declared.FoundSlot.{FoundSlot}
+use Rattle.record.specs.declared.FoundSlot.the-variants.{At}
 
 -- The place of the largest slot below k that falls in the bucket b.
 unfoldable pub last : (ℕ → ℕ) → ℕ → ℕ → ℕ
@@ -23,6 +26,10 @@ lowest-below p best (suc k) = lowest-below p (pick (p k) (suc k) best) k
 -- Whether no slot below k is the same as k.
 abbrev pub new-at : (ℕ → ℕ → Bool) → ℕ → Bool
 new-at same k = eqb (lowest-below (same k) 0 k) 0
+
+-- A slot that was found is one of an array's.
+pub record Below (w : FoundSlot) : Type 0 where
+  pub small : (s : Slot) → w ≡ At s → s .0 < 1024
 
 -- The slots below k stand in their chains.
 pub record Chained (bucket : ℕ → ℕ) (heads next : List ℕ) (k : ℕ) : Type 0 where

@@ -1,13 +1,12 @@
--- Ids in chains: refusals 7 and 9. An array holds the 32 bits of each slot's id.
+-- Ids in chains: refusal 7. An array holds the 32 bits of each slot's id.
 use Prim.Native.Nat.{ℕ, _*_, _/_, _%_}
 use mathlib.Core.Path.{_≡_}
-use mathlib.Core.Bool.{Bool, not}
+use mathlib.Core.Bool.{Bool}
 use mathlib.Core.List.{List, []}
 use lib.Dec.{eqb}
 use lib.ListN.{getD}
-use Rattle.paper.specs.Answer.{among, place-of, repeated}
+use Rattle.paper.specs.Answer.{repeated}
 use Rattle.paper.specs.Bytes.{turned, from}
-use Rattle.paper.specs.Lists.{id-list}
 use Rattle.record.specs.declared.Check.{Check}
 use Rattle.record.specs.declared.Check.the-variants.{Fine}
 use Rattle.record.specs.Says.{tested}
@@ -37,10 +36,6 @@ ids-in is m = from (id-in is) 0 m
 -- refusal 7: an id equals an earlier one
 unfoldable pub rule-7 : ℕ → List ℕ → ℕ → Check
 rule-7 list is m = tested 7 list (repeated eqb [] 0 (ids-in is m))
-
--- refusal 9: an identifier id is not in the tree
-unfoldable pub rule-9 : (identifiers is : List ℕ) (m : ℕ) → Check
-rule-9 identifiers is m = tested 9 5 (place-of (λ i. not (among i (ids-in is m))) 0 (id-list identifiers))
 
 -- The answer to 7, and the index that is left where there is no fault.
 pub record Indexed (is : List ℕ) (m list : ℕ) (r : Check) (heads next : List ℕ) : Type 0 where

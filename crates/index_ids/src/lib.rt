@@ -1,21 +1,17 @@
-// Slots in chains, one chain for each bucket. An index of ids: refusals 7 and 9, and the search for an id.
+// Slots in chains, one chain for each bucket. An index of ids: refusal 7, and the search for an id.
 use record::Check;
+use record::FoundSlot;
 use record::Refusal;
-use record::le32;
+use record::place;
+use record::slot_before;
 ghost use mathlib.Core.Path.{_≡_};
 ghost use lib.Dec.{eqb};
 ghost use Prim.Native.Nat.{_-_, _≤_, _<_};
 ghost use lib.ListN.{length};
 ghost use Rattle.paper.specs.Bytes.{turned};
+ghost use Rattle.record.specs.Says.{slot-before};
 ghost use Rattle.index_ids.specs.Chain.{pick, lowest-below, Chained, Entered, Cleared};
-ghost use Rattle.index_ids.specs.Ids.{bucket-of, id-in, id-bucket, is-id, new-id, rule-9, Indexed};
-
-// A place is one more than a slot, or 0 for none.
-pub fn place(x: u16) -> usize
-    ensures { λ r. ⌜ r ≡ x ⌝ }
-{
-    x as usize
-}
+ghost use Rattle.index_ids.specs.Ids.{bucket-of, id-in, id-bucket, is-id, new-id, Indexed};
 
 // The bucket of a key: ten bits from the middle of a product, so that ids in a row fall apart.
 pub fn bucket_of(key: u32) -> usize
@@ -63,16 +59,16 @@ fn better(ids: &[u32; 1024], id: u32, at: usize, best: usize) -> usize
     best
 }
 
-// The place of the lowest slot below k that has the id.
+// The lowest slot below k that has the id.
 pub fn find_id(
     ids: &[u32; 1024],
     heads: &[u16; 1024],
     next: &[u16; 1024],
     k: usize,
     id: u32,
-) -> usize
+) -> FoundSlot
     requires { ⌜ (k ≤ 1024) × Chained (id-bucket (now ids)) (now heads) (now next) k ⌝ }
-    ensures { λ r. ⌜ r ≡ lowest-below (is-id (now (ids .entry)) (turned id)) 0 k ⌝ }
+    ensures { λ r. ⌜ r ≡ slot-before (lowest-below (is-id (now (ids .entry)) (turned id)) 0 k) ⌝ }
 {
     let b = bucket_of(id);
     let mut best = 0;
@@ -81,14 +77,19 @@ pub fn find_id(
         best = better(ids, id, at, best);
         at = place(next[at - 1]);
     }
-    best
+    slot_before(best)
 }
 
+// Whether no slot below k has the id of k.
 fn is_new(ids: &[u32; 1024], heads: &[u16; 1024], next: &[u16; 1024], k: usize, id: u32) -> bool
     requires { ⌜ (k < 1024) × ((turned id ≡ id-in (now ids) k) × Chained (id-bucket (now ids)) (now heads) (now next) k) ⌝ }
     ensures { λ r. ⌜ r ≡ new-id (now (ids .entry)) k ⌝ }
 {
-    find_id(ids, heads, next, k, id) == 0
+    let found = find_id(ids, heads, next, k, id);
+    let FoundSlot::At(_) = found else {
+        return true;
+    };
+    false
 }
 
 // Refusal 7 over m slots. Where there is none, the index is left. The heads stand cleared at first.
@@ -114,33 +115,6 @@ pub fn check_ids(
         }
         enter(heads, next, bucket_of(id), k);
         k += 1;
-    }
-    Check::Fine
-}
-
-// Refusal 9: the lowest identifier that is not in the tree.
-pub fn check_identifiers(
-    identifiers: &[u8],
-    ids: &[u32; 1024],
-    m: usize,
-    heads: &[u16; 1024],
-    next: &[u16; 1024],
-) -> Check
-    requires { ⌜ (length (now identifiers) ≤ 256) × ((m ≤ 1024) × Chained (id-bucket (now ids)) (now heads) (now next) m) ⌝ }
-    ensures { λ r. ⌜ r ≡ rule-9 (now (identifiers .entry)) (now (ids .entry)) m ⌝ }
-{
-    let n = identifiers.len() / 4;
-    let mut i = 0;
-    while i < n {
-        let id = le32(identifiers, i * 4);
-        if find_id(ids, heads, next, m, id) == 0 {
-            return Check::Refused(Refusal {
-                number: 9,
-                list: 5,
-                place: i as u32,
-            });
-        }
-        i += 1;
     }
     Check::Fine
 }

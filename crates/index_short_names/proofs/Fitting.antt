@@ -141,11 +141,11 @@ unfolding seen
 either-a zero b e = absurd (e refl)
 either-a (suc a) b e = refl
 
-pub ended-past : (a n : ℕ) → a ≡ 0 → Past n ≡ outcome (seen a) n
+pub ended-past : (a n : ℕ) → a ≡ 0 → Past (record { 0 = n }) ≡ outcome (seen a) n
 unfolding seen outcome
 ended-past a n e = rw e
 
-pub ended-found : (a n : ℕ) → (a ≡ 0 → ⊥) → Found (a - 1) ≡ outcome (seen a) n
+pub ended-found : (a n : ℕ) → (a ≡ 0 → ⊥) → Found (record { 0 = a - 1 }) ≡ outcome (seen a) n
 unfolding seen outcome
 ended-found zero n e = absurd (e refl)
 ended-found (suc a) n e = rw (sub-one (suc a))

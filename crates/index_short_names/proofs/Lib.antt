@@ -2,4 +2,3 @@ pub mod Fitting
 pub mod Nexts
 pub mod Seeking
 pub mod Entered
-pub mod Dotted

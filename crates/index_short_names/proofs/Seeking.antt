@@ -20,20 +20,21 @@ use Rattle.laws.proofs.Basics.{or-else-none}
 use Rattle.index_ids.specs.Chain.{pick}
 use Rattle.index_names.specs.Walk.{walk}
 use Rattle.index_names.proofs.Walks.{walk-none, walk-deep, walk-past, walk-in}
+use Rattle.record.specs.declared.Slot.{Slot}
 use Rattle.index_short_names.specs.declared.Sighting.{Sighting}
 use Rattle.index_short_names.specs.declared.Sighting.the-variants.{Found, Past}
 use Rattle.index_short_names.specs.Seek.{left-at, inside, fits, own, seek-in, seen, outcome, sighting}
 use Rattle.index_short_names.proofs.Fitting.{own-is, left-out}
 
-pub past-is : (o : Option ℕ) (m j : ℕ) → Past j ≡ outcome o m → (o ≡ none) × (j ≡ m)
+pub past-is : (o : Option ℕ) (m : ℕ) (j : Slot) → Past j ≡ outcome o m → (o ≡ none) × (j .0 ≡ m)
 unfolding outcome
-past-is none m j e = (refl, cc)
+past-is none m j e = let z : j ≡ record { 0 = m } = cc in (refl, ap (λ (x : Slot). x .0) z)
 past-is (some k) m j e = absurd (let z : _≡_ {A = ℕ} 0 1 = cc in omega arith)
 
-pub found-is : (o : Option ℕ) (m j : ℕ) → Found j ≡ outcome o m → o ≡ some j
+pub found-is : (o : Option ℕ) (m : ℕ) (j : Slot) → Found j ≡ outcome o m → o ≡ some (j .0)
 unfolding outcome
 found-is none m j e = absurd (let z : _≡_ {A = ℕ} 0 1 = cc in omega arith)
-found-is (some k) m j e = let z : k ≡ j = cc in ap some z
+found-is (some k) m j e = let z : j ≡ record { 0 = k } = cc in ap some (sym (ap (λ (x : Slot). x .0) z))
 
 module _ (name : ℕ → List ℕ) (kind : ℕ → Kind) where
   -- with nothing left to look for, only what waits is found
@@ -108,23 +109,23 @@ module _ (name : ℕ → List ℕ) (kind : ℕ → Kind) (kids : ℕ → ℕ) (x
     mine : seen me ≡ own (left-at x pos) (name k) k
     mine = ap seen eme ∙ own-is nm x pos f pin ef k ∙ ap (λ z. own (left-at x pos) z k) enm
 
-    passed : (j : ℕ) → w ≡ Past j → (inner name kind role (left-at x pos) (seen wait) k (inside-part .trees) (rest .trees) ≡ none) × (j ≡ inside-part .next)
+    passed : (j : Slot) → w ≡ Past j → (inner name kind role (left-at x pos) (seen wait) k (inside-part .trees) (rest .trees) ≡ none) × (j .0 ≡ inside-part .next)
     unfolding sighting seen outcome
     passed j e = let z = past-is _ _ j (sym e ∙ ew) in (inner-is ∙ z .0, z .1)
 
-    seek-found : (j : ℕ) → w ≡ Found j → Found j ≡ sighting name kind role (left-at x pos) (seen wait) (walk kids n lv c k)
+    seek-found : (j : Slot) → w ≡ Found j → Found j ≡ sighting name kind role (left-at x pos) (seen wait) (walk kids n lv c k)
     unfolding sighting seen outcome
     seek-found j e =
         let z = found-is _ _ j (sym e ∙ ew) in
-        rw (whole, node-found name kind role (left-at x pos) (seen wait) k (inside-part .trees) (rest .trees) j (inner-is ∙ z))
+        rw (whole, node-found name kind role (left-at x pos) (seen wait) k (inside-part .trees) (rest .trees) (j .0) (inner-is ∙ z))
 
-    seek-waits : (j e : ℕ) (nr : Role) → w ≡ Past j → late role ≡ true → nr ≡ after role → seen e ≡ or-else (seen wait) (seen me) → sighting name kind nr (left-at x pos) (seen e) (walk kids n lv (c - 1) j) ≡ sighting name kind role (left-at x pos) (seen wait) (walk kids n lv c k)
+    seek-waits : (j : Slot) (e : ℕ) (nr : Role) → w ≡ Past j → late role ≡ true → nr ≡ after role → seen e ≡ or-else (seen wait) (seen me) → sighting name kind nr (left-at x pos) (seen e) (walk kids n lv (c - 1) (j .0)) ≡ sighting name kind role (left-at x pos) (seen wait) (walk kids n lv c k)
     unfolding sighting seen outcome
     seek-waits j e nr q t en ee =
         let z = passed j q in
         rw (z .1, en, ee, mine) (sym (rw (whole, node-waits name kind role (left-at x pos) (seen wait) k (inside-part .trees) (rest .trees) (z .0) t)))
 
-    seek-own : (j : ℕ) → w ≡ Past j → late role ≡ false → 0 < me → Found k ≡ sighting name kind role (left-at x pos) (seen wait) (walk kids n lv c k)
+    seek-own : (j : Slot) → w ≡ Past j → late role ≡ false → 0 < me → Found (record { 0 = k }) ≡ sighting name kind role (left-at x pos) (seen wait) (walk kids n lv c k)
     unfolding sighting seen outcome
     seek-own j q t p =
         let z = passed j q in
@@ -137,7 +138,7 @@ module _ (name : ℕ → List ℕ) (kind : ℕ → Kind) (kids : ℕ → ℕ) (x
         yes : seen me ≡ some k
         yes = go (eqb f 1) eme
 
-    seek-on : (j : ℕ) (nr : Role) → w ≡ Past j → late role ≡ false → me ≤ 0 → nr ≡ after role → sighting name kind nr (left-at x pos) (seen wait) (walk kids n lv (c - 1) j) ≡ sighting name kind role (left-at x pos) (seen wait) (walk kids n lv c k)
+    seek-on : (j : Slot) (nr : Role) → w ≡ Past j → late role ≡ false → me ≤ 0 → nr ≡ after role → sighting name kind nr (left-at x pos) (seen wait) (walk kids n lv (c - 1) (j .0)) ≡ sighting name kind role (left-at x pos) (seen wait) (walk kids n lv c k)
     unfolding sighting seen outcome
     seek-on j nr q t p en =
         let z = passed j q in
@@ -146,19 +147,19 @@ module _ (name : ℕ → List ℕ) (kind : ℕ → Kind) (kids : ℕ → ℕ) (x
 
     -- as the loop over the siblings asks them; W is the whole answer, b whether the record waits
     module _ (W : Sighting) (eW : W ≡ sighting name kind role (left-at x pos) (seen wait) (walk kids n lv c k)) where
-      pub turn-found : (j : ℕ) → w ≡ Found j → Found j ≡ W
+      pub turn-found : (j : Slot) → w ≡ Found j → Found j ≡ W
       turn-found j e = seek-found j e ∙ sym eW
 
-      pub turn-own : (j : ℕ) (b t : Bool) → w ≡ Past j → b ≡ late role → t ≡ (not b && ltb 0 me) → t ≡ true → Found k ≡ W
+      pub turn-own : (j : Slot) (b t : Bool) → w ≡ Past j → b ≡ late role → t ≡ (not b && ltb 0 me) → t ≡ true → Found (record { 0 = k }) ≡ W
       turn-own j b t e eb et q = go b eb (sym et ∙ q)
         where
-          go : (b : Bool) → b ≡ late role → (not b && ltb 0 me) ≡ true → Found k ≡ W
+          go : (b : Bool) → b ≡ late role → (not b && ltb 0 me) ≡ true → Found (record { 0 = k }) ≡ W
           go true f h = absurd (let z : _≡_ {A = ℕ} 0 1 = cc in omega arith)
           go false f h = seek-own j e (sym f) (ltb-true 0 me h) ∙ sym eW
 
-      pub turn-on : (j v : ℕ) (nr : Role) (b t : Bool) → w ≡ Past j → b ≡ late role → t ≡ (not b && ltb 0 me) → t ≡ false → seen v ≡ cond b (or-else (seen wait) (seen me)) (seen wait) → nr ≡ after role → W ≡ sighting name kind nr (left-at x pos) (seen v) (walk kids n lv (c - 1) j)
+      pub turn-on : (j : Slot) (v : ℕ) (nr : Role) (b t : Bool) → w ≡ Past j → b ≡ late role → t ≡ (not b && ltb 0 me) → t ≡ false → seen v ≡ cond b (or-else (seen wait) (seen me)) (seen wait) → nr ≡ after role → W ≡ sighting name kind nr (left-at x pos) (seen v) (walk kids n lv (c - 1) (j .0))
       turn-on j v nr b t e eb et q ev en = go b eb (sym et ∙ q) ev
         where
-          go : (b : Bool) → b ≡ late role → (not b && ltb 0 me) ≡ false → seen v ≡ cond b (or-else (seen wait) (seen me)) (seen wait) → W ≡ sighting name kind nr (left-at x pos) (seen v) (walk kids n lv (c - 1) j)
+          go : (b : Bool) → b ≡ late role → (not b && ltb 0 me) ≡ false → seen v ≡ cond b (or-else (seen wait) (seen me)) (seen wait) → W ≡ sighting name kind nr (left-at x pos) (seen v) (walk kids n lv (c - 1) (j .0))
           go true f h y = eW ∙ sym (seek-waits j v nr e (sym f) en y)
-          go false f h y = eW ∙ sym (ap (λ o. sighting name kind nr (left-at x pos) o (walk kids n lv (c - 1) j)) y ∙ seek-on j nr e (sym f) (ltb-false 0 me h) en)
+          go false f h y = eW ∙ sym (ap (λ o. sighting name kind nr (left-at x pos) o (walk kids n lv (c - 1) (j .0))) y ∙ seek-on j nr e (sym f) (ltb-false 0 me h) en)

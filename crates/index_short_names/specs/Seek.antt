@@ -60,8 +60,8 @@ seen zero = none
 seen (suc k) = some k
 
 unfoldable pub outcome : Option ℕ → ℕ → Sighting
-outcome none next = Past next
-outcome (some k) next = Found k
+outcome none next = Past (record { 0 = next })
+outcome (some k) next = Found (record { 0 = k })
 
 -- What a walk over a row answers: the slot that it finds, or where the row ends.
 unfoldable pub sighting : (ℕ → List ℕ) → (ℕ → Kind) → Role → Option (List ℕ) → Option ℕ → Part → Sighting

@@ -6,12 +6,14 @@ use paper::first_role;
 use paper::is_struct;
 use paper::next_role;
 use plan::planned_kind;
+use record::Slot;
+use record::count_of;
 ghost use mathlib.Core.Path.{_≡_};
 ghost use mathlib.Core.Bool.{not, _&&_, cond};
 ghost use Prim.Native.Nat.{_+_, _≤_, _<_};
 ghost use lib.Dec.{eqb, ltb};
 ghost use lib.ListN.{length, drop};
-ghost use Rattle.paper.specs.Answer.{among, or-else};
+ghost use Rattle.paper.specs.Answer.{or-else};
 ghost use Rattle.paper.specs.Rows.{skipped, late};
 ghost use Rattle.plan.specs.Plan.{lent, kids-in};
 ghost use Rattle.index_ids.specs.Chain.{pick};
@@ -21,28 +23,8 @@ ghost use Rattle.index_short_names.specs.Seek.{left-at, fits, inside, se
 
 // A slot that was found, or the slot behind a row in which there is none.
 pub enum Sighting {
-    Found(usize),
-    Past(usize),
-}
-
-// Whether a name has a dot. One without is no short name of a record below a root.
-pub fn has_dot(name: &[u8]) -> bool
-    ensures { λ r. ⌜ r ≡ among 46 (now (name .entry)) ⌝ }
-{
-    let mut i = 0;
-    while i < name.len() {
-        if name[i] == 46 {
-            return true;
-        }
-        i += 1;
-    }
-    false
-}
-
-fn wide(x: u16) -> u32
-    ensures { λ r. ⌜ r ≡ x ⌝ }
-{
-    x as u32
+    Found(Slot),
+    Past(Slot),
 }
 
 // Where a row ends. A loop over the siblings, so the stack holds a frame for each level only.
@@ -59,7 +41,7 @@ pub fn row_next(kids: &[u16; 1024], m: usize, slot: usize, count: u32, levels: u
         if m <= at {
             return at;
         }
-        let inner = wide(kids[at]);
+        let inner = count_of(kids[at]);
         at = row_next(kids, m, at + 1, inner, levels - 1);
         left -= 1;
     }
@@ -172,9 +154,9 @@ fn ended(wait: usize, next: usize) -> Sighting
     ensures { λ r. ⌜ r ≡ outcome (seen wait) next ⌝ }
 {
     if wait == 0 {
-        return Sighting::Past(next);
+        return Sighting::Past(Slot(next));
     }
-    Sighting::Found(wait - 1)
+    Sighting::Found(Slot(wait - 1))
 }
 
 // Whether the record itself is the answer.
@@ -229,7 +211,7 @@ pub fn seek<'a>(
         if m <= at {
             return ended(first, at);
         }
-        let inner = wide(kids[at]);
+        let inner = count_of(kids[at]);
         let kind = kind_of(pool, base, request, added, slots, m, at);
         let name = name_of(pool, base, request, added, slots, m, at);
         let f = fit(name, x, pos);
@@ -257,11 +239,11 @@ pub fn seek<'a>(
             Sighting::Past(next) => {
                 let late_one = is_late(part);
                 if takes(late_one, me) {
-                    return Sighting::Found(at);
+                    return Sighting::Found(Slot(at));
                 }
                 first = waiting(late_one, first, me);
                 part = next_role(part);
-                at = next;
+                at = next.0;
             }
         }
         left -= 1;

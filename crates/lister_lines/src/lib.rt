@@ -1,10 +1,10 @@
 // The lister: from lent bytes to its text.
 use index::open_base;
-use index_ids::place;
 use index_names::name_of;
 use plan::put_bytes;
 use record::Check;
 use record::Refusal;
+use record::place;
 ghost use mathlib.Core.Path.{_≡_};
 ghost use Prim.Native.Nat.{_+_, _-_, _<_, _≤_};
 ghost use lib.ListN.{length, take, drop};
@@ -70,7 +70,7 @@ fn put_signed(out: &mut [u8], at: usize, id: u32) -> usize
 fn span(x: u16) -> usize
     ensures { λ r. ⌜ (r ≡ x) × (r < 65536) ⌝ }
 {
-    x as usize
+    place(x)
 }
 
 // The full name of a slot from `at` on: its own name at the end, then the names above it, each before a dot.

@@ -3,10 +3,10 @@ use Prim.Native.Nat.{ℕ, _+_, _-_, _*_, _/_, _%_, _<_, _≤_}
 use mathlib.Core.Path.{_≡_, _∙_}
 use mathlib.Core.Bool.{true}
 use mathlib.Core.Logic.{⊎-elim}
-use mathlib.Core.List.{List}
+use mathlib.Core.List.{List, [], _∷_}
 use native.Mathlib.Omega.{arith}
 use borrow.Author.Tests.{leb-true, lt-ltb, le-ltb}
-use lib.ListN.{length, drop, length-drop}
+use lib.ListN.{length, getD, drop, length-drop}
 use lib.Seq.{sets, length-take-le}
 use Rattle.paper.specs.declared.Kind.{Kind}
 use Rattle.paper.specs.Bytes.{turned, rec-at, kind-at, name-of, in-pool, field-at}
@@ -15,7 +15,13 @@ use Rattle.tree.proofs.Filled.{lt-or-le}
 use Rattle.plan.specs.Plan.{Lent, source-field, planned-field, Sits}
 use Rattle.plan.specs.Sources.{source-kind, source-len, row-of, source-row, In}
 
--- ---- what the code reads
+-- ---- what the code reads and writes
+
+pub row-is : (i a m c d : List ℕ) (id at len kind flags kids code attribute : ℕ) → i ≡ bytes32 id [] → a ≡ bytes32 at [] → m ≡ bytes32 kids [] → c ≡ bytes32 code [] → d ≡ bytes32 attribute []
+    → getD i 0 0 ∷ getD i 1 0 ∷ getD i 2 0 ∷ getD i 3 0 ∷ getD a 0 0 ∷ getD a 1 0 ∷ getD a 2 0 ∷ getD a 3 0 ∷ len ∷ kind ∷ flags ∷ 0 ∷ getD m 0 0 ∷ getD m 1 0 ∷ 0 ∷ 0
+    ∷ getD c 0 0 ∷ getD c 1 0 ∷ getD c 2 0 ∷ getD c 3 0 ∷ getD d 0 0 ∷ getD d 1 0 ∷ getD d 2 0 ∷ getD d 3 0 ∷ [] ≡ row24 id at len kind flags kids code attribute
+unfolding row24
+row-is i a m c d id at len kind flags kids code attribute ei ea em ec ed = rw (ei, ea, em, ec, ed)
 
 module _ (base added : List ℕ) (x : ℕ) where
   pub in-base : In base added x → x < 1024 → x * 24 + 24 ≤ length base

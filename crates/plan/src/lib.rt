@@ -1,10 +1,15 @@
 // Plans: planned records, their names as parts of one of two pools, and the one writer.
 use paper::Kind;
+use record::attribute_at;
+use record::code_at;
+use record::count_of;
+use record::flags_at;
+use record::id_bits_at;
 use record::kids_at;
 use record::kind_at;
-use record::le32;
 use record::name_at;
-use record::wide;
+use record::name_len_at;
+use record::word_bytes;
 ghost use mathlib.Core.Path.{_≡_};
 ghost use Prim.Native.Nat.{_+_, _-_, _*_, _≤_, _<_};
 ghost use lib.ListN.{length};
@@ -28,7 +33,7 @@ pub fn take_base(
     let mut i = 0;
     while i < n {
         slots[i] = i as u16;
-        ids[i] = le32(base, i * 24);
+        ids[i] = id_bits_at(base, i);
         kids[i] = kids_at(base, i) as u16;
         i += 1;
     }
@@ -53,9 +58,9 @@ pub fn planned_name_len(base: &[u8], added: &[u8], source: u16) -> usize
 {
     let k = source as usize;
     if k < 1024 {
-        return wide(base[k * 24 + 8]) as usize;
+        return name_len_at(base, k);
     }
-    wide(added[(k - 1024) * 24 + 8]) as usize
+    name_len_at(added, k - 1024)
 }
 
 // A planned record's name: a part of the base pool or of the request pool, whichever it came from.
@@ -115,31 +120,36 @@ fn row_bytes(
 ) -> [u8; 24]
     ensures { λ r. ⌜ r ≡ row24 id at len kind flags kids code attribute ⌝ }
 {
+    let i = word_bytes(id);
+    let a = word_bytes(at);
+    let m = word_bytes(kids);
+    let c = word_bytes(code);
+    let d = word_bytes(attribute);
     [
-        (id % 256) as u8,
-        (id / 256 % 256) as u8,
-        (id / 65536 % 256) as u8,
-        (id / 16777216 % 256) as u8,
-        (at % 256) as u8,
-        (at / 256 % 256) as u8,
-        (at / 65536 % 256) as u8,
-        (at / 16777216 % 256) as u8,
+        i[0],
+        i[1],
+        i[2],
+        i[3],
+        a[0],
+        a[1],
+        a[2],
+        a[3],
         len,
         kind,
         flags,
         0,
-        (kids % 256) as u8,
-        (kids / 256 % 256) as u8,
+        m[0],
+        m[1],
         0,
         0,
-        (code % 256) as u8,
-        (code / 256 % 256) as u8,
-        (code / 65536 % 256) as u8,
-        (code / 16777216 % 256) as u8,
-        (attribute % 256) as u8,
-        (attribute / 256 % 256) as u8,
-        (attribute / 65536 % 256) as u8,
-        (attribute / 16777216 % 256) as u8,
+        c[0],
+        c[1],
+        c[2],
+        c[3],
+        d[0],
+        d[1],
+        d[2],
+        d[3],
     ]
 }
 
@@ -148,16 +158,15 @@ fn changed_bytes(recs: &[u8], slot: usize, id: u32, kids: u16, at: u32) -> [u8; 
     requires { ⌜ slot * 24 + 24 ≤ length (now recs) ⌝ }
     ensures { λ r. ⌜ r ≡ row-of (now (recs .entry)) slot id kids at ⌝ }
 {
-    let p = slot * 24;
     row_bytes(
         id,
         at,
-        recs[p + 8],
+        name_len_at(recs, slot) as u8,
         kind_byte(kind_at(recs, slot)),
-        recs[p + 10],
-        kids as u32,
-        le32(recs, p + 16),
-        le32(recs, p + 20),
+        flags_at(recs, slot),
+        count_of(kids),
+        code_at(recs, slot),
+        attribute_at(recs, slot),
     )
 }
 

@@ -8,7 +8,7 @@ use Rattle.paper.specs.Forest.{Forest, empty, node, size, siblings, mapped, cou
 use Rattle.paper.specs.Bytes.{kids-at, slots}
 use Rattle.paper.specs.Layout.{Part, nothing, before}
 use Rattle.laws.proofs.Runs.{sets-before}
-use Rattle.tree.specs.Read.{itself}
+use Rattle.tree.specs.Read.{itself, Rowed}
 use Rattle.tree.proofs.Reading.{row-none, row-in}
 use Rattle.tree.proofs.Steps.{was-read}
 use Rattle.tree.proofs.Filled.{Full, full}
@@ -16,7 +16,7 @@ use Rattle.laws.proofs.Basics.{rebind}
 use Rattle.plan.specs.Plan.{Source, slot-of, bits-of, Laid}
 use Rattle.plan.proofs.Laying.{laid-node, laid-row}
 use Rattle.tree_walk.specs.There.{row-of, There}
-use Rattle.tree_walk.proofs.Standing.{there-full, there-past}
+use Rattle.tree_walk.proofs.Standing.{there-row, there-full, there-past}
 use Rattle.prune_columns.specs.Projected.{id-bits, own-source, Spot, tree-at, KeptWhole, Span, Copied}
 
 -- A record stored after its inside.
@@ -64,6 +64,9 @@ module _ (s : List ℕ) (lv k i : ℕ) (h : Spot s lv k i) where
   pub spot-there : (m : ℕ) → m ≡ kids-at s k → There s lv m (k + 1)
   spot-there m e = rw e (h .inside)
 
+  pub spot-row : (m : ℕ) → m ≡ kids-at s k → Rowed 0 s (slots s) lv m (k + 1)
+  spot-row m e = there-row s lv m (k + 1) (spot-there m e)
+
   pub spot-bytes : k * 24 + 24 ≤ length s
   spot-bytes = let a = h .record-in in omega arith
 
@@ -96,4 +99,4 @@ module _ (s : List ℕ) (lv k i : ℕ) (h : Spot s lv k i) where
         laid = tree-laid xs is ks xs′ is′ ks′ (rw q at c);
       }
 
-pub ruleset planning = (spot-there, spot-bytes, spot-place, copy-asks, whole-fits, whole-planned)
+pub ruleset planning = (spot-there, spot-row, spot-bytes, spot-place, copy-asks, whole-fits, whole-planned)

@@ -6,13 +6,13 @@ use paper::is_key;
 use paper::is_struct;
 use paper::next_role;
 use record::Refusal;
+use record::id_bits_at;
 use record::kids_at;
 use record::kind_at;
-use record::le32;
 use tree::Walked;
 use tree::inside_role;
+use tree::row_past;
 use tree_walk::is_map;
-use tree_walk::row_past;
 ghost use mathlib.Core.Path.{_≡_};
 ghost use Prim.Native.Nat.{_+_, _*_, _≤_, _<_};
 ghost use lib.ListN.{length};
@@ -128,7 +128,7 @@ fn copy_records(
     let mut p = at;
     while i < to {
         slots[p] = i as u16;
-        ids[p] = le32(recs, i * 24);
+        ids[p] = id_bits_at(recs, i);
         kids[p] = kids_at(recs, i) as u16;
         i += 1;
         p += 1;
@@ -149,7 +149,7 @@ fn put_record(
     ensures { λ r. ⌜ Stored (now (recs .entry)) slot inside (now (slots .entry)) (now (ids .entry)) (now (kids .entry)) at r (now (slots .exit)) (now (ids .exit)) (now (kids .exit)) ⌝ }
 {
     slots[at] = slot as u16;
-    ids[at] = le32(recs, slot * 24);
+    ids[at] = id_bits_at(recs, slot);
     kids[at] = inside.count as u16;
     Step {
         next: inside.next,
@@ -171,7 +171,8 @@ fn project_whole(
     requires { ⌜ Spot (now recs) levels slot at ⌝ }
     ensures { λ r. ⌜ KeptWhole (now (recs .entry)) levels slot (now (slots .entry)) (now (ids .entry)) (now (kids .entry)) at r (now (slots .exit)) (now (ids .exit)) (now (kids .exit)) ⌝ }
 {
-    let past = row_past(recs, slot + 1, kids_at(recs, slot), levels);
+    let n = recs.len() / 24;
+    let past = row_past(recs, n, slot + 1, kids_at(recs, slot), levels, 0);
     copy_records(recs, slot, past, slots, ids, kids, at);
     Step {
         next: past,
@@ -368,7 +369,8 @@ fn project_map(
     requires { ⌜ (0 < count) × Row (now recs) levels count slot at ⌝ }
     ensures { λ r. ⌜ Kept (now (recs .entry)) (now (marks .entry)) full Key levels count slot (now (slots .entry)) (now (ids .entry)) (now (kids .entry)) at r (now (slots .exit)) (now (ids .exit)) (now (kids .exit)) ⌝ }
 {
-    let value = row_past(recs, slot + 1, kids_at(recs, slot), levels - 1);
+    let n = recs.len() / 24;
+    let value = row_past(recs, n, slot + 1, kids_at(recs, slot), levels - 1, 0);
     let behind = at + (value - slot);
     let rest = project_fields(
         recs,

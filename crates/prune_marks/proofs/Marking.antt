@@ -1,5 +1,5 @@
 -- A chosen id marks the one slot that has it, and an unknown one none. `search marking`.
-use Prim.Native.Nat.{ℕ, zero, suc, _+_, _-_, _/_, _≤_, _<_}
+use Prim.Native.Nat.{ℕ, zero, suc, _+_, _/_, _≤_, _<_}
 use mathlib.Core.Path.{_≡_, refl, sym, ap, _∙_}
 use mathlib.Core.Bool.{Bool, true, false, _||_}
 use mathlib.Core.List.{List}
@@ -13,15 +13,23 @@ use Rattle.paper.specs.Answer.{any, place-of}
 use Rattle.paper.specs.Bytes.{turned, from}
 use Rattle.paper.specs.Lists.{id-at, id-list}
 use Rattle.laws.proofs.Finding.{place-none, place-some, any-more, one-place, eqb-flip}
-use Rattle.index_ids.specs.Chain.{lowest-below}
+use Rattle.record.specs.declared.Slot.{Slot}
+use Rattle.record.specs.declared.FoundSlot.{FoundSlot}
+use Rattle.record.specs.declared.FoundSlot.the-variants.{At, Nothing}
+use Rattle.record.specs.Says.{slot-before}
+use Rattle.index_ids.specs.Chain.{Below, lowest-below}
+use Rattle.index_ids.proofs.Chains.{found-below-room}
 use Rattle.index_ids.specs.Ids.{id-in, is-id}
 use Rattle.index_ids.proofs.Repeats.{slot-at, found-below}
 use Rattle.prune_columns.specs.Projected.{marked}
 use Rattle.prune_marks.specs.Marks.{mark-at, Unmarked, Distinct-ids, Marks}
 
-pub mark-some : (place : ℕ) (l : List ℕ) → (place ≡ 0 → ⊥) → set l (place - 1) 1 ≡ mark-at place l
-mark-some zero l e = absurd (e refl)
-mark-some (suc k) l e = let q : suc k - 1 ≡ k = omega arith in rw q
+module _ (w : FoundSlot) (l : List ℕ) where
+  pub mark-none : w ≡ Nothing → l ≡ mark-at w l
+  mark-none e = rw e
+
+  pub mark-some : (s : Slot) → w ≡ At s → set l (s .0) 1 ≡ mark-at w l
+  mark-some s e = rw e
 
 -- The first i chosen ids are marked.
 pub record Marking (sel is : List ℕ) (m : ℕ) (marks : List ℕ) (i : ℕ) : Type 0 where
@@ -36,13 +44,13 @@ pub marking-done : (sel is : List ℕ) (m : ℕ) (marks : List ℕ) (n i : ℕ) 
 unfolding id-list
 marking-done sel is m marks n i h e l g = let q : i ≡ length sel / 4 = omega arith in record { exactly = λ k b. h .so-far k b ∙ ap (λ (z : ℕ). any (eqb (id-in is k)) (from (id-at sel) 0 z)) q }
 
-module _ (sel is : List ℕ) (m : ℕ) (marks : List ℕ) (i : ℕ) (h : Marking sel is m marks i) (few : m ≤ 1024) (d : Distinct-ids is m) (v : ℕ) (ev : id-at sel i ≡ turned v) (r : ℕ) (er : r ≡ lowest-below (is-id is (turned v)) 0 m) where
-  found : slot-at r ≡ place-of (eqb (turned v)) 0 (from (id-in is) 0 m)
-  found = ap slot-at er ∙ found-below (eqb (turned v)) (id-in is) m
+module _ (sel is : List ℕ) (m : ℕ) (marks : List ℕ) (i : ℕ) (h : Marking sel is m marks i) (few : m ≤ 1024) (d : Distinct-ids is m) (v : ℕ) (ev : id-at sel i ≡ turned v) (w : FoundSlot) (ew : w ≡ slot-before (lowest-below (is-id is (turned v)) 0 m)) where
+  found : slot-at (lowest-below (is-id is (turned v)) 0 m) ≡ place-of (eqb (turned v)) 0 (from (id-in is) 0 m)
+  found = found-below (eqb (turned v)) (id-in is) m
 
   -- one mark more
-  by-place : (r : ℕ) → slot-at r ≡ place-of (eqb (turned v)) 0 (from (id-in is) 0 m) → (k : ℕ) → k < m → marked (mark-at r marks) k ≡ (marked marks k || eqb (id-in is k) (turned v))
-  unfolding marked
+  by-place : (r : ℕ) → slot-at r ≡ place-of (eqb (turned v)) 0 (from (id-in is) 0 m) → (k : ℕ) → k < m → marked (mark-at (slot-before r) marks) k ≡ (marked marks k || eqb (id-in is k) (turned v))
+  unfolding marked slot-before
   by-place zero q k l = rw (eqb-flip (id-in is k) (turned v), place-none (eqb (turned v)) (id-in is) 0 m (sym q) k (omega arith) (omega arith)) (sym (or-false (eqb (getD marks k 0) 1)))
     where
       or-false : (b : Bool) → (b || false) ≡ b
@@ -72,22 +80,18 @@ module _ (sel is : List ℕ) (m : ℕ) (marks : List ℕ) (i : ℕ) (h : Marking
           let y = eqb-false k j z in
           rw (getD-set-other marks j k 1 0 y, ne-eqb (id-in is k) (turned v) (λ t. y (one-place (id-in is) m (d .tested) k j l (omega arith) (t ∙ e)))) (sym (or-false (eqb (getD marks k 0) 1)))
 
-  pub marking-goes : (marks′ : List ℕ) → marks′ ≡ mark-at r marks → Marking sel is m marks′ (i + 1)
+  pub marking-goes : (marks′ : List ℕ) → marks′ ≡ mark-at w marks → Marking sel is m marks′ (i + 1)
   marking-goes marks′ e =
       record {
-        room = ap length e ∙ kept r ∙ h .room;
-        so-far = λ k l. ap (λ (z : List ℕ). marked z k) e ∙ by-place r found k l ∙ rw (any-more (eqb (id-in is k)) (id-at sel) 0 i, zero-add i, ev, h .so-far k l);
+        room = ap length e ∙ kept w ∙ h .room;
+        so-far = λ k l. ap (λ (z : List ℕ). marked z k) (e ∙ ap (λ (z : FoundSlot). mark-at z marks) ew) ∙ by-place (lowest-below (is-id is (turned v)) 0 m) found k l ∙ rw (any-more (eqb (id-in is k)) (id-at sel) 0 i, zero-add i, ev, h .so-far k l);
       }
     where
-      kept : (r : ℕ) → length (mark-at r marks) ≡ length marks
-      kept zero = refl
-      kept (suc j) = length-set marks j 1
+      kept : (w : FoundSlot) → length (mark-at w marks) ≡ length marks
+      kept Nothing = refl
+      kept (At s) = length-set marks (s .0) 1
 
-  pub marking-fits : r ≤ 1024
-  marking-fits = go r found
-    where
-      go : (r : ℕ) → slot-at r ≡ place-of (eqb (turned v)) 0 (from (id-in is) 0 m) → r ≤ 1024
-      go zero q = omega arith
-      go (suc j) q = let p = place-some (eqb (turned v)) (id-in is) 0 m j (sym q) in let b = p .2 in omega arith
+  pub marking-fits : Below w
+  marking-fits = found-below-room (is-id is (turned v)) m w ew few
 
-pub ruleset marking = (mark-some, marking-starts, marking-done, marking-goes, marking-fits)
+pub ruleset marking = (marking-starts, marking-done, marking-goes, marking-fits)

@@ -1,5 +1,5 @@
 -- Which slots are chosen, by marks.
-use Prim.Native.Nat.{ℕ, zero, suc, _<_}
+use Prim.Native.Nat.{ℕ, _<_}
 use mathlib.Core.Path.{_≡_}
 use mathlib.Core.List.{List, []}
 use mathlib.Core.Option.{none}
@@ -7,13 +7,15 @@ use lib.Dec.{eqb}
 use lib.ListN.{length, getD, set}
 use Rattle.paper.specs.Answer.{among, repeated}
 use Rattle.paper.specs.Lists.{id-list}
+use Rattle.record.specs.declared.FoundSlot.{FoundSlot}
+use Rattle.record.specs.declared.FoundSlot.the-variants.{At, Nothing}
 use Rattle.index_ids.specs.Ids.{id-in, ids-in}
 use Rattle.prune_columns.specs.Projected.{marked}
 
--- A place is one more than a slot, or 0 for none.
-abbrev pub mark-at : ℕ → List ℕ → List ℕ
-mark-at zero l = l
-mark-at (suc k) l = set l k 1
+-- A slot that was found is marked.
+abbrev pub mark-at : FoundSlot → List ℕ → List ℕ
+mark-at Nothing l = l
+mark-at (At s) l = set l (s .0) 1
 
 -- No slot is marked yet.
 pub record Unmarked (marks : List ℕ) : Type 0 where

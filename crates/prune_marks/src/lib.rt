@@ -1,21 +1,23 @@
 // The chosen ids of prune_columns.rs, as marks on slots: expected linear time, by the index of ids.
 use index_ids::find_id;
+use record::FoundSlot;
 use record_entries::id_at;
 ghost use mathlib.Core.Path.{_≡_};
 ghost use Prim.Native.Nat.{_≤_};
-ghost use Rattle.index_ids.specs.Chain.{Chained};
+ghost use Rattle.index_ids.specs.Chain.{Below, Chained};
 ghost use Rattle.index_ids.specs.Ids.{id-bucket};
 ghost use Rattle.prune_marks.specs.Marks.{mark-at, Unmarked, Distinct-ids, Marks};
 
-// Marks the slot before a place, if there is one.
-fn mark(marks: &mut [u8; 1024], place: usize)
-    requires { ⌜ place ≤ 1024 ⌝ }
-    ensures { λ r. ⌜ now (marks .exit) ≡ mark-at place (now (marks .entry)) ⌝ }
+// Marks a slot that was found.
+fn mark(marks: &mut [u8; 1024], found: FoundSlot)
+    requires { ⌜ Below found ⌝ }
+    ensures { λ r. ⌜ now (marks .exit) ≡ mark-at found (now (marks .entry)) ⌝ }
 {
-    if place == 0 {
+    let FoundSlot::At(slot) = found else {
         return;
-    }
-    marks[place - 1] = 1;
+    };
+    let k = slot.0;
+    marks[k] = 1;
 }
 
 // Marks those of m slots whose ids are chosen. An unknown id marks none.

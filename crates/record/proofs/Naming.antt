@@ -10,14 +10,14 @@ use lib.ListN.{take, drop}
 use Rattle.paper.specs.declared.Kind.the-variants.{Primitive, Structure, Listing, Mapping}
 use Rattle.paper.specs.Bytes.{rec-at, name-of, in-pool, kind-from}
 
-module _ (s : List ℕ) (k from word len : ℕ) (ew : from ≡ word) (er : word ≡ rec-at s k .name-at) (eb : len ≡ rec-at s k .name-len) where
+module _ (s : List ℕ) (k from len : ℕ) (er : from ≡ rec-at s k .name-at) (eb : len ≡ rec-at s k .name-len) where
   pub name-within : (n : ℕ) → in-pool n s k ≡ true → from + len ≤ n
   unfolding in-pool
   name-within n h = omega (arith, leb-true)
 
   pub name-is : (pool : List ℕ) → take (from + len - from) (drop from pool) ≡ name-of pool s k
   unfolding name-of
-  name-is pool = rw (add-sub-cancel-left from len, ew, er, eb)
+  name-is pool = rw (add-sub-cancel-left from len, er, eb)
 
 module _ (b : ℕ) where
   pub kind-0 : b ≡ 0 → Primitive ≡ kind-from b

@@ -1,5 +1,5 @@
 -- What an answer of the code says: for each of its cases the paper's number and values.
-use Prim.Native.Nat.{ℕ}
+use Prim.Native.Nat.{ℕ, zero, suc}
 use mathlib.Core.Option.{Option, none, some}
 use lib.ListN.{length}
 use Rattle.paper.specs.Answer.{Answer, ok, refused}
@@ -13,6 +13,8 @@ use Rattle.record.specs.declared.Check.{Check}
 use Rattle.record.specs.declared.Check.the-variants as check
 use Rattle.record.specs.declared.Found.{Found}
 use Rattle.record.specs.declared.Found.the-variants as found
+use Rattle.record.specs.declared.FoundSlot.{FoundSlot}
+use Rattle.record.specs.declared.FoundSlot.the-variants as found-slot
 use Rattle.record.specs.declared.Sought.{Sought}
 use Rattle.record.specs.declared.Sought.the-variants as sought
 use Rattle.record.specs.declared.Changed.{Changed}
@@ -29,6 +31,11 @@ tested number list (some p) = check.Refused (refusal-of number list p)
 unfoldable pub checked : Answer (Unit {0}) → Check
 checked (ok u) = check.Fine
 checked (refused n l p) = check.Refused (refusal-of n l p)
+
+-- The slot before a place, which is one more than a slot, or 0 for none.
+unfoldable pub slot-before : ℕ → FoundSlot
+slot-before zero = found-slot.Nothing
+slot-before (suc k) = found-slot.At (record { 0 = k })
 
 -- A row that a look-up finds: its id as 32 bits, and its slot.
 unfoldable pub found-row : Option Row → Found

@@ -1,12 +1,14 @@
-// Records of 24 bytes: reading them, and refusals 3 and 4 over a list of them.
+// Numbers and their bytes. Records of 24 bytes: reading them, and refusals 3 and 4 over a list of them.
 use paper::Kind;
 ghost use mathlib.Core.Path.{_≡_};
 ghost use mathlib.Core.Bool.{true};
-ghost use Prim.Native.Nat.{_+_, _*_, _≤_, _<_};
+ghost use mathlib.Core.List.{[]};
+ghost use Prim.Native.Nat.{_+_, _*_, _%_, _≤_, _<_};
 ghost use lib.ListN.{length};
-ghost use Rattle.paper.specs.Answer.{lowest, same};
-ghost use Rattle.paper.specs.Bytes.{word16, word32, ok-bytes, in-pool, name-of, rec-at, kids-fit, kind-at, kind-from, kids-at};
-ghost use Rattle.record.specs.Says.{tested};
+ghost use Rattle.paper.specs.Answer.{among, lowest, same};
+ghost use Rattle.paper.specs.Bytes.{word16, word32, turned, ok-bytes, in-pool, name-of, rec-at, kids-fit, kind-at, kind-from, kids-at};
+ghost use Rattle.paper.specs.Encode.{bytes32};
+ghost use Rattle.record.specs.Says.{tested, slot-before};
 
 // The bit pattern of an id; its signed reading is what people see.
 pub struct FieldId(pub u32);
@@ -30,6 +32,12 @@ pub enum Check {
 // What a look-up in a tree finds.
 pub enum Found {
     At(FieldId, Slot),
+    Nothing,
+}
+
+// What a look-up over the slots of an index finds.
+pub enum FoundSlot {
+    At(Slot),
     Nothing,
 }
 
@@ -59,6 +67,91 @@ pub fn wide(x: u8) -> u32
     x as u32
 }
 
+// A byte as a length.
+fn length_of(x: u8) -> usize
+    ensures { λ r. ⌜ (r ≡ x) × (r ≤ 255) ⌝ }
+{
+    x as usize
+}
+
+// A number of 16 bits as a place, a slot or a length. A place is one more than a slot, or 0 for none.
+pub fn place(x: u16) -> usize
+    ensures { λ r. ⌜ r ≡ x ⌝ }
+{
+    x as usize
+}
+
+// A planned number of members as a count.
+pub fn count_of(x: u16) -> u32
+    ensures { λ r. ⌜ r ≡ x ⌝ }
+{
+    x as u32
+}
+
+// A number of 32 bits as a place or a length.
+pub fn size(x: u32) -> usize
+    ensures { λ r. ⌜ r ≡ x ⌝ }
+{
+    x as usize
+}
+
+// A number of 32 bits as one of 64.
+pub fn long(x: u32) -> u64
+    ensures { λ r. ⌜ (r ≡ x) × (r < 4294967296) ⌝ }
+{
+    x as u64
+}
+
+// The low 32 bits of a number.
+pub fn low_32(x: u64) -> u32
+    ensures { λ r. ⌜ r ≡ x % 4294967296 ⌝ }
+{
+    (x % 4294967296) as u32
+}
+
+// The bits of an id from the id plus 2^31, and the other way round.
+pub fn turn(x: u32) -> u32
+    ensures { λ r. ⌜ r ≡ turned x ⌝ }
+{
+    std::num::wrapping_add_u32(x, 2147483648)
+}
+
+// The bits of an id that is counted on in 64 bits, plus 2^31.
+pub fn turn_back(x: u64) -> u32
+    ensures { λ r. ⌜ r ≡ turned x ⌝ }
+{
+    turn(low_32(x))
+}
+
+// Where additions to a struct go, by the bits of its id: 1 more. (0 is the root list.)
+pub fn under_of(id: u32) -> u64
+    ensures { λ r. ⌜ (r ≡ id + 1) × (r ≤ 4294967296) ⌝ }
+{
+    id as u64 + 1
+}
+
+// The four bytes of a word, the lowest first.
+pub fn word_bytes(x: u32) -> [u8; 4]
+    ensures { λ r. ⌜ (r ≡ bytes32 x []) × (x < 4294967296) ⌝ }
+{
+    [
+        (x % 256) as u8,
+        (x / 256 % 256) as u8,
+        (x / 65536 % 256) as u8,
+        (x / 16777216 % 256) as u8,
+    ]
+}
+
+// The slot before a place.
+pub fn slot_before(at: usize) -> FoundSlot
+    ensures { λ r. ⌜ r ≡ slot-before at ⌝ }
+{
+    if at == 0 {
+        return FoundSlot::Nothing;
+    }
+    FoundSlot::At(Slot(at - 1))
+}
+
 // The little-endian word of 16 bits at a place.
 pub fn le16(s: &[u8], at: usize) -> u32
     requires { ⌜ at + 2 ≤ length (now s) ⌝ }
@@ -73,6 +166,54 @@ pub fn le32(s: &[u8], at: usize) -> u32
     ensures { λ r. ⌜ r ≡ word32 (now (s .entry)) at ⌝ }
 {
     wide(s[at]) + wide(s[at + 1]) * 256 + wide(s[at + 2]) * 65536 + wide(s[at + 3]) * 16777216
+}
+
+// The bits of a record's id.
+pub fn id_bits_at(recs: &[u8], slot: usize) -> u32
+    requires { ⌜ slot * 24 + 24 ≤ length (now recs) ⌝ }
+    ensures { λ r. ⌜ r ≡ rec-at (now (recs .entry)) slot .id ⌝ }
+{
+    le32(recs, slot * 24)
+}
+
+// The offset of a record's name in its pool.
+fn name_from(recs: &[u8], slot: usize) -> usize
+    requires { ⌜ slot * 24 + 24 ≤ length (now recs) ⌝ }
+    ensures { λ r. ⌜ (r ≡ rec-at (now (recs .entry)) slot .name-at) × (r < 4294967296) ⌝ }
+{
+    size(le32(recs, slot * 24 + 4))
+}
+
+// The length of a record's name.
+pub fn name_len_at(recs: &[u8], slot: usize) -> usize
+    requires { ⌜ slot * 24 + 24 ≤ length (now recs) ⌝ }
+    ensures { λ r. ⌜ (r ≡ rec-at (now (recs .entry)) slot .name-len) × (r ≤ 255) ⌝ }
+{
+    length_of(recs[slot * 24 + 8])
+}
+
+// The flags of a record.
+pub fn flags_at(recs: &[u8], slot: usize) -> u8
+    requires { ⌜ slot * 24 + 24 ≤ length (now recs) ⌝ }
+    ensures { λ r. ⌜ r ≡ rec-at (now (recs .entry)) slot .flags ⌝ }
+{
+    recs[slot * 24 + 10]
+}
+
+// The type code of a record.
+pub fn code_at(recs: &[u8], slot: usize) -> u32
+    requires { ⌜ slot * 24 + 24 ≤ length (now recs) ⌝ }
+    ensures { λ r. ⌜ r ≡ rec-at (now (recs .entry)) slot .code ⌝ }
+{
+    le32(recs, slot * 24 + 16)
+}
+
+// The attribute of a record.
+pub fn attribute_at(recs: &[u8], slot: usize) -> u32
+    requires { ⌜ slot * 24 + 24 ≤ length (now recs) ⌝ }
+    ensures { λ r. ⌜ r ≡ rec-at (now (recs .entry)) slot .attribute ⌝ }
+{
+    le32(recs, slot * 24 + 20)
 }
 
 // Number of direct children of a record.
@@ -148,25 +289,13 @@ pub fn check_bytes(recs: &[u8], n: usize, list: u32) -> Check
     Check::Fine
 }
 
-fn size(x: u32) -> usize
-    ensures { λ r. ⌜ r ≡ x ⌝ }
-{
-    x as usize
-}
-
-fn length_of(x: u8) -> usize
-    ensures { λ r. ⌜ (r ≡ x) × (r ≤ 255) ⌝ }
-{
-    x as usize
-}
-
 // Whether a record's name lies in a pool of a length. The sum is of 64 bits, so it can't wrap.
 pub fn name_ok(recs: &[u8], pool: usize, slot: usize) -> bool
     requires { ⌜ slot * 24 + 24 ≤ length (now recs) ⌝ }
     ensures { λ r. ⌜ r ≡ in-pool pool (now (recs .entry)) slot ⌝ }
 {
-    let from = size(le32(recs, slot * 24 + 4));
-    let len = length_of(recs[slot * 24 + 8]);
+    let from = name_from(recs, slot);
+    let len = name_len_at(recs, slot);
     from + len <= pool
 }
 
@@ -194,9 +323,23 @@ pub fn name_at<'a>(pool: &'a [u8], recs: &[u8], slot: usize) -> &'a [u8]
     requires { ⌜ (slot * 24 + 24 ≤ length (now recs)) × (in-pool (length (now pool)) (now recs) slot ≡ true) ⌝ }
     ensures { λ r. ⌜ (now r ≡ name-of (now (pool .entry)) (now (recs .entry)) slot) × (r .ptr .0 ≡ pool .entry .ptr .0) × (r .ptr .1 ≡ pool .entry .ptr .1 + rec-at (now (recs .entry)) slot .name-at) ⌝ }
 {
-    let from = size(le32(recs, slot * 24 + 4));
-    let len = length_of(recs[slot * 24 + 8]);
+    let from = name_from(recs, slot);
+    let len = name_len_at(recs, slot);
     &pool[from..from + len]
+}
+
+// Whether a name has a dot.
+pub fn has_dot(name: &[u8]) -> bool
+    ensures { λ r. ⌜ r ≡ among 46 (now (name .entry)) ⌝ }
+{
+    let mut i = 0;
+    while i < name.len() {
+        if name[i] == 46 {
+            return true;
+        }
+        i += 1;
+    }
+    false
 }
 
 // Whether two parts have the same bytes.

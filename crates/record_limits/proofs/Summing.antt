@@ -16,7 +16,7 @@ module _ (g : ℕ → ℕ) (n : ℕ) where
   sum-starts = let e : n - 0 ≡ n = omega arith in record { within = omega arith; few = omega arith; whole = rw e (omega arith) }
 
   module _ (i sum : ℕ) (h : Summed g n i sum) where
-    pub sum-goes : (x : ℕ) → i < n → x ≡ g i → x < 256 → Summed g n (i + 1) (sum + x)
+    pub sum-goes : (x : ℕ) → i < n → x ≡ g i → x ≤ 255 → Summed g n (i + 1) (sum + x)
     unfolding sum-from
     sum-goes x l e b =
         let d : n - i ≡ suc (n - suc i) = omega arith in

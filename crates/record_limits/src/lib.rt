@@ -1,5 +1,5 @@
 // Refusals 1 and 2: the lengths of all that is lent, tested before anything else is read. Each test takes any bytes at all.
-use record::wide;
+use record::name_len_at;
 ghost use mathlib.Core.Path.{_≡_};
 ghost use mathlib.Core.Bool.{_&&_};
 ghost use Prim.Native.Nat.{_*_, _≤_, _<_};
@@ -30,14 +30,14 @@ fn whole_list(s: &[u8], item: usize, most: usize) -> bool
 }
 
 // The sum of the name lengths of n records, whatever else they hold: at most 255 * 1,024.
-fn name_sum(recs: &[u8], n: usize) -> u32
+fn name_sum(recs: &[u8], n: usize) -> usize
     requires { ⌜ (n * 24 ≤ length (now recs)) × (n ≤ 1024) ⌝ }
     ensures { λ r. ⌜ r ≡ sum-from (name-lens (now (recs .entry))) 0 n ⌝ }
 {
     let mut i = 0;
-    let mut sum: u32 = 0;
+    let mut sum = 0;
     while i < n {
-        sum += wide(recs[i * 24 + 8]);
+        sum += name_len_at(recs, i);
         i += 1;
     }
     sum

@@ -2,11 +2,11 @@
 // stored as 32 bits. Member renumbering and type renumbering call each other; levels left and records left fall.
 use record::kids_at;
 use record::kind_at;
+use record::turn;
 use tree_walk::is_map;
-ghost use mathlib.Core.Path.{_≡_};
 ghost use Prim.Native.Nat.{_+_, _<_};
 ghost use mathlib.Core.Bool.{true, false};
-ghost use Rattle.paper.specs.Bytes.{turned, kind-at, kids-at, slots};
+ghost use Rattle.paper.specs.Bytes.{kind-at, kids-at, slots};
 ghost use Rattle.paper.specs.Field.{is-map};
 ghost use Rattle.renumber_id_reassigner.specs.Numbers.{Room, Given};
 
@@ -14,13 +14,6 @@ ghost use Rattle.renumber_id_reassigner.specs.Numbers.{Room, Given};
 pub struct Reassigned {
     pub next: usize,
     pub next_field_id: u32,
-}
-
-// The 32 bits of a number, and the number of 32 bits.
-pub fn turn(x: u32) -> u32
-    ensures { λ r. ⌜ r ≡ turned x ⌝ }
-{
-    std::num::wrapping_add_u32(x, 2147483648)
 }
 
 // The roots, the members of a struct or a list's element: `count` siblings from `slot` on get the numbers from `first` on,

@@ -1,5 +1,5 @@
 -- Each identifier stands at the place that the index finds, and its four bytes go behind those of the earlier ones. `search mapping`.
-use Prim.Native.Nat.{ℕ, zero, suc, _+_, _-_, _*_, _/_, _≤_, _<_}
+use Prim.Native.Nat.{ℕ, zero, suc, _+_, _*_, _/_, _≤_, _<_}
 use mathlib.Core.Path.{_≡_, refl, sym, ap, _∙_}
 use mathlib.Core.Bool.{Bool, true, false, not}
 use mathlib.Core.List.{List, [], _∷_, _++_}
@@ -9,15 +9,21 @@ use native.Mathlib.Omega.{arith}
 use lib.Dec.{eqb}
 use lib.ListN.{length, getD}
 use lib.Seq.{sets, length-sets}
-use Rattle.paper.specs.Answer.{any, among, place-of}
+use Rattle.paper.specs.Answer.{among, place-of}
 use Rattle.paper.specs.Bytes.{turned, from}
 use Rattle.paper.specs.Lists.{id-at, id-list}
 use Rattle.paper.specs.Encode.{bytes32, id-bytes}
 use Rattle.paper.specs.Renumber.{renamed}
 use Rattle.laws.proofs.Runs.{sets-append, map-from, from-append}
 use Rattle.laws.proofs.Words.{turned-twice}
-use Rattle.laws.proofs.Finding.{place-none, place-some, renamed-at}
+use Rattle.laws.proofs.Finding.{place-none, renamed-at}
+use Rattle.record.specs.declared.Slot.{Slot}
+use Rattle.record.specs.declared.FoundSlot.{FoundSlot}
+use Rattle.record.specs.declared.FoundSlot.the-variants.{At, Nothing}
+use Rattle.record.specs.Says.{slot-before}
+use Rattle.record.proofs.Slots.{no-slot, the-slot}
 use Rattle.index_ids.specs.Chain.{lowest-below}
+use Rattle.index_ids.proofs.Chains.{found-within}
 use Rattle.index_ids.specs.Ids.{id-in, ids-in, is-id}
 use Rattle.index_ids.proofs.Repeats.{slot-at, found-below, any-found}
 use Rattle.renumber_identifiers.specs.Mapped.{Mappable, Mapped}
@@ -63,7 +69,7 @@ module _ (s is new : List ℕ) (m : ℕ) (out : List ℕ) where
         let d = ap length (k .so-far) ∙ length-sets out 0 (id-bytes (from (new-of s is new m) 0 i)) in
         omega arith
 
-    module _ (v : ℕ) (ev : id-at s i ≡ turned v) (r : ℕ) (er : r ≡ lowest-below (is-id is (turned v)) 0 m) where
+    module _ (v : ℕ) (ev : id-at s i ≡ turned v) (w : FoundSlot) (ew : w ≡ slot-before (lowest-below (is-id is (turned v)) 0 m)) where
       known-one : among (id-at s i) (ids-in is m) ≡ true
       unfolding id-list
       known-one = not-false-of (among (id-at s i) (ids-in is m)) (place-none (λ j. not (among j (ids-in is m))) (id-at s) 0 (length s / 4) (h .known) i (omega arith) (omega arith))
@@ -72,33 +78,31 @@ module _ (s is new : List ℕ) (m : ℕ) (out : List ℕ) where
           not-false-of true e = refl
           not-false-of false e = sym e
 
-      found : slot-at r ≡ place-of (eqb (turned v)) 0 (from (id-in is) 0 m)
-      found = ap slot-at er ∙ found-below (eqb (turned v)) (id-in is) m
-
-      there : (r : ℕ) → slot-at r ≡ place-of (eqb (turned v)) 0 (from (id-in is) 0 m) → any (eqb (turned v)) (from (id-in is) 0 m) ≡ not (eqb r 0) → (0 < r) × (r ≤ m) × (place-of (eqb (turned v)) 0 (from (id-in is) 0 m) ≡ some (r - 1))
-      there zero q e = absurd (let z : _≡_ {A = ℕ} 0 1 = bad in omega arith)
+      pub never-missing : (P : Type 0) → w ≡ Nothing → P
+      never-missing P q = absurd (let z : _≡_ {A = ℕ} 0 1 = bad in omega arith)
         where
           bad : _≡_ {A = ℕ} 0 1
-          bad = let a : among (id-at s i) (ids-in is m) ≡ false = rw ev e in let b = known-one in cc
-      there (suc j) q e = let p = place-some (eqb (turned v)) (id-in is) 0 m j (sym q) in let b = p .2 in let d : suc j - 1 ≡ j = omega arith in (omega arith, omega arith, rw d (sym q))
+          bad =
+              let e = any-found (eqb (turned v)) (id-in is) m 0 (sym (no-slot (lowest-below (is-id is (turned v)) 0 m) w ew q)) in
+              let a : among (id-at s i) (ids-in is m) ≡ false = rw ev e in
+              let b = known-one in
+              cc
 
-      at-place : (0 < r) × (r ≤ m) × (place-of (eqb (turned v)) 0 (from (id-in is) 0 m) ≡ some (r - 1))
-      at-place = there r found (any-found (eqb (turned v)) (id-in is) m r er)
+      module _ (j : Slot) (q : w ≡ At j) where
+        pub slot-few : j .0 < 1024
+        slot-few = let a = found-within (is-id is (turned v)) m w ew j q in let d = h .few in omega arith
 
-      pub place-there : 0 < r
-      place-there = at-place .0
+        stands-at : place-of (eqb (turned v)) 0 (from (id-in is) 0 m) ≡ some (j .0)
+        stands-at = sym (found-below (eqb (turned v)) (id-in is) m) ∙ ap slot-at (the-slot (lowest-below (is-id is (turned v)) 0 m) w j ew q)
 
-      pub place-few : r - 1 < 1024
-      place-few = let a = at-place .0 in let b = at-place .1 in let d = h .few in omega arith
+        pub mapping-goes : (x : ℕ) (b out″ : List ℕ) → x ≡ getD new (j .0) 0 → x < 4294967296 → b ≡ bytes32 x [] → out″ ≡ sets out′ (i * 4) b → Mapping s is new m out (i + 1) out″
+        unfolding id-bytes from
+        mapping-goes x b out″ ex lx eb eo =
+            let g = new-of s is new m in
+            let e₁ : g i ≡ turned (getD new (j .0) 0) = rw ev (renamed-at (id-in is) (id-in new) (turned v) 0 m (j .0) stands-at) in
+            let e₂ : turned (g i) ≡ x = ap turned (e₁ ∙ ap turned (sym ex)) ∙ turned-twice x lx in
+            let n₁ : i * 4 ≡ 0 + length (id-bytes (from g 0 i)) = sym (zero-add _ ∙ bytes-length g 0 i) in
+            let f : from g 0 (i + 1) ≡ from g 0 i ++ (g i ∷ []) = from-append g 0 i 1 ∙ rw (zero-add i) in
+            record { so-far = eo ∙ rw (eb, k .so-far, n₁, f, bytes-append (from g 0 i) (g i ∷ []), e₂) (sets-append (id-bytes (from g 0 i)) (bytes32 x []) out 0) }
 
-      pub mapping-goes : (x : ℕ) (b out″ : List ℕ) → x ≡ getD new (r - 1) 0 → x < 4294967296 → b ≡ bytes32 x [] → out″ ≡ sets out′ (i * 4) b → Mapping s is new m out (i + 1) out″
-      unfolding id-bytes from
-      mapping-goes x b out″ ex lx eb eo =
-          let g = new-of s is new m in
-          let e₁ : g i ≡ turned (getD new (r - 1) 0) = rw ev (renamed-at (id-in is) (id-in new) (turned v) 0 m (r - 1) (at-place .2)) in
-          let e₂ : turned (g i) ≡ x = ap turned (e₁ ∙ ap turned (sym ex)) ∙ turned-twice x lx in
-          let n₁ : i * 4 ≡ 0 + length (id-bytes (from g 0 i)) = sym (zero-add _ ∙ bytes-length g 0 i) in
-          let f : from g 0 (i + 1) ≡ from g 0 i ++ (g i ∷ []) = from-append g 0 i 1 ∙ rw (zero-add i) in
-          record { so-far = eo ∙ rw (eb, k .so-far, n₁, f, bytes-append (from g 0 i) (g i ∷ []), e₂) (sets-append (id-bytes (from g 0 i)) (bytes32 x []) out 0) }
-
-pub ruleset mapping = (mapping-starts, mapping-done, bytes-room, place-there, place-few, mapping-goes)
+pub ruleset mapping = (mapping-starts, mapping-done, bytes-room, slot-few, mapping-goes)

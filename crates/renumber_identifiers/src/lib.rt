@@ -1,24 +1,10 @@
 // id_reassigner.rs, apply_to_identifier_fields: identifier ids mapped to the new ids, in the order given.
 use index_ids::find_id;
 use plan::put_bytes;
+use record::FoundSlot;
+use record::word_bytes;
 use record_entries::id_at;
-ghost use mathlib.Core.Path.{_≡_};
-ghost use mathlib.Core.List.{[]};
-ghost use Prim.Native.Nat.{_<_};
-ghost use Rattle.paper.specs.Encode.{bytes32};
 ghost use Rattle.renumber_identifiers.specs.Mapped.{Mappable, Mapped};
-
-// The four bytes of an id, which is 32 bits.
-fn id_bytes(id: u32) -> [u8; 4]
-    ensures { λ r. ⌜ (r ≡ bytes32 id []) × (id < 4294967296) ⌝ }
-{
-    [
-        (id % 256) as u8,
-        (id / 256 % 256) as u8,
-        (id / 65536 % 256) as u8,
-        (id / 16777216 % 256) as u8,
-    ]
-}
 
 // Writes the new id of each identifier's record, found by its old id among m records.
 pub fn apply_to_identifier_fields(
@@ -36,9 +22,13 @@ pub fn apply_to_identifier_fields(
     let n = identifiers.len() / 4;
     let mut i = 0;
     while i < n {
-        let place = find_id(ids, heads, next, m, id_at(identifiers, i));
-        let new = new_ids[place - 1];
-        let four = id_bytes(new);
+        let found = find_id(ids, heads, next, m, id_at(identifiers, i));
+        let FoundSlot::At(slot) = found else {
+            return;
+        };
+        let k = slot.0;
+        let new = new_ids[k];
+        let four = word_bytes(new);
         put_bytes(out, i * 4, &four);
         i += 1;
     }

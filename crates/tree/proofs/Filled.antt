@@ -8,6 +8,7 @@ use native.Mathlib.Nat.{add-zero, suc-add}
 use native.Mathlib.Omega.{arith}
 use borrow.Author.Tests.{ltb-true, ltb-false}
 use lib.Dec.{ltb}
+use Rattle.record.specs.declared.Refusal.{Refusal}
 use Rattle.paper.specs.Answer.{Answer, ok, refused}
 use Rattle.paper.specs.Forest.{Forest, empty, node, size, siblings, preorder, counts}
 use Rattle.paper.specs.Bytes.{from}
@@ -16,7 +17,7 @@ use Rattle.laws.proofs.Basics.{refused≢ok, unbind, ok-is}
 use Rattle.laws.proofs.Taken.{Laid, row-take}
 use Rattle.tree.specs.Read.{itself}
 use Rattle.tree.specs.declared.Walked.{Walked}
-use Rattle.tree.specs.declared.Walked.the-variants.{End}
+use Rattle.tree.specs.declared.Walked.the-variants.{End, Refused}
 use Rattle.tree.specs.Says.{ended}
 use Rattle.tree.proofs.Reading.{row-deep, row-past, row-in}
 
@@ -71,6 +72,11 @@ pub ended-ok : (P : Type 0) (x : Answer Part) (w : Walked) (j : ℕ) → w ≡ e
 unfolding ended
 ended-ok P (ok p) w j e d f = f p refl cc
 ended-ok P (refused n l k) w j e d f = let z : _≡_ {A = ℕ} 0 1 = cc in absurd (omega arith)
+
+pub ended-no : (x : Answer Part) (p : Part) (w : Walked) (t : Refusal) → x ≡ ok p → w ≡ ended x → w ≡ Refused t → ⊥
+unfolding ended
+ended-no (ok a) p w t e ew et = let z : _≡_ {A = ℕ} 0 1 = cc in omega arith
+ended-no (refused n l k) p w t e ew et = let z : _≡_ {A = ℕ} 0 1 = cc in omega arith
 
 pub end-room : (li : ℕ) (kids : ℕ → ℕ) (n lv c k j : ℕ) (w : Walked) → w ≡ ended (row li kids n lv c k) → w ≡ End j → (k ≤ j) × (k ≤ n → j ≤ n)
 end-room li kids n lv c k j w e d = ended-ok _ (row li kids n lv c k) w j e d λ p ep en. let f = full li kids n lv c k p ep in (omega (arith, f .next), λ h. rw en at (f .most h))

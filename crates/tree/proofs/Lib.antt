@@ -1,5 +1,6 @@
 pub mod Reading
 pub mod Filled
+pub mod Depth
 pub mod Ending
 pub mod Roots
 pub mod Steps

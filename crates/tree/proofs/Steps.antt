@@ -1,14 +1,20 @@
 -- A row that is read: its first record, the row inside it and the rest. For walks that come after refusal 5 was tested.
-use mathlib.Core.Path.{_≡_, refl, sym, _∙_}
+use mathlib.Core.Path.{_≡_, refl, sym, ap, _∙_}
 use mathlib.Core.Bool.{true, true≢false}
+use mathlib.Core.List.{List}
 use Prim.Native.Nat.{ℕ, zero, suc, _+_, _*_, _-_, _<_, _≤_}
 use native.Mathlib.Omega.{arith}
 use Rattle.paper.specs.Answer.{Answer, ok, refused}
+use Rattle.paper.specs.Bytes.{kids-at}
 use Rattle.paper.specs.Layout.{Part, nothing, before, row}
-use Rattle.tree.specs.Read.{got, fine, part, reads}
+use Rattle.record.specs.declared.Refusal.{Refusal}
+use Rattle.tree.specs.declared.Walked.{Walked}
+use Rattle.tree.specs.declared.Walked.the-variants.{End, Refused}
+use Rattle.tree.specs.Says.{ended}
+use Rattle.tree.specs.Read.{got, fine, part, reads, Rowed, Standing}
 use Rattle.laws.proofs.Written.{siblings-size}
 use Rattle.tree.proofs.Reading.{row-none}
-use Rattle.tree.proofs.Filled.{Full, full, row-parts}
+use Rattle.tree.proofs.Filled.{Full, full, row-parts, ended-ok, ended-no}
 
 pub fine-got : (x : Answer Part) → fine x ≡ true → x ≡ ok (got x)
 fine-got (ok p) e = refl
@@ -72,5 +78,23 @@ pub shallow : (li : ℕ) (kids : ℕ → ℕ) (n lv c k : ℕ) → reads li kids
 shallow li kids n zero zero k s h l = omega arith
 shallow li kids n zero (suc c) k s h l = absurd (no-deep li kids n 0 (suc c) k s (λ z. omega arith) refl)
 shallow li kids n (suc lv) c k s h l = omega (arith, few li kids n (suc lv) c k s h)
+
+-- ---- where a row and a tree end
+
+module _ (li : ℕ) (s : List ℕ) (n lv c k : ℕ) (w : Walked) (h : Rowed li s n lv c k) (ew : w ≡ ended (row li (kids-at s) n lv c k)) where
+  pub end-is : (j : ℕ) → w ≡ End j → j ≡ part li (kids-at s) n lv c k .next
+  end-is j e = ended-ok _ (row li (kids-at s) n lv c k) w j ew e λ p ep en. sym (ap (λ (z : Part). z .next) (part-is li (kids-at s) n lv c k p ep) ∙ en)
+
+  pub end-not : (t : Refusal) (j : ℕ) → w ≡ Refused t → j ≡ part li (kids-at s) n lv c k .next
+  end-not t j e = absurd (ended-no (row li (kids-at s) n lv c k) (part li (kids-at s) n lv c k) w t (was-read li (kids-at s) n lv c k (h .read)) ew e)
+
+-- the inside of a record, as a row
+pub stands-row : (li : ℕ) (s : List ℕ) (n lv k m : ℕ) → Standing li s n lv k → m ≡ kids-at s k → Rowed li s n lv m (k + 1)
+stands-row li s n lv k m h e = let t = h .there in rw e (record { whole = h .whole; small = h .small; within = omega arith; read = h .read })
+
+pub stands-past : (li : ℕ) (s : List ℕ) (n lv k m r : ℕ) → m ≡ kids-at s k → r ≡ part li (kids-at s) n lv m (k + 1) .next → r ≡ part li (kids-at s) n lv (kids-at s k) (k + 1) .next
+stands-past li s n lv k m r e f = f ∙ rw e
+
+pub ruleset ends = (end-is, end-not, stands-row, stands-past)
 
 pub ruleset steps = (reads-inner, reads-rest, next-in)

@@ -22,7 +22,7 @@ ghost use Rattle.paper.specs.Sound.{fitting};
 ghost use Rattle.paper.specs.Bytes.{in-pool, name-of, kind-at, kids-at};
 ghost use Rattle.paper.specs.Layout.{row, roots};
 ghost use Rattle.paper.specs.Decode.{decode};
-ghost use Rattle.tree.specs.Read.{reads};
+ghost use Rattle.tree.specs.Read.{part, reads, Rowed, Standing};
 ghost use Rattle.tree.specs.Says.{ended, rooted, decoded, Labelled};
 ghost use Rattle.tree.specs.Only.{only-read};
 
@@ -74,6 +74,26 @@ pub fn row_end(recs: &[u8], n: usize, slot: usize, count: u32, levels: usize, li
         left -= 1;
     }
     Walked::End(at)
+}
+
+// Where `count` trees end that were read from `slot` on: the slot behind their last record.
+pub fn row_past(recs: &[u8], n: usize, slot: usize, count: u32, levels: usize, list: u32) -> usize
+    requires { ⌜ Rowed list (now recs) n levels count slot ⌝ }
+    ensures { λ r. ⌜ r ≡ part list (kids-at (now (recs .entry))) n levels count slot .next ⌝ }
+{
+    let walked = row_end(recs, n, slot, count, levels, list);
+    let Walked::End(next) = walked else {
+        return slot;
+    };
+    next
+}
+
+// Where the tree at a slot ends, whose inside was read with so many levels left.
+pub fn tree_end(recs: &[u8], n: usize, slot: usize, levels: usize, list: u32) -> usize
+    requires { ⌜ Standing list (now recs) n levels slot ⌝ }
+    ensures { λ r. ⌜ r ≡ part list (kids-at (now (recs .entry))) n levels (kids-at (now (recs .entry)) slot) (slot + 1) .next ⌝ }
+{
+    row_past(recs, n, slot + 1, kids_at(recs, slot), levels, list)
 }
 
 // The number of roots, or refusal 5.

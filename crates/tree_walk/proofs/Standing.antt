@@ -1,5 +1,5 @@
 -- Of trees that stand there the first has its inside after it, and the rest follow. `search standing`.
-use mathlib.Core.Path.{_≡_, refl, sym, ap, _∙_}
+use mathlib.Core.Path.{_≡_, refl, sym, ap}
 use mathlib.Core.Logic.{⊎-elim}
 use mathlib.Core.List.{List}
 use Prim.Native.Nat.{ℕ, zero, suc, _+_, _-_, _*_, _<_, _≤_}
@@ -8,6 +8,7 @@ use lib.ListN.{length}
 use Rattle.paper.specs.Forest.{size}
 use Rattle.paper.specs.Bytes.{kids-at, slots}
 use Rattle.paper.specs.Layout.{Part, nothing, before}
+use Rattle.tree.specs.Read.{Rowed}
 use Rattle.tree.proofs.Filled.{Full, lt-or-le}
 use Rattle.tree.proofs.Steps.{part-none, part-in, part-full, no-deep, no-past, reads-inner, reads-rest}
 use Rattle.tree_walk.specs.There.{row-of, There}
@@ -15,6 +16,9 @@ use Rattle.tree_walk.specs.There.{row-of, There}
 above-zero : (i : ℕ) → (i ≡ 0 → ⊥) → 0 < i
 above-zero zero q = absurd (q refl)
 above-zero (suc i) q = omega arith
+
+pub there-row : (s : List ℕ) (lv c k : ℕ) → There s lv c k → Rowed 0 s (slots s) lv c k
+there-row s lv c k h = record { whole = omega arith; small = h .few; within = h .within; read = h .read }
 
 module _ (s : List ℕ) (lv c k : ℕ) where
   pub none-there : c ≤ 0 → row-of s lv c k ≡ nothing k
@@ -54,6 +58,9 @@ module _ (s : List ℕ) (lv c k : ℕ) where
         pub inner-there : There s (lv - 1) m (k + 1)
         inner-there = let w = record-left in record { few = h .few; within = omega arith; read = reads-inner 0 (kids-at s) (slots s) lv c k (h .read) m some-left em }
 
+        pub inner-row : Rowed 0 s (slots s) (lv - 1) m (k + 1)
+        inner-row = there-row s (lv - 1) m (k + 1) inner-there
+
         pub inner-past : row-of s (lv - 1) m (k + 1) .next ≡ k + 1 + size (row-of s (lv - 1) m (k + 1) .trees)
         inner-past = part-full 0 (kids-at s) (slots s) (lv - 1) m (k + 1) (inner-there .read) .next
 
@@ -65,23 +72,4 @@ module _ (s : List ℕ) (lv c k : ℕ) where
         pub rest-next : (j : ℕ) → j ≡ row-of s (lv - 1) m (k + 1) .next → row-of s lv (c - 1) j .next ≡ row-of s lv c k .next
         rest-next j e = rw e (sym (ap (λ (p : Part). p .next) split))
 
-pub ruleset standing = (level-left, level-falls, record-left, bytes-left, place-left, inner-there)
-
--- ---- the slot after the trees
-
-pub record Past (s : List ℕ) (lv c k left at : ℕ) : Type 0 where
-  pub there : There s lv left at
-  pub next : row-of s lv left at .next ≡ row-of s lv c k .next
-
-module _ (s : List ℕ) (lv c k : ℕ) where
-  pub past-starts : There s lv c k → Past s lv c k c k
-  past-starts h = record { there = h; next = refl }
-
-  module _ (left at : ℕ) (h : Past s lv c k left at) where
-    pub past-done : left ≤ 0 → at ≡ row-of s lv c k .next
-    past-done l = sym (ap (λ (p : Part). p .next) (none-there s lv left at l)) ∙ h .next
-
-    pub past-goes : (m j : ℕ) → 0 < left → m ≡ kids-at s at → j ≡ row-of s (lv - 1) m (at + 1) .next → Past s lv c k (left - 1) j
-    past-goes m j l em ej = record { there = rest-there s lv left at (h .there) l m em j ej; next = rest-next s lv left at (h .there) l m em j ej ∙ h .next }
-
-pub ruleset passing = (past-starts, past-done, past-goes)
+pub ruleset standing = (level-left, level-falls, record-left, bytes-left, place-left, inner-there, inner-row)

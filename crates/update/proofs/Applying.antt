@@ -3,7 +3,7 @@ use mathlib.Core.Path.{_≡_, refl, sym, ap, _∙_}
 use mathlib.Core.Bool.{true}
 use mathlib.Core.List.{List, []}
 use mathlib.Core.Option.{none}
-use Prim.Native.Nat.{ℕ, _+_, _%_, _≤_, _<_}
+use Prim.Native.Nat.{ℕ, _≤_, _<_}
 use native.Mathlib.Omega.{arith}
 use borrow.Author.Tests.{not-false}
 use lib.ListN.{length}
@@ -43,10 +43,6 @@ use Rattle.update_schema.specs.Deletions.{gone-ids, Gathered}
 use Rattle.update_schema.specs.Additions.{parents-in}
 use Rattle.update.specs.Updating.{schema-of, request-of, Opens, Decidable, Settled, Settles}
 use Rattle.update.proofs.Settling.{decode-parts, Contents, contents}
-
-pub shift-is : (x : ℕ) → ((x + 2147483648) % 4294967296 ≡ turned x) × ((x + 2147483648) % 4294967296 < 4294967296)
-unfolding turned
-shift-is x = (refl, omega arith)
 
 -- ---- the entry behind 6
 
@@ -141,9 +137,6 @@ module _ (s p i : List ℕ) (last : ℕ) (d a b r : List ℕ) (out text : List �
         module _ (e : ℕ) (q : y ≡ decided.Last e) where
           the-plan : Settled (planned (schema-of (passed .base) g) (request-of i r d a (passed .added))) r b g (passed .added) gone (entries d) us fs st (entries a) e
           the-plan = v .accepted (passed .base) (passed .added) (passed .read) e q
-
-          pub back-asks : e < 4294967296
-          back-asks = the-plan .most
 
           read-parts : Contents s p d a b r (passed .base) (passed .added)
           read-parts = contents s p d a b r (passed .base) (passed .added) (passed .read)

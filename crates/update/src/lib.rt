@@ -4,6 +4,9 @@ use plan::take_base;
 use record::Changed;
 use record::Check;
 use record::Refusal;
+use record::long;
+use record::turn;
+use record::turn_back;
 use update_request::Opened;
 use update_request::check_request;
 use update_schema::Decided;
@@ -18,19 +21,11 @@ ghost use Rattle.paper.specs.Entries.{update-entry};
 ghost use Rattle.update_write.specs.Ending.{Answers};
 ghost use Rattle.update.specs.Updating.{Opens, Decidable, Settles};
 
-// The last id plus 2^31, from its bits.
-fn turn(last_id: u32) -> u64
+// The last id plus 2^31, from its bits, to count on in 64 bits.
+fn counted(last_id: u32) -> u64
     ensures { λ r. ⌜ (r ≡ turned «last_id») × (r < 4294967296) ⌝ }
 {
-    (last_id as u64 + 2147483648) % 4294967296
-}
-
-// The bits of the last id, from it plus 2^31.
-fn turn_back(last: u64) -> u32
-    requires { ⌜ last < 4294967296 ⌝ }
-    ensures { λ r. ⌜ r ≡ turned last ⌝ }
-{
-    ((last + 2147483648) % 4294967296) as u32
+    long(turn(last_id))
 }
 
 // Decides all changes of a request that passed 2 to 6: refusals 7 to 9 of the base, 10, then 11 to 18, or what the rebuild needs. `last` is the last id plus 2^31.
@@ -151,7 +146,7 @@ fn apply_changes<'a>(
         records,
         pool,
         identifiers,
-        turn(last_id),
+        counted(last_id),
         deletions,
         additions,
         added,

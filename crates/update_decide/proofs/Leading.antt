@@ -17,7 +17,8 @@ use Rattle.record.specs.declared.Found.the-variants.{At, Nothing}
 use Rattle.record.specs.Says.{found-row, refusal-of}
 use Rattle.update_parents.specs.declared.Target.{Target}
 use Rattle.update_parents.specs.declared.Target.the-variants as target
-use Rattle.update_parents.specs.Target.{receiving, targeted, receiver-at, Standing, Stands}
+use Rattle.tree.specs.Read.{Standing}
+use Rattle.update_parents.specs.Target.{receiving, targeted, receiver-at, Stands}
 use Rattle.update_parents.proofs.Receiving.{receiver-is, receiving-stands}
 use Rattle.update_decide.specs.declared.Going.{Going}
 use Rattle.update_decide.specs.declared.Going.the-variants as going
@@ -47,7 +48,7 @@ unfolding targeted
 to-some none t j e f = cc
 to-some (some i) t j e f = let z : j ≡ record { 0 = i } = cc in rw z
 
-pub parent-stands : (f : Found) (pool s : List ℕ) (n : ℕ) (i : FieldId) (p : Slot) → f ≡ At i p → FoundSited pool s n f → Standing s n (p .0) × (ok-bytes s (p .0) ≡ true)
+pub parent-stands : (f : Found) (pool s : List ℕ) (n : ℕ) (i : FieldId) (p : Slot) → f ≡ At i p → FoundSited pool s n f → Standing 0 s n 15 (p .0) × (ok-bytes s (p .0) ≡ true)
 parent-stands f pool s n i p e h = let z = h .at i p e in (z .0 .stands, z .1)
 
 pub target-sited : (f : Found) (pool s : List ℕ) (n : ℕ) (i : FieldId) (p : Slot) (t : Target) (j : Slot) → f ≡ At i p → FoundSited pool s n f → t ≡ targeted (receiving s n (p .0)) → t ≡ target.Struct j → Sited pool s n (j .0)

@@ -1,15 +1,11 @@
 -- An addition: its own name and flags, the place that it goes to, its ids.
-use Prim.Native.Nat.{ℕ, suc, _+_, _*_, _%_, _<_, _≤_}
+use Prim.Native.Nat.{ℕ, _+_, _<_, _≤_}
 use mathlib.Core.Path.{_≡_, refl, sym, ap, _∙_}
-use mathlib.Core.Bool.{Bool, true, false, _||_}
+use mathlib.Core.Bool.{Bool, true, false}
 use mathlib.Core.List.{List}
 use mathlib.Core.Option.{Option, none, some}
-use native.Mathlib.Omega.{arith}
 use native.Mathlib.Numerals.{add-one}
 use borrow.Author.Tests.{eq-eqb, ne-eqb, lt-ltb, le-ltb}
-use lib.Dec.{eqb}
-use lib.ListN.{length, getD, drop}
-use lib.Seq.{drop-cons, drop-length}
 use Rattle.paper.specs.Answer.{_>>=_, among}
 use Rattle.paper.specs.Rows.{Row}
 use Rattle.paper.specs.Bytes.{turned, rec-at, name-of}
@@ -27,30 +23,6 @@ use Rattle.update_decide.specs.declared.Fresh.the-variants as fresh
 use Rattle.update_decide.specs.Entry.{Known, unbarred, goes, root-place, AtRoot, under-place, freshly}
 use Rattle.update_decide.proofs.Deleting.{at-none, nothing-some, id-back}
 
--- ---- a dot
-
-pub record Dotless (x : List ℕ) (i : ℕ) : Type 0 where
-  pub within : i ≤ length x
-  pub same : among 46 x ≡ among 46 (drop i x)
-
-pub dot-starts : (x : List ℕ) → Dotless x 0
-dot-starts x = record { within = omega arith; same = refl }
-
-module _ (x : List ℕ) (i : ℕ) (H : Dotless x i) where
-  pub dot-ends : length x ≤ i → false ≡ among 46 x
-  dot-ends l = let h = H .within in let e : i ≡ length x = omega arith in sym (H .same ∙ rw (e, drop-length x))
-
-  step : i < length x → among 46 x ≡ (eqb 46 (getD x i 0) || among 46 (drop (suc i) x))
-  step l = H .same ∙ ap (λ (z : List ℕ). among 46 z) (drop-cons x i 0 l)
-
-  pub dot-found : i < length x → getD x i 0 ≡ 46 → true ≡ among 46 x
-  dot-found l f = sym (step l ∙ ap (λ (z : Bool). z || among 46 (drop (suc i) x)) (eq-eqb 46 (getD x i 0) (sym f)))
-
-  pub dot-goes : i < length x → (getD x i 0 ≡ 46 → ⊥) → Dotless x (i + 1)
-  dot-goes l f = record { within = omega arith; same = rw (add-one i) (step l ∙ ap (λ (z : Bool). z || among 46 (drop (suc i) x)) (ne-eqb 46 (getD x i 0) (λ q. f (sym q)))) }
-
-pub ruleset dotting = (dot-starts, dot-ends, dot-found, dot-goes)
-
 -- ---- 13 and 14
 
 module _ (pool s : List ℕ) (k p : ℕ) (y : List ℕ) (b : Bool) (ey : y ≡ name-of pool s k) (eb : b ≡ among 46 y) where
@@ -62,13 +34,13 @@ module _ (pool s : List ℕ) (k p : ℕ) (y : List ℕ) (b : Bool) (ey : y ≡ n
   added-dot q = rw (dot, q)
 
   module _ (q : b ≡ false) where
-    pub added-required : getD s (k * 24 + 10) 0 ≡ 1 → check.Refused (refusal-of 14 3 p) ≡ checked (unbarred pool s k p)
+    pub added-required : (f : ℕ) → f ≡ rec-at s k .flags → f ≡ 1 → check.Refused (refusal-of 14 3 p) ≡ checked (unbarred pool s k p)
     unfolding unbarred _>>=_ checked
-    added-required g = rw (dot, q, eq-eqb (rec-at s k .flags) 1 g)
+    added-required f e g = rw (dot, q, ← e, eq-eqb f 1 g)
 
-    pub added-fine : (getD s (k * 24 + 10) 0 ≡ 1 → ⊥) → check.Fine ≡ checked (unbarred pool s k p)
+    pub added-fine : (f : ℕ) → f ≡ rec-at s k .flags → (f ≡ 1 → ⊥) → check.Fine ≡ checked (unbarred pool s k p)
     unfolding unbarred _>>=_ checked
-    added-fine g = rw (dot, q, ne-eqb (rec-at s k .flags) 1 g)
+    added-fine f e g = rw (dot, q, ← e, ne-eqb f 1 g)
 
 pub ruleset adding = (added-dot, added-required, added-fine)
 
@@ -134,8 +106,8 @@ pub fresh-over : (last m k : ℕ) → 4294967295 < last + m → fresh.Refused (r
 unfolding freshly
 fresh-over last m k h = rw (lt-ltb 4294967295 (last + m) h)
 
-pub fresh-ids : (last m k : ℕ) → last + m ≤ 4294967295 → fresh.Ids ((last + 1 + 2147483648) % 4294967296) (last + m) ≡ freshly last m k
-unfolding freshly turned
-fresh-ids last m k h = rw (le-ltb 4294967295 (last + m) h, add-one last)
+pub fresh-ids : (last m k start : ℕ) → last + m ≤ 4294967295 → start ≡ turned (last + 1) → fresh.Ids start (last + m) ≡ freshly last m k
+unfolding freshly
+fresh-ids last m k start h e = rw (le-ltb 4294967295 (last + m) h, e, add-one last)
 
 pub ruleset assigning = (fresh-over, fresh-ids)

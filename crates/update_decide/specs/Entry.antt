@@ -17,7 +17,8 @@ use Rattle.record.specs.declared.Slot.{Slot}
 use Rattle.record.specs.declared.Found.{Found}
 use Rattle.record.specs.declared.Found.the-variants as found
 use Rattle.record.specs.Says.{refusal-of, found-row}
-use Rattle.update_parents.specs.Target.{members-at, Standing, Stands}
+use Rattle.tree.specs.Read.{Standing}
+use Rattle.update_parents.specs.Target.{members-at, Stands}
 use Rattle.update_decide.specs.declared.Dropping.{Dropping}
 use Rattle.update_decide.specs.declared.Dropping.the-variants as dropping
 use Rattle.update_decide.specs.declared.Going.{Going}
@@ -75,7 +76,7 @@ under-place pool s n slot ds k x = do
 
 -- A record at a slot, in a list whose names are in their pool.
 pub record Sited (pool s : List ℕ) (n slot : ℕ) : Type 0 where
-  pub stands : Standing s n slot
+  pub stands : Standing 0 s n 15 slot
   pub named : lowest (in-pool (length pool) s) 0 n ≡ none
 
 -- 15 the path finds nothing, 16 leads to no struct, then 17

@@ -3,8 +3,12 @@ use record::Check;
 use record::FieldId;
 use record::Found;
 use record::Refusal;
-use record::le32;
+use record::flags_at;
+use record::has_dot;
+use record::id_bits_at;
 use record::name_at;
+use record::turn_back;
+use record::under_of;
 use record_entries::id_at;
 use update_dropped::Dropped;
 use update_parents::Target;
@@ -80,20 +84,6 @@ pub fn drop_one(found: Found, identifiers: &[u8], place: u32) -> Dropping
     Dropping::Gone(id)
 }
 
-// Whether a name has a dot.
-pub fn has_dot(name: &[u8]) -> bool
-    ensures { λ r. ⌜ r ≡ among 46 (now (name .entry)) ⌝ }
-{
-    let mut i = 0;
-    while i < name.len() {
-        if name[i] == 46 {
-            return true;
-        }
-        i += 1;
-    }
-    false
-}
-
 // Refusals 13 and 14 of the added column at a slot: a dot in its own name; required, without initial default.
 pub fn check_added(recs: &[u8], pool: &[u8], slot: usize, place: u32) -> Check
     requires { ⌜ (slot * 24 + 24 ≤ length (now recs)) × (in-pool (length (now pool)) (now recs) slot ≡ true) ⌝ }
@@ -107,7 +97,7 @@ pub fn check_added(recs: &[u8], pool: &[u8], slot: usize, place: u32) -> Check
             place,
         });
     }
-    if recs[slot * 24 + 10] == 1 {
+    if flags_at(recs, slot) == 1 {
         // refusal 14
         return Check::Refused(Refusal {
             number: 14,
@@ -137,12 +127,6 @@ pub fn place_at_root(found: Found, place: u32, dropped: Dropped) -> Going
     })
 }
 
-fn under_of(id: u32) -> u64
-    ensures { λ r. ⌜ r ≡ id + 1 ⌝ }
-{
-    id as u64 + 1
-}
-
 // The struct at a slot takes an addition unless a member that stays has its name; in a dropped struct every name is free.
 fn join(
     recs: &[u8],
@@ -156,7 +140,7 @@ fn join(
     requires { ⌜ Sited (now pool) (now recs) n slot × Good dropped ⌝ }
     ensures { λ r. ⌜ r ≡ goes (under-place (now (pool .entry)) (now (recs .entry)) n slot (dropped-ids dropped) place (now (name .entry))) ⌝ }
 {
-    let id = le32(recs, slot * 24);
+    let id = id_bits_at(recs, slot);
     if dropped.contains(FieldId(id)) {
         return Going::Under(under_of(id));
     }
@@ -218,5 +202,5 @@ pub fn assign_fresh_ids(last: u64, records: usize, place: u32) -> Fresh
             place,
         });
     }
-    Fresh::Ids(((last + 1 + 2147483648) % 4294967296) as u32, end)
+    Fresh::Ids(turn_back(last + 1), end)
 }

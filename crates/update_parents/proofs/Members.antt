@@ -10,17 +10,16 @@ use Rattle.paper.specs.Bytes.{turned, rec-at, kids-at, name-of, field-at}
 use Rattle.paper.specs.Layout.{Part}
 use Rattle.paper.specs.Decode.{fields}
 use Rattle.paper.specs.Update.{member-taken}
-use Rattle.tree.specs.Read.{part, reads}
+use Rattle.tree.specs.Read.{part, reads, Standing}
 use Rattle.tree.proofs.Steps.{part-none}
-use Rattle.update_rebuild.specs.Planned.{Inside}
-use Rattle.update_parents.specs.Target.{members-at, Standing}
+use Rattle.update_parents.specs.Target.{members-at}
 use Rattle.update_parents.proofs.Receiving.{First, first-of}
 
 pub record Scanning (pool s : List ℕ) (n k : ℕ) (x ds : List ℕ) (left at : ℕ) : Type 0 where
   pub read : reads 0 (kids-at s) n 15 left at ≡ true
   pub same : member-taken (members-at pool s n k) x ds ≡ member-taken (fields pool s (part 0 (kids-at s) n 15 left at .trees)) x ds
 
-pub scan-starts : (pool s : List ℕ) (n k : ℕ) (x ds : List ℕ) (c : ℕ) → Standing s n k → c ≡ kids-at s k → Scanning pool s n k x ds c (k + 1)
+pub scan-starts : (pool s : List ℕ) (n k : ℕ) (x ds : List ℕ) (c : ℕ) → Standing 0 s n 15 k → c ≡ kids-at s k → Scanning pool s n k x ds c (k + 1)
 unfolding members-at
 scan-starts pool s n k x ds c h e = rw e (record { read = h .read; same = refl })
 
@@ -36,8 +35,8 @@ module _ (pool s : List ℕ) (n k : ℕ) (x ds : List ℕ) (left at : ℕ) (H : 
     pub scan-in : at < n
     scan-in = here .there
 
-    pub scan-inside : Standing s n k → Inside s n 15 at
-    scan-inside h = let f = here in let i = f .there in record { there = i; low = omega arith; most = omega arith; inside = record { whole = h .whole; small = h .small; within = omega arith; levels = omega arith; read = f .inner } }
+    pub scan-stands : Standing 0 s n 15 k → Standing 0 s n 14 at
+    scan-stands h = record { whole = h .whole; small = h .small; there = here .there; read = here .inner }
 
     step : member-taken (members-at pool s n k) x ds
         ≡ cond (same (name-of pool s at) x && not (among (turned (rec-at s at .id)) ds)) true (member-taken (fields pool s (part 0 (kids-at s) n 15 (left - 1) (part 0 (kids-at s) n 14 (kids-at s at) (at + 1) .next) .trees)) x ds)

@@ -18,13 +18,12 @@ use Rattle.paper.specs.Decode.{fields}
 use Rattle.paper.specs.Update.{as-struct, beyond, receiver}
 use Rattle.laws.proofs.Basics.{none≢some, some-is}
 use Rattle.laws.proofs.RoundTrip.{both}
-use Rattle.tree.specs.Read.{part, reads}
+use Rattle.tree.specs.Read.{part, reads, Standing}
 use Rattle.tree.proofs.Steps.{part-is, reads-is, part-in, was-read, no-past, reads-inner, reads-rest}
-use Rattle.update_rebuild.specs.Planned.{Inside}
-use Rattle.update_rebuild.proofs.Depth.{row-is-low, row-reads-low}
+use Rattle.tree.proofs.Depth.{row-is-low, row-reads-low}
 use Rattle.update_parents.specs.declared.Target.{Target}
 use Rattle.update_parents.specs.declared.Target.the-variants as target
-use Rattle.update_parents.specs.Target.{struct-at, value-slot, step-from, receiving, targeted, members-at, receiver-at, Standing}
+use Rattle.update_parents.specs.Target.{struct-at, value-slot, step-from, receiving, targeted, members-at, receiver-at}
 
 -- ---- a list has one member, a map two
 
@@ -63,7 +62,7 @@ fitting-kids s k e =
     let e₃ = both (kids-fit (r .kind) (r .kids) && ltb (r .flags) 4) (eqb (r .byte11) 0) (e₂ .0) in
     both (kids-fit (r .kind) (r .kids)) (ltb (r .flags) 4) (e₃ .0) .0
 
-module _ (s : List ℕ) (n k : ℕ) (h : Standing s n k) where
+module _ (s : List ℕ) (n k : ℕ) (h : Standing 0 s n 15 k) where
   pub list-one : ok-bytes s k ≡ true → kind-at s k ≡ Listing → kids-at s k ≡ 1
   list-one b e = list-kids (rec-at s k .kind) (rec-at s k .kids) e (fitting-kids s k b)
 
@@ -96,7 +95,7 @@ first-of s n c j z h =
       rest = reads-rest 0 (kids-at s) n 15 c j h (kids-at s j) z refl _ refl;
     }
 
-module _ (s : List ℕ) (n k : ℕ) (h : Standing s n k) where
+module _ (s : List ℕ) (n k : ℕ) (h : Standing 0 s n 15 k) where
   first-member : (c : ℕ) → kids-at s k ≡ suc c → First s n (suc c) (k + 1)
   first-member c e = first-of s n (suc c) (k + 1) (λ z. omega arith) (rw e at (h .read))
 
@@ -107,7 +106,7 @@ module _ (s : List ℕ) (n k : ℕ) (h : Standing s n k) where
   pub value-in : kids-at s k ≡ 2 → value-slot s n k < n
   value-in e = value-first e .there
 
-  pub value-ends : (r : ℕ) → kids-at s k ≡ 2 → r ≡ part 0 (kids-at s) n (15 - 1) (kids-at s (k + 1)) (k + 1 + 1) .next → (r ≡ value-slot s n k) × (r < n)
+  pub value-ends : (r : ℕ) → kids-at s k ≡ 2 → r ≡ part 0 (kids-at s) n 14 (kids-at s (k + 1)) (k + 1 + 1) .next → (r ≡ value-slot s n k) × (r < n)
   unfolding value-slot
   value-ends r e f = let v = value-in e in (f, rw f v)
 
@@ -115,26 +114,23 @@ module _ (s : List ℕ) (n k : ℕ) (h : Standing s n k) where
   element-in e = first-member 0 e .there
 
   -- the key, for the walk over its inside
-  pub key-inside : kids-at s k ≡ 2 → Inside s n 15 (k + 1)
-  key-inside e =
-      let f = first-member 1 e in
-      let i = f .there in
-      record { there = i; low = omega arith; most = omega arith; inside = record { whole = h .whole; small = h .small; within = omega arith; levels = omega arith; read = f .inner } }
+  pub key-stands : kids-at s k ≡ 2 → Standing 0 s n 14 (k + 1)
+  key-stands e = let f = first-member 1 e in record { whole = h .whole; small = h .small; there = f .there; read = f .inner }
 
-  standing-at : (c j : ℕ) → First s n c j → Standing s n j
+  standing-at : (c j : ℕ) → First s n c j → Standing 0 s n 15 j
   standing-at c j f = record { whole = h .whole; small = h .small; there = f .there; read = reads-is 0 (kids-at s) n 15 (kids-at s j) (j + 1) _ (deeper s n 14 (kids-at s j) (j + 1) 15 (omega arith) (f .inner)) }
 
-  pub receiving-stands : (j : ℕ) → ok-bytes s k ≡ true → receiving s n k ≡ some j → Standing s n j
+  pub receiving-stands : (j : ℕ) → ok-bytes s k ≡ true → receiving s n k ≡ some j → Standing 0 s n 15 j
   unfolding receiving
   receiving-stands j b e = go (kind-at s k) refl e
     where
-      at-struct : (i : ℕ) (q : Bool) → Standing s n i → cond q (some i) none ≡ some j → Standing s n j
-      at-struct i true st f = subst (Standing s n) (some-is f) st
+      at-struct : (i : ℕ) (q : Bool) → Standing 0 s n 15 i → cond q (some i) none ≡ some j → Standing 0 s n 15 j
+      at-struct i true st f = subst (Standing 0 s n 15) (some-is f) st
       at-struct i false st f = absurd (none≢some f)
 
-      go : (K : Kind) → kind-at s k ≡ K → step-from s n k K ≡ some j → Standing s n j
+      go : (K : Kind) → kind-at s k ≡ K → step-from s n k K ≡ some j → Standing 0 s n 15 j
       go Primitive q f = absurd (none≢some f)
-      go Structure q f = subst (Standing s n) (some-is f) h
+      go Structure q f = subst (Standing 0 s n 15) (some-is f) h
       go Listing q f = at-struct (k + 1) (is-struct (kind-at s (k + 1))) (standing-at 1 (k + 1) (first-member 0 (list-one s n k h b q))) f
       go Mapping q f = at-struct (value-slot s n k) (is-struct (kind-at s (value-slot s n k))) (standing-at 1 (value-slot s n k) (value-first (map-two s n k h b q))) f
 
@@ -165,7 +161,7 @@ module _ (pool s : List ℕ) (n : ℕ) where
   unfolding value-slot
   struct-second k f g = ap (λ (z : Forest Field). as-struct (beyond z)) (first-fields 2 (k + 1) f) ∙ struct-first 1 (value-slot s n k) g
 
-  pub receiver-is : (k : ℕ) → Standing s n k → ok-bytes s k ≡ true → receiver (field-at pool s k) (fields pool s (part 0 (kids-at s) n 15 (kids-at s k) (k + 1) .trees)) (kind-at s k) ≡ receiver-at pool s n (receiving s n k)
+  pub receiver-is : (k : ℕ) → Standing 0 s n 15 k → ok-bytes s k ≡ true → receiver (field-at pool s k) (fields pool s (part 0 (kids-at s) n 15 (kids-at s k) (k + 1) .trees)) (kind-at s k) ≡ receiver-at pool s n (receiving s n k)
   unfolding receiving field-at members-at
   receiver-is k h b = go (kind-at s k) refl
     where
@@ -194,10 +190,10 @@ module _ (s : List ℕ) (n k : ℕ) (K : Kind) (e : K ≡ kind-at s k) where
   unfolding receiving
   to-value r v q f a = let z : kind-at s k ≡ Mapping = sym e ∙ q in rw (z, ← f) a
 
-  pub list-kid : Standing s n k → ok-bytes s k ≡ true → K ≡ Listing → kids-at s k ≡ 1
+  pub list-kid : Standing 0 s n 15 k → ok-bytes s k ≡ true → K ≡ Listing → kids-at s k ≡ 1
   list-kid h b q = list-one s n k h b (sym e ∙ q)
 
-  pub map-kid : Standing s n k → ok-bytes s k ≡ true → K ≡ Mapping → kids-at s k ≡ 2
+  pub map-kid : Standing 0 s n 15 k → ok-bytes s k ≡ true → K ≡ Mapping → kids-at s k ≡ 2
   map-kid h b q = map-two s n k h b (sym e ∙ q)
 
 pub at-struct : (s : List ℕ) (j : ℕ) (K : Kind) (b : Bool) → K ≡ kind-at s j → b ≡ is-struct K → b ≡ true → target.Struct (record { 0 = j }) ≡ targeted (struct-at s j)

@@ -1,10 +1,9 @@
 -- The struct that receives additions, by its slot, and what stands at a slot.
-use Prim.Native.Nat.{ℕ, _+_, _*_, _≤_, _<_}
+use Prim.Native.Nat.{ℕ, _+_, _<_}
 use mathlib.Core.Path.{_≡_}
 use mathlib.Core.Bool.{true, cond}
 use mathlib.Core.List.{List}
 use mathlib.Core.Option.{Option, none, some}
-use lib.ListN.{length}
 use Rattle.paper.specs.declared.Kind.{Kind}
 use Rattle.paper.specs.declared.Kind.the-variants.{Primitive, Structure, Listing, Mapping}
 use Rattle.paper.specs.Forest.{Forest}
@@ -46,13 +45,6 @@ members-at pool s n k = fields pool s (part 0 (kids-at s) n 15 (kids-at s k) (k 
 abbrev pub receiver-at : (pool s : List ℕ) (n : ℕ) → Option ℕ → Option Receiver
 receiver-at pool s n none = none
 receiver-at pool s n (some k) = some (record { id = turned (rec-at s k .id); members = members-at pool s n k })
-
--- A record at slot k of n, whose inside was read.
-pub record Standing (s : List ℕ) (n k : ℕ) : Type 0 where
-  pub whole : n * 24 ≤ length s
-  pub small : n ≤ 1024
-  pub there : k < n
-  pub read : reads 0 (kids-at s) n 15 (kids-at s k) (k + 1) ≡ true
 
 -- A row is the record at its slot, whose inside was read.
 pub record Stands (pool s : List ℕ) (n : ℕ) (r : Row) : Type 0 where

@@ -4,22 +4,23 @@ use paper::is_struct;
 use record::FieldId;
 use record::Slot;
 use record::equal;
+use record::id_bits_at;
 use record::kids_at;
 use record::kind_at;
-use record::le32;
 use record::name_at;
+use tree::tree_end;
 use update_dropped::Dropped;
-use update_rebuild::tree_end;
 ghost use mathlib.Core.Path.{_≡_};
 ghost use mathlib.Core.Bool.{true, not, _&&_};
 ghost use mathlib.Core.Option.{none};
 ghost use Prim.Native.Nat.{_+_, _*_, _≤_, _<_};
 ghost use lib.ListN.{length};
+ghost use Rattle.tree.specs.Read.{Standing};
 ghost use Rattle.update_dropped.specs.Set.{dropped-ids, Good};
 ghost use Rattle.paper.specs.Answer.{among, same, lowest};
 ghost use Rattle.paper.specs.Bytes.{turned, rec-at, kids-at, name-of, ok-bytes, in-pool};
 ghost use Rattle.paper.specs.Update.{member-taken};
-ghost use Rattle.update_parents.specs.Target.{struct-at, value-slot, receiving, targeted, members-at, Standing};
+ghost use Rattle.update_parents.specs.Target.{struct-at, value-slot, receiving, targeted, members-at};
 
 // The struct that receives an addition, or nothing: refusal 16.
 pub enum Target {
@@ -39,15 +40,15 @@ fn as_struct(recs: &[u8], slot: usize) -> Target
 
 // A map's value: it comes after the key and the key's inside.
 fn value_at(recs: &[u8], n: usize, slot: usize) -> usize
-    requires { ⌜ Standing (now recs) n slot × (kids-at (now recs) slot ≡ 2) ⌝ }
+    requires { ⌜ Standing 0 (now recs) n 15 slot × (kids-at (now recs) slot ≡ 2) ⌝ }
     ensures { λ r. ⌜ (r ≡ value-slot (now (recs .entry)) n slot) × (r < n) ⌝ }
 {
-    tree_end(recs, n, slot + 1, 15)
+    tree_end(recs, n, slot + 1, 14, 0)
 }
 
 // One step from a parent to the struct that receives the addition: itself, a list's element, a map's value.
 pub fn resolve_parent_target(recs: &[u8], n: usize, slot: usize) -> Target
-    requires { ⌜ Standing (now recs) n slot × (ok-bytes (now recs) slot ≡ true) ⌝ }
+    requires { ⌜ Standing 0 (now recs) n 15 slot × (ok-bytes (now recs) slot ≡ true) ⌝ }
     ensures { λ r. ⌜ r ≡ targeted (receiving (now (recs .entry)) n slot) ⌝ }
 {
     match kind_at(recs, slot) {
@@ -64,7 +65,7 @@ fn takes(recs: &[u8], pool: &[u8], slot: usize, name: &[u8], dropped: Dropped) -
     ensures { λ r. ⌜ r ≡ (same (name-of (now (pool .entry)) (now (recs .entry)) slot) (now (name .entry)) && not (among (turned (rec-at (now (recs .entry)) slot .id)) (dropped-ids dropped))) ⌝ }
 {
     if equal(name_at(pool, recs, slot), name) {
-        return !dropped.contains(FieldId(le32(recs, slot * 24)));
+        return !dropped.contains(FieldId(id_bits_at(recs, slot)));
     }
     false
 }
@@ -78,7 +79,7 @@ pub fn name_taken(
     name: &[u8],
     dropped: Dropped,
 ) -> bool
-    requires { ⌜ Standing (now recs) n slot × (lowest (in-pool (length (now pool)) (now recs)) 0 n ≡ none) × Good dropped ⌝ }
+    requires { ⌜ Standing 0 (now recs) n 15 slot × (lowest (in-pool (length (now pool)) (now recs)) 0 n ≡ none) × Good dropped ⌝ }
     ensures { λ r. ⌜ r ≡ member-taken (members-at (now (pool .entry)) (now (recs .entry)) n slot) (now (name .entry)) (dropped-ids dropped) ⌝ }
 {
     let mut left = kids_at(recs, slot);
@@ -87,7 +88,7 @@ pub fn name_taken(
         if takes(recs, pool, at, name, dropped) {
             return true;
         }
-        at = tree_end(recs, n, at, 15);
+        at = tree_end(recs, n, at, 14, 0);
         left -= 1;
     }
     false

@@ -1,4 +1,3 @@
-pub mod Depth
 pub mod Onward
 pub mod Adding
 pub mod Trees

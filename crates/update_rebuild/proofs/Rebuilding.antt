@@ -6,19 +6,14 @@ use mathlib.Core.Option.{Option, some}
 use Prim.Native.Nat.{ℕ, _+_, _-_, _<_, _≤_}
 use native.Mathlib.Omega.{arith}
 use lib.ListN.{set}
-use Rattle.record.specs.declared.Refusal.{Refusal}
 use Rattle.paper.specs.Answer.{among}
 use Rattle.paper.specs.Forest.{Forest, empty, node, size, siblings, levels, mapped, _then_}
 use Rattle.paper.specs.Field.{is-struct}
 use Rattle.paper.specs.Bytes.{turned, rec-at, kind-at, kids-at}
-use Rattle.paper.specs.Layout.{Part, before, row}
+use Rattle.paper.specs.Layout.{Part, before}
 use Rattle.paper.specs.Rebuild.{Addition, arriving, rebuilt}
-use Rattle.tree.specs.Says.{ended}
-use Rattle.tree.specs.declared.Walked.{Walked}
-use Rattle.tree.specs.declared.Walked.the-variants.{End, Refused}
-use Rattle.tree.specs.Read.{part}
-use Rattle.tree.proofs.Filled.{ended-ok}
-use Rattle.tree.proofs.Steps.{part-is, part-none, part-in, was-read, no-deep, no-past, reads-inner, reads-rest, next-in}
+use Rattle.tree.specs.Read.{part, Standing}
+use Rattle.tree.proofs.Steps.{part-none, part-in, no-deep, no-past, reads-inner, reads-rest, next-in}
 use Rattle.plan.specs.Plan.{Source}
 use Rattle.plan.proofs.Laying.{laid-closed}
 use Rattle.update_rebuild.specs.declared.Head.{Head}
@@ -28,23 +23,11 @@ use Rattle.update_rebuild.specs.declared.Step.the-variants.{Went, Full}
 use Rattle.update_rebuild.specs.Sources.{base-source, parent, rebuilt-row, rebuilt-one}
 use Rattle.update_rebuild.specs.Planned.{Readable, Inside, Whole, Over, Planned, HeadOf, closing, RowPlanned, OnePlanned}
 use Rattle.update_rebuild.proofs.Onward.{planned-none, Onward, onward-starts, onward-same, onward-goes, onward-stops, went-whole, full-over}
-use Rattle.update_rebuild.proofs.Trees.{ended-no}
 
 -- ---- whether a record goes
 
 pub gone-asked : (s ds : List ℕ) (k x : ℕ) (b g : Bool) → b ≡ true → x ≡ rec-at s k .id → g ≡ among (turned x) ds → g ≡ (b && among (turned (rec-at s k .id)) ds)
 gone-asked s ds k x b g eb ex eg = rw (eb, ← ex) eg
-
--- ---- where a record with its inside ends
-
-module _ (s : List ℕ) (n lv k m : ℕ) (w : Walked) (h : Inside s n lv k) (em : m ≡ kids-at s k) (ew : w ≡ ended (row 0 (kids-at s) n (lv - 1) m (k + 1))) where
-  pub next-is : (j : ℕ) → w ≡ End j → j ≡ part 0 (kids-at s) n (lv - 1) (kids-at s k) (k + 1) .next
-  next-is j e = ended-ok _ (row 0 (kids-at s) n (lv - 1) m (k + 1)) w j ew e λ p ep en. sym (rw (← em) (ap (λ (z : Part). z .next) (part-is 0 (kids-at s) n (lv - 1) m (k + 1) p ep) ∙ en))
-
-  pub next-not : (t : Refusal) (j : ℕ) → w ≡ Refused t → j ≡ part 0 (kids-at s) n (lv - 1) (kids-at s k) (k + 1) .next
-  next-not t j e = absurd (ended-no (row 0 (kids-at s) n (lv - 1) (kids-at s k) (k + 1)) (part 0 (kids-at s) n (lv - 1) (kids-at s k) (k + 1)) w t (was-read 0 (kids-at s) n (lv - 1) (kids-at s k) (k + 1) (h .inside .read)) (rw (← em) ew) e)
-
-pub ruleset nexts = (next-is, next-not)
 
 -- ---- the end of a row
 
@@ -96,6 +79,9 @@ node-over a y lv i h = record { over = λ l m. h .over (omega arith) (omega arit
 node-wide : (a : Source) (y : Forest Source) (lv i : ℕ) → 1024 ≤ i → Over (node a y empty) lv i
 unfolding size
 node-wide a y lv i h = record { over = λ l m. omega arith }
+
+pub inside-stands : (s : List ℕ) (n lv k : ℕ) → Inside s n lv k → Standing 0 s n (lv - 1) k
+inside-stands s n lv k h = record { whole = h .inside .whole; small = h .inside .small; there = h .there; read = h .inside .read }
 
 pub inside-asked : (s : List ℕ) (n lv k : ℕ) (h : Head) → Inside s n lv k → HeadOf s k h → Readable s n (lv - 1) (h .members) (k + 1)
 inside-asked s n lv k h i e = rw (e .members) (i .inside)

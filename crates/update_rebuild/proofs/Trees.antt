@@ -7,7 +7,6 @@ use native.Mathlib.Nat.{suc-add}
 use native.Mathlib.Omega.{arith}
 use lib.Seq.{sets}
 use Rattle.record.specs.declared.Refusal.{Refusal}
-use Rattle.paper.specs.Answer.{Answer, ok, refused}
 use Rattle.paper.specs.Forest.{Forest, empty, node, size, siblings, levels, preorder, counts}
 use Rattle.paper.specs.Bytes.{turned, kids-at, from}
 use Rattle.paper.specs.Layout.{Part, row}
@@ -17,13 +16,13 @@ use Rattle.tree.specs.Says.{ended}
 use Rattle.tree.specs.declared.Walked.{Walked}
 use Rattle.tree.specs.declared.Walked.the-variants.{End, Refused}
 use Rattle.tree.specs.Read.{part, reads, itself}
-use Rattle.tree.proofs.Filled.{ended-ok, full, Full}
+use Rattle.tree.proofs.Filled.{ended-ok, ended-no, full, Full}
+use Rattle.tree.proofs.Depth.{row-is-low, row-reads-low}
 use Rattle.tree.proofs.Steps.{part-is, was-read}
 use Rattle.plan.specs.Plan.{slot-of, bits-of}
 use Rattle.update_rebuild.specs.declared.Step.the-variants as step
 use Rattle.update_rebuild.specs.Sources.{added-source, added-tree}
 use Rattle.update_rebuild.specs.Planned.{Planned, Ranged}
-use Rattle.update_rebuild.proofs.Depth.{row-is-low, row-reads-low}
 
 -- ---- numbers given
 
@@ -68,11 +67,6 @@ row-found P s n k lv e w l ew ee f =
     ended-ok P (row 1 (kids-at s) n lv 1 k) w e ew ee λ p ep en.
     let h = row-is-low 1 (kids-at s) n lv 1 k p ep in
     f p (part-is 1 (kids-at s) n 16 1 k p (row-reads-low 1 (kids-at s) n lv 1 k 16 p ep (omega arith))) (full 1 (kids-at s) n lv 1 k p ep) h en
-
-pub ended-no : (x : Answer Part) (p : Part) (w : Walked) (t : Refusal) → x ≡ ok p → w ≡ ended x → w ≡ Refused t → ⊥
-unfolding ended
-ended-no (ok a) p w t e ew et = let z : _≡_ {A = ℕ} 0 1 = cc in omega arith
-ended-no (refused n l k) p w t e ew et = let z : _≡_ {A = ℕ} 0 1 = cc in omega arith
 
 module _ (s : List ℕ) (n k id past lv i c : ℕ) (xs is ks : List ℕ) (w : Walked) (l : lv ≤ 16) (ew : w ≡ ended (row 1 (kids-at s) n lv 1 k)) where
   pub tree-ends : (e : ℕ) → w ≡ End e → k ≤ n → (k ≤ e) × (e ≤ n)

@@ -1,22 +1,26 @@
 // The rebuild of an update, as a plan: dropped members go with their subtrees, additions follow the survivors.
 use paper::is_struct;
 use record::FieldId;
+use record::id_bits_at;
 use record::kids_at;
 use record::kind_at;
-use record::le32;
+use record::long;
+use record::low_32;
+use record::under_of;
 use tree::Walked;
 use tree::row_end;
+use tree::tree_end;
 use update_dropped::Dropped;
 ghost use mathlib.Core.Path.{_≡_};
 ghost use mathlib.Core.Bool.{true, _&&_};
-ghost use Prim.Native.Nat.{_+_, _-_, _*_, _%_, _≤_, _<_};
+ghost use Prim.Native.Nat.{_+_, _-_, _*_, _≤_, _<_};
 ghost use lib.ListN.{length};
 ghost use Rattle.update_dropped.specs.Set.{dropped-ids, Good};
 ghost use Rattle.paper.specs.Answer.{among};
 ghost use Rattle.paper.specs.Bytes.{turned, rec-at, kids-at, kind-at};
 ghost use Rattle.paper.specs.Field.{is-struct};
 ghost use Rattle.paper.specs.Rebuild.{arriving};
-ghost use Rattle.tree.specs.Read.{reads, part};
+ghost use Rattle.tree.specs.Read.{reads};
 ghost use Rattle.update_rebuild.specs.Sources.{parent, added-tree, additions, rebuilt-base};
 ghost use Rattle.update_rebuild.specs.Planned.{Readable, Inside, Resolved, Based, Planned, Ranged, HeadOf, closing, RowPlanned, OnePlanned, Rebuilds};
 
@@ -41,30 +45,6 @@ pub struct Head {
     pub opens: bool,
 }
 
-fn low_32(x: u64) -> u32
-    ensures { λ r. ⌜ r ≡ x % 4294967296 ⌝ }
-{
-    (x % 4294967296) as u32
-}
-
-fn wide(x: u32) -> u64
-    ensures { λ r. ⌜ (r ≡ x) × (r < 4294967296) ⌝ }
-{
-    x as u64
-}
-
-fn index(x: u16) -> usize
-    ensures { λ r. ⌜ r ≡ x ⌝ }
-{
-    x as usize
-}
-
-fn under_of(id: u32) -> u64
-    ensures { λ r. ⌜ (r ≡ id + 1) × (r ≤ 4294967296) ⌝ }
-{
-    id as u64 + 1
-}
-
 fn struct_at(recs: &[u8], slot: usize) -> bool
     requires { ⌜ slot * 24 + 24 ≤ length (now recs) ⌝ }
     ensures { λ r. ⌜ r ≡ is-struct (kind-at (now (recs .entry)) slot) ⌝ }
@@ -76,7 +56,7 @@ fn head_at(recs: &[u8], slot: usize) -> Head
     requires { ⌜ slot * 24 + 24 ≤ length (now recs) ⌝ }
     ensures { λ r. ⌜ HeadOf (now (recs .entry)) slot r × (r .under ≤ 4294967296) ⌝ }
 {
-    let id = le32(recs, slot * 24);
+    let id = id_bits_at(recs, slot);
     let under = under_of(id);
     let members = kids_at(recs, slot);
     let opens = struct_at(recs, slot);
@@ -104,7 +84,7 @@ fn put_added(
 {
     let mut i = a;
     let mut p = at;
-    let mut c = wide(id);
+    let mut c = long(id);
     while i < e {
         let members = kids_at(recs, i);
         slots[p] = (1024 + i) as u16;
@@ -176,7 +156,7 @@ fn add_all(
             j += 1;
             continue;
         }
-        let first = index(firsts[j]);
+        let first = record::place(firsts[j]);
         let start = starts[j];
         let step = add_tree(recs, n, first, start, levels, slots, ids, kids, here);
         let Step::Went(w) = step else {
@@ -232,22 +212,9 @@ fn goes(recs: &[u8], slot: usize, opens: bool, dropped: Dropped) -> bool
     ensures { λ r. ⌜ r ≡ (opens && among (turned (rec-at (now (recs .entry)) slot .id)) (dropped-ids dropped)) ⌝ }
 {
     if opens {
-        return dropped.contains(FieldId(le32(recs, slot * 24)));
+        return dropped.contains(FieldId(id_bits_at(recs, slot)));
     }
     false
-}
-
-// Where a record with its inside ends.
-pub fn tree_end(recs: &[u8], n: usize, slot: usize, levels: usize) -> usize
-    requires { ⌜ Inside (now recs) n levels slot ⌝ }
-    ensures { λ r. ⌜ r ≡ part 0 (kids-at (now (recs .entry))) n (levels - 1) (kids-at (now (recs .entry)) slot) (slot + 1) .next ⌝ }
-{
-    let members = kids_at(recs, slot);
-    let walked = row_end(recs, n, slot + 1, members, levels - 1, 0);
-    let Walked::End(next) = walked else {
-        return slot;
-    };
-    next
 }
 
 // A record that stays, and its inside rebuilt.
@@ -343,7 +310,7 @@ pub fn rebuild_fields(
     while 0 < left {
         let k = here.next;
         if goes(recs, k, opens, dropped) {
-            here.next = tree_end(recs, n, k, levels);
+            here.next = tree_end(recs, n, k, levels - 1, 0);
             left -= 1;
             continue;
         }

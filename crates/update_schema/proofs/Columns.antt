@@ -23,7 +23,7 @@ use Rattle.paper.specs.Update.{placed, Placed, placed-all}
 use Rattle.laws.proofs.Fitting.{lowest-none, size-mapped}
 use Rattle.laws.proofs.Runs.{from-step, from-done, from-append, from-same}
 use Rattle.record.specs.declared.Refusal.{Refusal}
-use Rattle.tree.specs.Read.{part, reads}
+use Rattle.tree.specs.Read.{part, reads, Standing}
 use Rattle.tree.proofs.Reading.{row-in, row-none}
 use Rattle.tree.proofs.Steps.{part-is, reads-is, part-in, part-full, no-past, reads-inner, reads-rest, was-read}
 use Rattle.laws.proofs.Words.{turned-twice}
@@ -38,7 +38,7 @@ use Rattle.update_schema.specs.declared.Spotted.{Spotted}
 use Rattle.update_schema.specs.declared.Spotted.the-variants as spotted
 use Rattle.update_schema.specs.declared.Decided.the-variants as decided
 use Rattle.update_schema.specs.Base as given
-use Rattle.update_schema.specs.Additions.{Column, column-size, one-placed, Settled, OneSpotted, Columns, parents-in, all-placed, PlacesAll}
+use Rattle.update_schema.specs.Additions.{column-size, one-placed, Settled, OneSpotted, Columns, parents-in, all-placed, PlacesAll}
 
 -- ---- the array
 
@@ -159,7 +159,7 @@ module _ (t : Forest Field) (ds request added additions : List ℕ) (total m las
           sym (subst (λ (i : ℕ). arrivals with-id last (parents-in us i) (fields request added (part 1 (kids-at added) m 16 total 0 .trees)) ≡ mapped-all (planned-field (lent pool base request added)) (from (addition-at added m us fs st) 0 i)) e (ap (λ (z : List (Option ℕ)). arrivals with-id last z (fields request added (part 1 (kids-at added) m 16 total 0 .trees))) (sym (append-nil (parents-in us k))) ∙ H .arrive pool base [] ∙ arrive-none pool base))
 
   module _ (l : k < total) where
-    pub column-here : Columns request added additions total m → Column added m slot
+    pub column-here : Columns request added additions total m → Standing 1 added m 15 slot
     column-here h =
         let past : m ≤ slot → ⊥ = no-past 1 (kids-at added) m 16 (total - k) slot (H .read) (λ z. omega arith) in
         record { whole = h .whole; small = h .small; there = omega (arith, past); read = reads-inner 1 (kids-at added) m 16 (total - k) slot (H .read) (kids-at added slot) (λ z. omega arith) refl }

@@ -1,41 +1,28 @@
 -- A column ends behind its records, and each of them takes an id.
 use Prim.Native.Nat.{ℕ, suc, _+_, _-_, _≤_}
-use mathlib.Core.Path.{_≡_, sym, ap, _∙_}
+use mathlib.Core.Path.{_≡_, sym, _∙_}
 use mathlib.Core.Bool.{Bool, true, false, cond}
 use mathlib.Core.List.{List}
 use native.Mathlib.Omega.{arith}
 use lib.Dec.{ltb}
 use Rattle.paper.specs.Field.{highest}
 use Rattle.paper.specs.Bytes.{turned, kids-at}
-use Rattle.paper.specs.Layout.{Part, row}
 use Rattle.record.specs.declared.Refusal.{Refusal}
 use Rattle.record.specs.Says.{refusal-of}
-use Rattle.tree.specs.Says.{ended}
-use Rattle.tree.specs.declared.Walked.{Walked}
-use Rattle.tree.specs.declared.Walked.the-variants.{End, Refused}
-use Rattle.tree.specs.Read.{part}
-use Rattle.tree.proofs.Filled.{ended-ok}
-use Rattle.tree.proofs.Steps.{part-is, part-full, was-read}
-use Rattle.update_rebuild.proofs.Trees.{ended-no}
+use Rattle.tree.specs.Read.{part, Standing}
+use Rattle.tree.proofs.Steps.{part-full}
 use Rattle.update_decide.specs.declared.Fresh.{Fresh}
 use Rattle.update_decide.specs.declared.Fresh.the-variants as fresh
 use Rattle.update_decide.specs.Entry.{freshly}
 use Rattle.update_schema.specs.declared.Spotted.the-variants as spotted
-use Rattle.update_schema.specs.Additions.{Column, column-size, numbered}
+use Rattle.update_schema.specs.Additions.{column-size, numbered}
 
-module _ (s : List ℕ) (m k c : ℕ) (w : Walked) (h : Column s m k) (ec : c ≡ kids-at s k) (ew : w ≡ ended (row 1 (kids-at s) m 15 c (k + 1))) where
-  ends : part 1 (kids-at s) m 15 (kids-at s k) (k + 1) .next ≡ k + column-size s m k
-  unfolding column-size
-  ends = let f = part-full 1 (kids-at s) m 15 (kids-at s k) (k + 1) (h .read) .next in omega arith
-
-  pub column-ends : (j : ℕ) → w ≡ End j → j ≡ k + column-size s m k
-  column-ends j e = ended-ok _ (row 1 (kids-at s) m 15 c (k + 1)) w j ew e λ p ep en. sym (rw (← ec) (ap (λ (z : Part). z .next) (part-is 1 (kids-at s) m 15 c (k + 1) p ep) ∙ en)) ∙ ends
-
-  pub column-not : (t : Refusal) (j : ℕ) → w ≡ Refused t → j ≡ k + column-size s m k
-  column-not t j e = absurd (ended-no (row 1 (kids-at s) m 15 (kids-at s k) (k + 1)) (part 1 (kids-at s) m 15 (kids-at s k) (k + 1)) w t (was-read 1 (kids-at s) m 15 (kids-at s k) (k + 1) (h .read)) (rw (← ec) ew) e)
+pub column-ends : (s : List ℕ) (m k j : ℕ) → Standing 1 s m 15 k → j ≡ part 1 (kids-at s) m 15 (kids-at s k) (k + 1) .next → j ≡ k + column-size s m k
+unfolding column-size
+column-ends s m k j h e = let f = part-full 1 (kids-at s) m 15 (kids-at s k) (k + 1) (h .read) .next in omega arith
 
 -- a column has no more records than there are
-pub column-few : (s : List ℕ) (m k : ℕ) → Column s m k → k + column-size s m k ≤ m
+pub column-few : (s : List ℕ) (m k : ℕ) → Standing 1 s m 15 k → k + column-size s m k ≤ m
 unfolding column-size
 column-few s m k h =
     let f = part-full 1 (kids-at s) m 15 (kids-at s k) (k + 1) (h .read) in
@@ -65,7 +52,5 @@ module _ (under last k slot records next d : ℕ) (r : Fresh) (en : next ≡ slo
           → spotted.At (record { under = under; start = start; last = end; next = next }) ≡ cond b (spotted.Refused (refusal-of 18 3 k)) (spotted.At (record { under = under; start = turned (suc last); last = last + records; next = slot + records }))
       go true e = cc
       go false e = let z : start ≡ turned (suc last) = cc in let y : end ≡ last + records = cc in rw (z, y, en)
-
-pub ruleset columns = (column-ends, column-not)
 
 pub ruleset numbering = (number-over, number-spots)

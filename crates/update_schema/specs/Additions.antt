@@ -27,14 +27,7 @@ use Rattle.update_schema.specs.declared.Spot.{Spot}
 use Rattle.update_schema.specs.declared.Spotted.{Spotted}
 use Rattle.update_schema.specs.declared.Spotted.the-variants as spotted
 
--- A column at a slot of the m added records, whose inside was read.
-pub record Column (added : List ℕ) (m slot : ℕ) : Type 0 where
-  pub whole : m * 24 ≤ length added
-  pub small : m ≤ 1024
-  pub there : slot < m
-  pub read : reads 1 (kids-at added) m 15 (kids-at added slot) (slot + 1) ≡ true
-
--- How many records the column has.
+-- How many records the column at a slot of the m added records has.
 unfoldable pub column-size : (added : List ℕ) (m slot : ℕ) → ℕ
 column-size added m slot = suc (size (part 1 (kids-at added) m 15 (kids-at added slot) (slot + 1) .trees))
 

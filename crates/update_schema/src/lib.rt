@@ -3,12 +3,10 @@ use index::look_name;
 use record::Check;
 use record::FieldId;
 use record::Refusal;
-use record::kids_at;
 use record::name_at;
 use record_entries::has_path;
 use record_entries::path_at;
-use tree::Walked;
-use tree::row_end;
+use tree::tree_end;
 use update_decide::Dropping;
 use update_decide::Fresh;
 use update_decide::Going;
@@ -24,12 +22,13 @@ ghost use lib.ListN.{length};
 ghost use Rattle.paper.specs.Bytes.{name-of};
 ghost use Rattle.paper.specs.Lists.{id-list, parent-path};
 ghost use Rattle.paper.specs.Update.{placed};
+ghost use Rattle.tree.specs.Read.{Standing};
 ghost use Rattle.update_dropped.specs.Set.{dropped-ids, Good};
 ghost use Rattle.update_decide.specs.Entry.{goes};
 ghost use Rattle.plan.specs.Plan.{lent, plan-fields};
 ghost use Rattle.index.specs.Index.{Index};
 ghost use Rattle.update_schema.specs.Base.{Based, Entries, Addition};
-ghost use Rattle.update_schema.specs.Additions.{Column, column-size, numbered, OneSpotted, Columns, PlacesAll};
+ghost use Rattle.update_schema.specs.Additions.{column-size, numbered, OneSpotted, Columns, PlacesAll};
 ghost use Rattle.update_schema.specs.Changes.{Decides};
 ghost use Rattle.update_schema.specs.Deletions.{Gathered, DropsAll};
 
@@ -200,25 +199,12 @@ fn find_place<'a>(
     place_at_root(taken, k as u32, dropped)
 }
 
-// Where the column at a slot of the additions tree ends.
-fn column_end(added: &[u8], m: usize, slot: usize) -> usize
-    requires { ⌜ Column (now added) m slot ⌝ }
-    ensures { λ r. ⌜ r ≡ slot + column-size (now (added .entry)) m slot ⌝ }
-{
-    let members = kids_at(added, slot);
-    let walked = row_end(added, m, slot + 1, members, 15, 1);
-    let Walked::End(next) = walked else {
-        return slot;
-    };
-    next
-}
-
 // The ids of an addition that has its place: refusal 18.
 fn number(added: &[u8], m: usize, slot: usize, under: u64, place: u32, last: u64) -> Spotted
-    requires { ⌜ Column (now added) m slot × (last < 4294967296) ⌝ }
+    requires { ⌜ Standing 1 (now added) m 15 slot × (last < 4294967296) ⌝ }
     ensures { λ r. ⌜ r ≡ numbered under last place slot (column-size (now (added .entry)) m slot) ⌝ }
 {
-    let next = column_end(added, m, slot);
+    let next = tree_end(added, m, slot, 15, 1);
     match assign_fresh_ids(last, next - slot, place) {
         Fresh::Ids(start, end) => Spotted::At(Spot {
             under,
@@ -256,7 +242,7 @@ fn place_one<'a>(
 ) -> Spotted
     requires { ⌜ Based (lent (now pool) (now base) (now request) (now added)) (now slots) (now ids) (now kids) n
         × Index (lent (now pool) (now base) (now request) (now added)) (now slots) (now ids) (now kids) n (now «id_heads») (now «id_next») (now ups) (now lens) (now hashes) (now «name_heads») (now «name_next»)
-        × Addition (now request) (now added) (now additions) k slot × Good dropped × Column (now added) m slot × (last < 4294967296) ⌝ }
+        × Addition (now request) (now added) (now additions) k slot × Good dropped × Standing 1 (now added) m 15 slot × (last < 4294967296) ⌝ }
     ensures { λ r. ⌜ OneSpotted (plan-fields (lent (now (pool .entry)) (now (base .entry)) (now (request .entry)) (now (added .entry))) (now (slots .entry)) (now (ids .entry)) (now (kids .entry)) n) (dropped-ids dropped) (now (request .entry)) (now (added .entry)) (now (additions .entry)) m last k slot r ⌝ }
 {
     if let Check::Refused(r) = check_added(added, request, slot, k as u32) {

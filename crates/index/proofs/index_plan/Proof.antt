@@ -6,7 +6,7 @@ use Rattle.index.proofs.index_plan.Statement.{statement}
 use Rattle.index.proofs.index_plan.Tie as tie
 use Rattle.index.proofs.index_plan.Reads as reads
 use Rattle.index.proofs.index_plan.Lts as lts
-use Rattle.index_ids.proofs.check_identifiers.Reads as check-identifiers-reads
+use Rattle.index_identifiers.proofs.check_identifiers.Reads as check-identifiers-reads
 use Rattle.index.proofs.index_ids.Reads as index-ids-reads
 use Rattle.index.proofs.index_names.Reads as index-names-reads
 

@@ -1,13 +1,9 @@
 -- The walk over all roots finds what the paper's short names find.
-use Rattle.index.proofs.Looking.{short-none, short-some, short-place, short-fits}
+use Rattle.index.proofs.Looking.{short-none, short-some, short-below}
 use native.Mathlib.Omega.{arith}
 use borrow.Author.Needs.{needs}
 use Rattle.index.proofs.look_short.Statement.{statement}
 use Rattle.index.proofs.look_short.Tie as tie
-use Rattle.index.proofs.look_short.Reads as reads
-use Rattle.index.proofs.look_short.Lts as lts
-use Rattle.index.proofs.found_place.Reads as found-place-reads
-use Rattle.index_short_names.proofs.seek.Reads as seek-reads
 
 pub look-short-spec : {M : Type 1} → statement M
 look-short-spec =
@@ -18,7 +14,6 @@ look-short-spec =
     (λ c. search needs)  -- enum-known-short
     (λ c. search needs)  -- enum-told
     (λ c. short-none _ _ _ _ _ _ (c .before .before .seek .ensures) _ _ (c .enum-told .given .1))  -- returns
-    (λ c. short-fits _ _ _ _ _ _ (c .before .before .before .seek .ensures) _ (c .before .short .given .1) (c .before .before .before .before .before .before .before .before .before .pre .few))  -- add-found-place
-    (λ c κs. short-place _ _ _ _ _ _ (c .before .before .before .seek .ensures) _ (c .before .short .given .1) (c .before .before .before .before .before .before .before .before .before .pre .few))  -- found-place-requires
-    (λ c. short-some _ _ _ _ _ _ (c .before .before .before .before .seek .ensures) _ (c .before .before .short .given .1) _ _ (c .found-place .ensures))  -- returns-2
+    (λ c κs. short-below _ _ _ _ _ _ (c .before .before .before .seek .ensures) _ (c .before .short .given .1) (c .before .before .before .before .before .before .before .before .before .pre .few))  -- with-id-requires
+    (λ c. short-some _ _ _ _ _ _ (c .before .before .before .before .seek .ensures) _ (c .before .before .short .given .1) _ _ (c .with-id .ensures))  -- returns-2
     )

@@ -11,7 +11,7 @@ use Rattle.index_ids.proofs.find_id.Reads as reads
 use Rattle.index_ids.proofs.find_id.Lts as lts
 use Rattle.index_ids.proofs.better.Reads as better-reads
 use Rattle.index_ids.proofs.bucket_of.Reads as bucket-of-reads
-use Rattle.index_ids.proofs.place.Reads as place-reads
+use Rattle.record.proofs.place.Reads as place-reads
 
 abbrev Inv-loop : tie.InvT-loop
 Inv-loop ids heads next k id b best₀ at₀ best at = Left (id-bucket ids) (is-id ids (turned id)) b k (lowest-below (is-id ids (turned id)) 0 k) best at
@@ -37,5 +37,6 @@ find-id-spec =
     (λ c κs. search (ids, needs))  -- place-requires-2
     (λ c. search (ids, needs))  -- loop-less
     (λ c. search (ids, needs))  -- loop-again
+    (λ c κs. search needs)  -- slot-before-requires
     (λ c. search (ids, needs))  -- returns
     )

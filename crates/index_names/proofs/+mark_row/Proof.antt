@@ -14,7 +14,7 @@ use Rattle.index_names.proofs.+mark_row.Lts-mark_row as mark-row-lts
 use Rattle.index_names.proofs.mixed.Reads as mixed-reads
 use Rattle.index_names.proofs.name_hash.Reads as name-hash-reads
 use Rattle.index_names.proofs.name_len.Reads as name-len-reads
-use Rattle.index_names.proofs.wide.Reads as wide-reads
+use Rattle.record.proofs.count_of.Reads as count-of-reads
 use Rattle.index_names.proofs.+mark_row.{statement}
 use Rattle.index_names.proofs.+mark_row.Tie.{close}
 
@@ -40,8 +40,8 @@ pub +mark-row-spec : {M : Type 1} → statement M
   name-len-reads.Learnt,
   name-hash-reads.Asked,
   name-hash-reads.Learnt,
-  wide-reads.Asked,
-  wide-reads.Learnt,
+  count-of-reads.Asked,
+  count-of-reads.Learnt,
   mixed-reads.Asked,
   mixed-reads.Learnt,
   mark-row-below t,
@@ -65,9 +65,9 @@ pub +mark-row-spec : {M : Type 1} → statement M
     (λ c. let h = c .before .before .before .before .before .before .before .before .before .before .pre .1 .1 .1 .1 in let l = c .before .before .if2 .left in omega (arith, h .few))  -- mark-row-element-write-lens
     (λ c. let h = c .before .before .before .before .before .before .before .before .before .before .pre .1 .1 .1 .1 in let l = c .before .before .if2 .left in omega (arith, h .few))  -- mark-row-mul-hashes
     (λ c. let h = c .before .before .before .before .before .before .before .before .before .before .pre .1 .1 .1 .1 in let l = c .before .before .if2 .left in omega (arith, h .few))  -- mark-row-element-write-hashes
-    (λ c. let h = c .before .before .before .before .before .before .before .before .before .before .pre .1 .1 .1 .1 in let l = c .before .before .if2 .left in omega (arith, h .few))  -- mark-row-mul-wide
-    (λ c. let h = c .before .before .before .before .before .before .before .before .before .before .pre .1 .1 .1 .1 in let l = c .before .before .if2 .left in omega (arith, h .few))  -- mark-row-element-copy-out-wide
-    (λ c κs. search needs)  -- mark-row-wide-requires
+    (λ c. let h = c .before .before .before .before .before .before .before .before .before .before .pre .1 .1 .1 .1 in let l = c .before .before .if2 .left in omega (arith, h .few))  -- mark-row-mul-count-of
+    (λ c. let h = c .before .before .before .before .before .before .before .before .before .before .pre .1 .1 .1 .1 in let l = c .before .before .if2 .left in omega (arith, h .few))  -- mark-row-element-copy-out-count-of
+    (λ c κs. search needs)  -- mark-row-count-of-requires
     (λ c κs. search needs)  -- mark-row-mixed-requires
     (λ c. let h = c .before .before .before .before .before .before .before .before .before .before .before .before .before .pre .1 .1 .1 .1 in let l = c .before .before .before .before .before .if2 .left in omega (arith, h .few))  -- mark-row-add-mark-row
     (λ c. let l = c .before .before .before .before .before .before .before .before .if1 .left in omega arith)  -- mark-row-sub-mark-row
@@ -76,5 +76,5 @@ pub +mark-row-spec : {M : Type 1} → statement M
     (λ c κs. let p = c .before .before .before .before .before .before .before .before .before .before .before .before .before .before .before .before .pre .1 in let e = c .before .before .before .before .before .before .before .before .before .before .before .if1 .left in (level-falls _ _ (c .before .before .before .before .before .before .before .before .before .before .before .before .before .before .before .before .pre .0) e, ((let z = c .before .before .before .before .before .before .before .before .if2 .left in rw (add-one _) z), (let l = c .before .before .before .before .before .before .before .before .if2 .left in omega (arith, p .1 .1 .1 .few), (room-in _ _ _ e (c .before .before .before .before .before .before .before .name-len .ensures .1) (p .1 .1 .0), p .1 .1 .1)))))  -- mark-row-mark-row-requires
     (λ c. search needs)  -- mark-row-sub-left
     (λ c. search needs)  -- mark-row-loop-less
-    (λ c. onward-goes _ _ _ _ _ _ _ _ _ _ _ _ _ _ _ _ _ (c .before .before .before .before .before .before .before .before .before .before .before .loop .inv) _ _ _ _ _ _ _ _ (c .before .before .before .before .before .before .before .before .before .before .before .before .if1 .left) (c .before .before .before .before .before .before .before .before .before .before .loop-test .taken) (c .before .before .before .before .before .before .before .before .before .if2 .left) (c .before .before .before .before .before .wide .ensures) (c .before .before .before .before .before .before .before .before .name-len .ensures .0) (c .before .before .before .before .before .before .before .name-hash .ensures) (c .before .before .before .before .mixed .ensures) (c .mark-row .ensures))  -- mark-row-loop-again
+    (λ c. onward-goes _ _ _ _ _ _ _ _ _ _ _ _ _ _ _ _ _ (c .before .before .before .before .before .before .before .before .before .before .before .loop .inv) _ _ _ _ _ _ _ _ (c .before .before .before .before .before .before .before .before .before .before .before .before .if1 .left) (c .before .before .before .before .before .before .before .before .before .before .loop-test .taken) (c .before .before .before .before .before .before .before .before .before .if2 .left) (c .before .before .before .before .before .count-of .ensures) (c .before .before .before .before .before .before .before .before .name-len .ensures .0) (c .before .before .before .before .before .before .before .name-hash .ensures) (c .before .before .before .before .mixed .ensures) (c .mark-row .ensures))  -- mark-row-loop-again
     (λ c. onward-done _ _ _ _ _ _ _ _ _ _ _ _ _ _ _ _ _ (c .before .loop .inv) (c .loop-test .left))  -- mark-row-returns-3

@@ -8,7 +8,7 @@ use Rattle.index_names.proofs.is_named.Statement.{statement}
 use Rattle.index_names.proofs.is_named.Tie as tie
 use Rattle.index_names.proofs.is_named.Reads as reads
 use Rattle.index_names.proofs.is_named.Lts as lts
-use Rattle.index_ids.proofs.place.Reads as place-reads
+use Rattle.record.proofs.place.Reads as place-reads
 use Rattle.index_names.proofs.byte_of.Reads as byte-of-reads
 use Rattle.index_names.proofs.owner.Reads as owner-reads
 

@@ -9,7 +9,7 @@ use Rattle.index_names.proofs.owner.Statement.{statement}
 use Rattle.index_names.proofs.owner.Tie as tie
 use Rattle.index_names.proofs.owner.Reads as reads
 use Rattle.index_names.proofs.owner.Lts as lts
-use Rattle.index_ids.proofs.place.Reads as place-reads
+use Rattle.record.proofs.place.Reads as place-reads
 use Rattle.index_names.proofs.start_of.Reads as start-of-reads
 
 abbrev Inv-loop : tie.InvT-loop

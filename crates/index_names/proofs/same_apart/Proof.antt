@@ -8,7 +8,7 @@ use Rattle.index_names.proofs.same_apart.Statement.{statement}
 use Rattle.index_names.proofs.same_apart.Tie as tie
 use Rattle.index_names.proofs.same_apart.Reads as reads
 use Rattle.index_names.proofs.same_apart.Lts as lts
-use Rattle.index_ids.proofs.place.Reads as place-reads
+use Rattle.record.proofs.place.Reads as place-reads
 use Rattle.index_names.proofs.owner.Reads as owner-reads
 use Rattle.index_names.proofs.same_byte.Reads as same-byte-reads
 

@@ -5,7 +5,7 @@ use Rattle.index_names.proofs.start_of.Statement.{statement}
 use Rattle.index_names.proofs.start_of.Tie as tie
 use Rattle.index_names.proofs.start_of.Reads as reads
 use Rattle.index_names.proofs.start_of.Lts as lts
-use Rattle.index_ids.proofs.place.Reads as place-reads
+use Rattle.record.proofs.place.Reads as place-reads
 use Rattle.index_names.proofs.name_len.Reads as name-len-reads
 
 pub start-of-spec : {M : Type 1} → statement M

@@ -11,7 +11,7 @@ use borrow.Fn.PlainCycle.{Measures, is, falls, and}
 use Rattle.index_short_names.proofs.row_next.Reads as row-next
 use Rattle.index_short_names.proofs.row_next.Kinds as row-next-kinds
 use Rattle.index_short_names.proofs.+row_next.Lts-row_next as row-next-lts
-use Rattle.index_short_names.proofs.wide.Reads as wide-reads
+use Rattle.record.proofs.count_of.Reads as count-of-reads
 use Rattle.index_short_names.proofs.+row_next.{statement}
 use Rattle.index_short_names.proofs.+row_next.Tie.{close}
 
@@ -33,8 +33,8 @@ row-next-μ-loop kids m slot count levels at₀ left₀ at left = left
 
 pub +row-next-spec : {M : Type 1} → statement M
 +row-next-spec = close μ-row-next λ t. row-next-lts.spec (
-  wide-reads.Asked,
-  wide-reads.Learnt,
+  count-of-reads.Asked,
+  count-of-reads.Learnt,
   row-next-below t,
   row-next.Post,
 )
@@ -45,13 +45,13 @@ pub +row-next-spec : {M : Type 1} → statement M
     (λ c. search nexts)  -- row-next-returns
     (λ c. search needs)  -- row-next-loop-holds
     (λ c. search loops)  -- row-next-returns-2
-    (λ c. let l = c .if2 .left in let q = c .before .before .before .before .pre .1 in omega arith)  -- row-next-mul-wide
-    (λ c. let l = c .if2 .left in let q = c .before .before .before .before .pre .1 in omega arith)  -- row-next-element-copy-out-wide
-    (λ c κs. search needs)  -- row-next-wide-requires
+    (λ c. let l = c .if2 .left in let q = c .before .before .before .before .pre .1 in omega arith)  -- row-next-mul-count-of
+    (λ c. let l = c .if2 .left in let q = c .before .before .before .before .pre .1 in omega arith)  -- row-next-element-copy-out-count-of
+    (λ c κs. search needs)  -- row-next-count-of-requires
     (λ c. let l = c .before .before .if2 .left in let q = c .before .before .before .before .before .before .pre .1 in omega arith)  -- row-next-add-row-next
     (λ c. search needs)  -- row-next-sub-row-next
     (λ c κs. search needs)  -- row-next-row-next-requires
     (λ c. search needs)  -- row-next-sub-left
     (λ c. search needs)  -- row-next-loop-less
-    (λ c. loop-goes _ _ _ _ _ _ (c .before .before .before .before .before .loop .inv) _ _ (c .before .before .before .before .before .before .if1 .left) (c .before .before .before .before .loop-test .taken) (c .before .before .before .if2 .left) (c .before .wide .ensures) (c .row-next .ensures))  -- row-next-loop-again
+    (λ c. loop-goes _ _ _ _ _ _ (c .before .before .before .before .before .loop .inv) _ _ (c .before .before .before .before .before .before .if1 .left) (c .before .before .before .before .loop-test .taken) (c .before .before .before .if2 .left) (c .before .count-of .ensures) (c .row-next .ensures))  -- row-next-loop-again
     (λ c. search loops)  -- row-next-returns-3

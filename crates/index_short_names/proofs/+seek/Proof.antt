@@ -25,7 +25,7 @@ use Rattle.index_short_names.proofs.row_next.Reads as row-next-reads
 use Rattle.index_short_names.proofs.skips.Reads as skips-reads
 use Rattle.index_short_names.proofs.takes.Reads as takes-reads
 use Rattle.index_short_names.proofs.waiting.Reads as waiting-reads
-use Rattle.index_short_names.proofs.wide.Reads as wide-reads
+use Rattle.record.proofs.count_of.Reads as count-of-reads
 use Rattle.index_names.proofs.name_of.Reads as name-of-reads
 use Rattle.paper.proofs.first_role.Reads as first-role-reads
 use Rattle.paper.proofs.next_role.Reads as next-role-reads
@@ -53,8 +53,8 @@ pub +seek-spec : {M : Type 1} → statement M
   row-next-reads.Learnt,
   ended-reads.Asked,
   ended-reads.Learnt,
-  wide-reads.Asked,
-  wide-reads.Learnt,
+  count-of-reads.Asked,
+  count-of-reads.Learnt,
   kind-of-reads.Asked,
   kind-of-reads.Learnt,
   name-of-reads.Asked,
@@ -92,9 +92,9 @@ pub +seek-spec : {M : Type 1} → statement M
     (λ c. refl)  -- seek-loop-holds
     (λ c κs. search needs)  -- seek-ended-requires-3
     (λ c. leave-past _ _ _ _ _ _ _ _ _ _ _ _ _ (c .before .before .before .loop .inv) (c .ended3 .ensures) (c .before .if3 .taken))  -- seek-returns-3
-    (λ c. let h = c .before .before .before .before .before .before .before .before .before .before .pre .1 .1 in let l = c .if3 .left in omega (arith, h .few))  -- seek-mul-wide
-    (λ c. let h = c .before .before .before .before .before .before .before .before .before .before .pre .1 .1 in let l = c .if3 .left in omega (arith, h .few))  -- seek-element-copy-out-wide
-    (λ c κs. search needs)  -- seek-wide-requires
+    (λ c. let h = c .before .before .before .before .before .before .before .before .before .before .pre .1 .1 in let l = c .if3 .left in omega (arith, h .few))  -- seek-mul-count-of
+    (λ c. let h = c .before .before .before .before .before .before .before .before .before .before .pre .1 .1 in let l = c .if3 .left in omega (arith, h .few))  -- seek-element-copy-out-count-of
+    (λ c κs. search needs)  -- seek-count-of-requires
     (λ c κs. (c .before .before .if3 .left, c .before .before .before .before .before .before .before .before .before .before .before .before .pre .1 .1))  -- seek-kind-of-requires
     (λ c κs. (c .before .before .before .if3 .left, c .before .before .before .before .before .before .before .before .before .before .before .before .before .pre .1 .1))  -- seek-name-of-requires
     (λ c κs. c .before .before .before .before .before .before .before .before .if1 .left)  -- seek-fit-requires
@@ -106,15 +106,15 @@ pub +seek-spec : {M : Type 1} → statement M
     (λ c κs. search needs)  -- seek-first-role-requires
     (λ c κs. (level-falls _ _ (c .before .before .before .before .before .before .before .before .before .before .before .before .before .before .before .before .before .before .before .pre .0) (c .before .before .before .before .before .before .before .before .before .before .before .before .if2 .left), ((let z = c .before .before .before .before .before .before .before .before .before .if3 .left in rw (add-one _) z), c .before .before .before .before .before .before .before .before .before .before .before .before .before .before .before .before .before .before .before .pre .1 .1)))  -- seek-seek-requires
     (λ c. search needs)  -- seek-enum-known-k
-    (λ c. search (turn-found _ _ _ _ _ _ _ _ _ _ _ _ _ _ _ _ _ _ _ _ (c .before .before .before .before .before .before .before .before .before .before .before .before .before .before .before .before .if2 .left) (c .before .before .before .before .before .before .before .before .before .before .before .before .before .before .loop-test .taken) (c .before .before .before .before .before .before .before .before .before .before .before .before .before .if3 .left) (c .before .before .before .before .before .before .before .before .before .before .before .before .before .before .before .before .before .if1 .left) (c .before .before .before .before .before .before .before .before .before .before .before .wide .ensures) (c .before .before .before .before .before .before .before .before .before .before .kind-of .ensures) (c .before .before .before .before .before .before .before .before .before .name-of .ensures) (c .before .before .before .before .before .before .before .before .fit .ensures) (c .before .before .before .before .before .before .before .skips .ensures) (c .before .before .before .before .before .before .deeper .ensures) (c .before .before .before .before .first-role .ensures) (c .before .before .before .before .before .own-place .ensures) (c .before .before .before .seek .ensures) _ (c .before .before .before .before .before .before .before .before .before .before .before .before .before .before .before .loop .inv) _ (c .before .k .given .1), needs))  -- seek-returns-4
+    (λ c. search (turn-found _ _ _ _ _ _ _ _ _ _ _ _ _ _ _ _ _ _ _ _ (c .before .before .before .before .before .before .before .before .before .before .before .before .before .before .before .before .if2 .left) (c .before .before .before .before .before .before .before .before .before .before .before .before .before .before .loop-test .taken) (c .before .before .before .before .before .before .before .before .before .before .before .before .before .if3 .left) (c .before .before .before .before .before .before .before .before .before .before .before .before .before .before .before .before .before .if1 .left) (c .before .before .before .before .before .before .before .before .before .before .before .count-of .ensures) (c .before .before .before .before .before .before .before .before .before .before .kind-of .ensures) (c .before .before .before .before .before .before .before .before .before .name-of .ensures) (c .before .before .before .before .before .before .before .before .fit .ensures) (c .before .before .before .before .before .before .before .skips .ensures) (c .before .before .before .before .before .before .deeper .ensures) (c .before .before .before .before .first-role .ensures) (c .before .before .before .before .before .own-place .ensures) (c .before .before .before .seek .ensures) _ (c .before .before .before .before .before .before .before .before .before .before .before .before .before .before .before .loop .inv) _ (c .before .k .given .1), needs))  -- seek-returns-4
     (λ c. search needs)  -- seek-enum-known-next
     (λ c κs. search needs)  -- seek-is-late-requires
     (λ c κs. search needs)  -- seek-takes-requires
-    (λ c. turn-own _ _ _ _ _ _ _ _ _ _ _ _ _ _ _ _ _ _ _ _ (c .before .before .before .before .before .before .before .before .before .before .before .before .before .before .before .before .before .before .before .if2 .left) (c .before .before .before .before .before .before .before .before .before .before .before .before .before .before .before .before .before .loop-test .taken) (c .before .before .before .before .before .before .before .before .before .before .before .before .before .before .before .before .if3 .left) (c .before .before .before .before .before .before .before .before .before .before .before .before .before .before .before .before .before .before .before .before .if1 .left) (c .before .before .before .before .before .before .before .before .before .before .before .before .before .before .wide .ensures) (c .before .before .before .before .before .before .before .before .before .before .before .before .before .kind-of .ensures) (c .before .before .before .before .before .before .before .before .before .before .before .before .name-of .ensures) (c .before .before .before .before .before .before .before .before .before .before .before .fit .ensures) (c .before .before .before .before .before .before .before .before .before .before .skips .ensures) (c .before .before .before .before .before .before .before .before .before .deeper .ensures) (c .before .before .before .before .before .before .before .first-role .ensures) (c .before .before .before .before .before .before .before .before .own-place .ensures) (c .before .before .before .before .before .before .seek .ensures) _ (c .before .before .before .before .before .before .before .before .before .before .before .before .before .before .before .before .before .before .loop .inv) _ _ _ (c .before .before .before .before .next .given .1) (c .before .before .is-late .ensures) (c .before .takes .ensures) (c .if4 .taken))  -- seek-returns-5
+    (λ c. turn-own _ _ _ _ _ _ _ _ _ _ _ _ _ _ _ _ _ _ _ _ (c .before .before .before .before .before .before .before .before .before .before .before .before .before .before .before .before .before .before .before .if2 .left) (c .before .before .before .before .before .before .before .before .before .before .before .before .before .before .before .before .before .loop-test .taken) (c .before .before .before .before .before .before .before .before .before .before .before .before .before .before .before .before .if3 .left) (c .before .before .before .before .before .before .before .before .before .before .before .before .before .before .before .before .before .before .before .before .if1 .left) (c .before .before .before .before .before .before .before .before .before .before .before .before .before .before .count-of .ensures) (c .before .before .before .before .before .before .before .before .before .before .before .before .before .kind-of .ensures) (c .before .before .before .before .before .before .before .before .before .before .before .before .name-of .ensures) (c .before .before .before .before .before .before .before .before .before .before .before .fit .ensures) (c .before .before .before .before .before .before .before .before .before .before .skips .ensures) (c .before .before .before .before .before .before .before .before .before .deeper .ensures) (c .before .before .before .before .before .before .before .first-role .ensures) (c .before .before .before .before .before .before .before .before .own-place .ensures) (c .before .before .before .before .before .before .seek .ensures) _ (c .before .before .before .before .before .before .before .before .before .before .before .before .before .before .before .before .before .before .loop .inv) _ _ _ (c .before .before .before .before .next .given .1) (c .before .before .is-late .ensures) (c .before .takes .ensures) (c .if4 .taken))  -- seek-returns-5
     (λ c κs. search needs)  -- seek-waiting-requires
     (λ c κs. search needs)  -- seek-next-role-requires
     (λ c. let l = c .before .before .before .before .before .before .before .before .before .before .before .before .before .before .before .before .before .before .before .loop-test .taken in omega arith)  -- seek-sub-left
     (λ c. let l = c .before .before .before .before .before .before .before .before .before .before .before .before .before .before .before .before .before .before .before .loop-test .taken in omega arith)  -- seek-loop-less
-    (λ c. turn-on _ _ _ _ _ _ _ _ _ _ _ _ _ _ _ _ _ _ _ _ (c .before .before .before .before .before .before .before .before .before .before .before .before .before .before .before .before .before .before .before .before .before .if2 .left) (c .before .before .before .before .before .before .before .before .before .before .before .before .before .before .before .before .before .before .before .loop-test .taken) (c .before .before .before .before .before .before .before .before .before .before .before .before .before .before .before .before .before .before .if3 .left) (c .before .before .before .before .before .before .before .before .before .before .before .before .before .before .before .before .before .before .before .before .before .before .if1 .left) (c .before .before .before .before .before .before .before .before .before .before .before .before .before .before .before .before .wide .ensures) (c .before .before .before .before .before .before .before .before .before .before .before .before .before .before .before .kind-of .ensures) (c .before .before .before .before .before .before .before .before .before .before .before .before .before .before .name-of .ensures) (c .before .before .before .before .before .before .before .before .before .before .before .before .before .fit .ensures) (c .before .before .before .before .before .before .before .before .before .before .before .before .skips .ensures) (c .before .before .before .before .before .before .before .before .before .before .before .deeper .ensures) (c .before .before .before .before .before .before .before .before .before .first-role .ensures) (c .before .before .before .before .before .before .before .before .before .before .own-place .ensures) (c .before .before .before .before .before .before .before .before .seek .ensures) _ (c .before .before .before .before .before .before .before .before .before .before .before .before .before .before .before .before .before .before .before .before .loop .inv) _ _ _ _ _ (c .before .before .before .before .before .before .next .given .1) (c .before .before .before .before .is-late .ensures) (c .before .before .before .takes .ensures) (c .before .before .if4 .left) (c .before .waiting .ensures) (c .next-role .ensures))  -- seek-loop-again
+    (λ c. turn-on _ _ _ _ _ _ _ _ _ _ _ _ _ _ _ _ _ _ _ _ (c .before .before .before .before .before .before .before .before .before .before .before .before .before .before .before .before .before .before .before .before .before .if2 .left) (c .before .before .before .before .before .before .before .before .before .before .before .before .before .before .before .before .before .before .before .loop-test .taken) (c .before .before .before .before .before .before .before .before .before .before .before .before .before .before .before .before .before .before .if3 .left) (c .before .before .before .before .before .before .before .before .before .before .before .before .before .before .before .before .before .before .before .before .before .before .if1 .left) (c .before .before .before .before .before .before .before .before .before .before .before .before .before .before .before .before .count-of .ensures) (c .before .before .before .before .before .before .before .before .before .before .before .before .before .before .before .kind-of .ensures) (c .before .before .before .before .before .before .before .before .before .before .before .before .before .before .name-of .ensures) (c .before .before .before .before .before .before .before .before .before .before .before .before .before .fit .ensures) (c .before .before .before .before .before .before .before .before .before .before .before .before .skips .ensures) (c .before .before .before .before .before .before .before .before .before .before .before .deeper .ensures) (c .before .before .before .before .before .before .before .before .before .first-role .ensures) (c .before .before .before .before .before .before .before .before .before .before .own-place .ensures) (c .before .before .before .before .before .before .before .before .seek .ensures) _ (c .before .before .before .before .before .before .before .before .before .before .before .before .before .before .before .before .before .before .before .before .loop .inv) _ _ _ _ _ (c .before .before .before .before .before .before .next .given .1) (c .before .before .before .before .is-late .ensures) (c .before .before .before .takes .ensures) (c .before .before .if4 .left) (c .before .waiting .ensures) (c .next-role .ensures))  -- seek-loop-again
     (λ c κs. search needs)  -- seek-ended-requires-4
     (λ c. leave-done _ _ _ _ _ _ _ _ _ _ _ _ _ (c .before .before .loop .inv) (c .ended4 .ensures) (c .before .loop-test .left))  -- seek-returns-6

@@ -9,17 +9,14 @@ unfolding row-of
 changed-bytes-spec =
     tie.close
     (tie.spec
-    (λ c. search needs)  -- mul-p
-    (λ c. search needs)  -- add-row-bytes
-    (λ c. search needs)  -- shared-slice-read-row-bytes
+    (λ c κs. search needs)  -- name-len-at-requires
+    (λ c. search needs)  -- cast-row-bytes
     (λ c κs. search needs)  -- kind-at-requires
     (λ c κs. search needs)  -- kind-byte-requires
-    (λ c. search needs)  -- add-row-bytes-2
-    (λ c. search needs)  -- shared-slice-read-row-bytes-2
-    (λ c. search needs)  -- add-le32
-    (λ c κs. search needs)  -- le32-requires
-    (λ c. search needs)  -- add-le32-2
-    (λ c κs. search needs)  -- le32-requires-2
+    (λ c κs. search needs)  -- flags-at-requires
+    (λ c κs. search needs)  -- count-of-requires
+    (λ c κs. search needs)  -- code-at-requires
+    (λ c κs. search needs)  -- attribute-at-requires
     (λ c κs. search needs)  -- row-bytes-requires
     (λ c. cc)  -- returns
     )

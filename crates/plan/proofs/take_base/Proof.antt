@@ -21,8 +21,7 @@ take-base-spec =
     (λ c. search (taking, needs))  -- cast-slots
     (λ c. search (taking, needs))  -- mul-slots
     (λ c. search (taking, needs))  -- element-write-slots
-    (λ c. search (taking, needs))  -- mul-le32
-    (λ c κs. search (taking, needs))  -- le32-requires
+    (λ c κs. search (taking, needs))  -- id-bits-at-requires
     (λ c. search (taking, needs))  -- mul-ids
     (λ c. search (taking, needs))  -- element-write-ids
     (λ c κs. search (taking, needs))  -- kids-at-requires

@@ -34,7 +34,7 @@ use Rattle.prune_columns.proofs.put_record.Reads as put-record-reads
 use Rattle.record.proofs.kids_at.Reads as kids-at-reads
 use Rattle.record.proofs.kind_at.Reads as kind-at-reads
 use Rattle.tree_walk.proofs.is_map.Reads as is-map-reads
-use Rattle.tree_walk.proofs.row_past.Reads as row-past-reads
+use Rattle.tree.proofs.row_past.Reads as row-past-reads
 use Rattle.prune_columns.proofs.+project_field+project_fields+project_list+project_map+project_selected_struct+project_type.{
   statement,
 }

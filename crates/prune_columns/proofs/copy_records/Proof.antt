@@ -7,7 +7,6 @@ use Rattle.prune_columns.proofs.copy_records.Tie as tie
 use Rattle.prune_columns.proofs.copy_records.Reads as reads
 use Rattle.prune_columns.proofs.copy_records.Lts as lts
 use Rattle.record.proofs.kids_at.Reads as kids-at-reads
-use Rattle.record.proofs.le32.Reads as le32-reads
 
 abbrev Inv-loop : tie.InvT-loop
 Inv-loop recs from to slots₀ ids₀ kids₀ at i₀ p₀ slots ids kids i p = Copying recs from i slots₀ ids₀ kids₀ at slots ids kids p × (i ≤ to)
@@ -25,8 +24,7 @@ copy-records-spec =
     (λ c. search (copying, needs))  -- cast-slots
     (λ c. search (copying, needs))  -- mul-slots
     (λ c. search (copying, needs))  -- element-write-slots
-    (λ c. search (copying, needs))  -- mul-le32
-    (λ c κs. search (copying, needs))  -- le32-requires
+    (λ c κs. search (copying, needs))  -- id-bits-at-requires
     (λ c. search (copying, needs))  -- mul-ids
     (λ c. search (copying, needs))  -- element-write-ids
     (λ c κs. search (copying, needs))  -- kids-at-requires

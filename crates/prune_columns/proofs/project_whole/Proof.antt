@@ -7,7 +7,7 @@ use Rattle.prune_columns.proofs.project_whole.Reads as reads
 use Rattle.prune_columns.proofs.project_whole.Lts as lts
 use Rattle.prune_columns.proofs.copy_records.Reads as copy-records-reads
 use Rattle.record.proofs.kids_at.Reads as kids-at-reads
-use Rattle.tree_walk.proofs.row_past.Reads as row-past-reads
+use Rattle.tree.proofs.row_past.Reads as row-past-reads
 
 pub project-whole-spec : {M : Type 1} → statement M
 project-whole-spec =

@@ -5,7 +5,6 @@ use Rattle.prune_columns.proofs.put_record.Statement.{statement}
 use Rattle.prune_columns.proofs.put_record.Tie as tie
 use Rattle.prune_columns.proofs.put_record.Reads as reads
 use Rattle.prune_columns.proofs.put_record.Lts as lts
-use Rattle.record.proofs.le32.Reads as le32-reads
 
 pub put-record-spec : {M : Type 1} → statement M
 put-record-spec =
@@ -14,8 +13,7 @@ put-record-spec =
     (λ c. search needs)  -- cast-slots
     (λ c. search needs)  -- mul-slots
     (λ c. search needs)  -- element-write-slots
-    (λ c. search needs)  -- mul-le32
-    (λ c κs. search needs)  -- le32-requires
+    (λ c κs. search needs)  -- id-bits-at-requires
     (λ c. search needs)  -- mul-ids
     (λ c. search needs)  -- element-write-ids
     (λ c. search needs)  -- cast-kids

@@ -8,14 +8,8 @@ pub name-at-spec : {M : Type 1} → statement M
 name-at-spec =
     tie.close
     (tie.spec
-    (λ c. search (naming, needs))  -- mul-le32
-    (λ c. search (naming, needs))  -- add-le32
-    (λ c κs. search (naming, needs))  -- le32-requires
-    (λ c κs. search (naming, needs))  -- size-requires
-    (λ c. search (naming, needs))  -- mul-length-of
-    (λ c. search (naming, needs))  -- add-length-of
-    (λ c. search (naming, needs))  -- shared-slice-read-length-of
-    (λ c κs. search (naming, needs))  -- length-of-requires
+    (λ c κs. search (naming, needs))  -- name-from-requires
+    (λ c κs. search (naming, needs))  -- name-len-at-requires
     (λ c. search (naming, needs))  -- add-result
     (λ c. search (naming, needs))  -- sub-result
     (λ c. search (naming, needs))  -- part-result-start

@@ -9,14 +9,8 @@ unfolding in-pool
 name-ok-spec =
     tie.close
     (tie.spec
-    (λ c. search needs)  -- mul-le32
-    (λ c. search needs)  -- add-le32
-    (λ c κs. search needs)  -- le32-requires
-    (λ c κs. search needs)  -- size-requires
-    (λ c. search needs)  -- mul-length-of
-    (λ c. search needs)  -- add-length-of
-    (λ c. search needs)  -- shared-slice-read-length-of
-    (λ c κs. search needs)  -- length-of-requires
+    (λ c κs. search needs)  -- name-from-requires
+    (λ c κs. search needs)  -- name-len-at-requires
     (λ c. search needs)  -- add-result
     (λ c. cc)  -- returns
     )

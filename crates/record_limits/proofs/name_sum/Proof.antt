@@ -19,10 +19,7 @@ name-sum-spec =
     Inv-loop
     μ-loop
     (λ c. search (summing, needs))  -- loop-holds
-    (λ c. search (summing, needs))  -- mul-length-of
-    (λ c. search (summing, needs))  -- add-length-of
-    (λ c. search (summing, needs))  -- shared-slice-read-length-of
-    (λ c κs. search (summing, needs))  -- length-of-requires
+    (λ c κs. search (summing, needs))  -- name-len-at-requires
     (λ c. search (summing, needs))  -- add-sum
     (λ c. search (summing, needs))  -- add-i
     (λ c. search (summing, needs))  -- loop-less

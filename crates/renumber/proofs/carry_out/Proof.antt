@@ -7,7 +7,7 @@ use Rattle.renumber.proofs.carry_out.Tie as tie
 use Rattle.renumber.proofs.carry_out.Reads as reads
 use Rattle.renumber.proofs.carry_out.Lts as lts
 use Rattle.index_base.proofs.index_base.Reads as index-base-reads
-use Rattle.renumber_id_reassigner.proofs.turn.Reads as turn-reads
+use Rattle.record.proofs.turn.Reads as turn-reads
 use Rattle.renumber.proofs.finish.Reads as finish-reads
 
 -- src/lib.rt:106:9

@@ -16,7 +16,7 @@ use Rattle.renumber_id_reassigner.proofs.reassign_key_and_value.Reads a
 use Rattle.renumber_id_reassigner.proofs.reassign_key_and_value.Kinds as reassign-key-and-value-kinds
 use Rattle.renumber_id_reassigner.proofs.+reassign_field_ids+reassign_ids_visit_type+reassign_key_and_value.Lts-reassign_key_and_value as reassign-key-and-value-lts
 use Rattle.tree_walk.proofs.is_map.Reads as is-map-reads
-use Rattle.renumber_id_reassigner.proofs.turn.Reads as turn-reads
+use Rattle.record.proofs.turn.Reads as turn-reads
 use Rattle.record.proofs.kids_at.Reads as kids-at-reads
 use Rattle.record.proofs.kind_at.Reads as kind-at-reads
 use Rattle.renumber_id_reassigner.proofs.+reassign_field_ids+reassign_ids_visit_type+reassign_key_and_value.{

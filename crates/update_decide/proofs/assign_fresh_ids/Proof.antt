@@ -8,8 +8,7 @@ pub assign-fresh-ids-spec : {M : Type 1} → statement M
 assign-fresh-ids-spec = tie.close (tie.spec
     (λ c. search needs)  -- add-end
     (λ c. search (assigning, needs))  -- returns
-    (λ c. search needs)  -- add-t5
-    (λ c. search needs)  -- add-t8
-    (λ c. search needs)  -- cast-t10
+    (λ c. search needs)  -- add-turn-back
+    (λ c κs. search needs)  -- turn-back-requires
     (λ c. search (assigning, needs))  -- returns-2
     )

@@ -11,9 +11,7 @@ check-added-spec =
     (λ c κs. search needs)  -- name-at-requires
     (λ c κs. search needs)  -- has-dot-requires
     (λ c. search (adding, needs))  -- returns
-    (λ c. search needs)  -- mul-if2
-    (λ c. search needs)  -- add-if2
-    (λ c. search needs)  -- shared-slice-read-if2
+    (λ c κs. search needs)  -- flags-at-requires
     (λ c. search (adding, needs))  -- returns-2
-    (λ c. added-fine _ _ _ _ _ _ (c .before .before .before .before .name-at .ensures .0) (c .before .before .before .has-dot .ensures) (c .before .before .if1 .left) (c .if2 .left))  -- returns-3
+    (λ c. added-fine _ _ _ _ _ _ (c .before .before .before .before .name-at .ensures .0) (c .before .before .before .has-dot .ensures) (c .before .before .if1 .left) _ (c .before .flags-at .ensures) (c .if2 .left))  -- returns-3
     )

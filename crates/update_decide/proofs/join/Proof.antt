@@ -8,8 +8,7 @@ pub join-spec : {M : Type 1} → statement M
 join-spec =
     tie.close
     (tie.spec
-    (λ c. search needs)  -- mul-le32
-    (λ c κs. search needs)  -- le32-requires
+    (λ c κs. search needs)  -- id-bits-at-requires
     (λ c κs. search needs)  -- contains-requires
     (λ c κs. search needs)  -- under-of-requires
     (λ c. search (joining, needs))  -- returns

@@ -10,8 +10,7 @@ takes-spec =
     (tie.spec
     (λ c κs. search needs)  -- name-at-requires
     (λ c κs. search needs)  -- equal-requires
-    (λ c. search needs)  -- mul-le32
-    (λ c κs. search needs)  -- le32-requires
+    (λ c κs. search needs)  -- id-bits-at-requires
     (λ c κs. search needs)  -- contains-requires
     (λ c. search (taking, needs))  -- returns
     (λ c. search (taking, needs))  -- returns-2

@@ -5,7 +5,7 @@ use Prim.Native.Nat.{ℕ, _+_, _*_, _<_}
 use Rattle.update_dropped.specs.Set.{dropped-ids}
 use Rattle.update_rebuild.specs.Sources.{parent, additions}
 use Rattle.update_rebuild.proofs.Onward.{few-siblings}
-use Rattle.update_rebuild.proofs.Rebuilding.{Rebuilding, inside-asked, one-wide, one-stops, one-goes, rebuild-starts, rebuild-ends, inside-reads, rebuild-skips, rebuild-stops, rebuild-goes}
+use Rattle.update_rebuild.proofs.Rebuilding.{Rebuilding, inside-asked, one-wide, one-stops, one-goes, rebuild-starts, rebuild-ends, inside-reads, inside-stands, rebuild-skips, rebuild-stops, rebuild-goes}
 use borrow.Fn.Kinds.{In}
 use borrow.Fn.PlainCycle.{Measures, is, falls, and}
 use Rattle.update_rebuild.proofs.rebuild_field.Reads as rebuild-field
@@ -17,7 +17,7 @@ use Rattle.update_rebuild.proofs.+rebuild_field+rebuild_fields.Lts-rebu
 use Rattle.update_rebuild.proofs.close.Reads as close-reads
 use Rattle.update_rebuild.proofs.goes.Reads as goes-reads
 use Rattle.update_rebuild.proofs.head_at.Reads as head-at-reads
-use Rattle.update_rebuild.proofs.tree_end.Reads as tree-end-reads
+use Rattle.tree.proofs.tree_end.Reads as tree-end-reads
 use Rattle.update_rebuild.proofs.+rebuild_field+rebuild_fields.{statement}
 use Rattle.update_rebuild.proofs.+rebuild_field+rebuild_fields.Tie.{close}
 
@@ -109,7 +109,8 @@ pub +rebuild-field+rebuild-fields-spec : {M : Type 1} → statement M
     rebuild-fields-μ-loop
     (λ c. rebuild-starts _ _ _ _ _ _ _ _ _ _ _ _ _ (c .before .before .pre .1 .0) (c .before .before .pre .1 .4))  -- rebuild-fields-loop-holds
     (λ c κs. let h = inside-reads _ _ _ _ _ _ _ _ _ _ _ _ _ _ _ _ _ _ _ _ (c .before .loop .inv) (c .loop-test .taken) in (omega (arith, h .there, h .inside .whole), c .before .before .before .before .pre .1 .2))  -- rebuild-fields-goes-requires
-    (λ c κs. inside-reads _ _ _ _ _ _ _ _ _ _ _ _ _ _ _ _ _ _ _ _ (c .before .before .before .loop .inv) (c .before .before .loop-test .taken))  -- rebuild-fields-tree-end-requires
+    (λ c. let h = inside-reads _ _ _ _ _ _ _ _ _ _ _ _ _ _ _ _ _ _ _ _ (c .before .before .before .loop .inv) (c .before .before .loop-test .taken) in omega (arith, h .low))  -- rebuild-fields-sub-tree-end
+    (λ c κs. inside-stands _ _ _ _ (inside-reads _ _ _ _ _ _ _ _ _ _ _ _ _ _ _ _ _ _ _ _ (c .before .before .before .loop .inv) (c .before .before .loop-test .taken)))  -- rebuild-fields-tree-end-requires
     (λ c. search needs)  -- rebuild-fields-sub-left
     (λ c. search needs)  -- rebuild-fields-loop-less
     (λ c. rebuild-skips _ _ _ _ _ _ _ _ _ _ _ _ _ _ _ _ _ _ _ _ (c .before .before .before .before .loop .inv) (c .before .before .before .loop-test .taken) _ _ (search needs) (c .before .if1 .taken) (c .tree-end .ensures))  -- rebuild-fields-loop-again

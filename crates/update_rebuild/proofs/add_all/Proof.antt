@@ -10,7 +10,6 @@ use Rattle.update_rebuild.proofs.add_all.Tie as tie
 use Rattle.update_rebuild.proofs.add_all.Reads as reads
 use Rattle.update_rebuild.proofs.add_all.Lts as lts
 use Rattle.update_rebuild.proofs.add_tree.Reads as add-tree-reads
-use Rattle.update_rebuild.proofs.index.Reads as index-reads
 
 abbrev Inv-loop : tie.InvT-loop
 Inv-loop recs n unders firsts starts total q levels slots₀ ids₀ kids₀ j₀ here₀ slots ids kids j here = Onward (arriving (additions recs n unders firsts starts total) (parent q)) (here₀ .next) levels (here₀ .at) (here₀ .count) slots₀ ids₀ kids₀ (arriving-from recs n unders firsts starts total q j) (here .next) (here .at) (here .count) slots ids kids
@@ -30,9 +29,9 @@ add-all-spec =
     (λ c. search (arrivals, needs))  -- add-j
     (λ c. search (arrivals, needs))  -- loop-less
     (λ c. search (arrivals, needs))  -- loop-again
-    (λ c. search (arrivals, needs))  -- mul-index
-    (λ c. search (arrivals, needs))  -- element-copy-out-index
-    (λ c κs. search (arrivals, needs))  -- index-requires
+    (λ c. search (arrivals, needs))  -- mul-place
+    (λ c. search (arrivals, needs))  -- element-copy-out-place
+    (λ c κs. search (arrivals, needs))  -- place-requires
     (λ c. search (arrivals, needs))  -- mul-start
     (λ c. search (arrivals, needs))  -- element-copy-out-start
     (λ c κs. search (arrivals, needs))  -- add-tree-requires

@@ -8,8 +8,7 @@ pub goes-spec : {M : Type 1} → statement M
 goes-spec =
     tie.close
     (tie.spec
-    (λ c. search needs)  -- mul-le32
-    (λ c κs. search needs)  -- le32-requires
+    (λ c κs. search needs)  -- id-bits-at-requires
     (λ c κs. search needs)  -- contains-requires
     (λ c. search (gone-asked, needs))  -- returns
     (λ c. search needs)  -- returns-2

@@ -10,8 +10,7 @@ use Rattle.update_rebuild.proofs.put_added.Statement.{statement}
 use Rattle.update_rebuild.proofs.put_added.Tie as tie
 use Rattle.update_rebuild.proofs.put_added.Reads as reads
 use Rattle.update_rebuild.proofs.put_added.Lts as lts
-use Rattle.update_rebuild.proofs.low_32.Reads as low-32-reads
-use Rattle.update_rebuild.proofs.wide.Reads as wide-reads
+use Rattle.record.proofs.low_32.Reads as low-32-reads
 use Rattle.record.proofs.kids_at.Reads as kids-at-reads
 
 abbrev Inv-loop : tie.InvT-loop
@@ -26,7 +25,7 @@ put-added-spec =
     (tie.spec
     Inv-loop
     μ-loop
-    (λ c κs. search (ranging, needs))  -- wide-requires
+    (λ c κs. search (ranging, needs))  -- long-requires
     (λ c. (omega arith, omega arith, omega arith, omega arith, search ranging))  -- loop-holds
     (λ c κs. search (ranging, needs))  -- kids-at-requires
     (λ c. search (ranging, needs))  -- add-slots

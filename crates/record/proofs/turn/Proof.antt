@@ -1,8 +1,8 @@
 -- The sum modulo 2^32 is the definition of `turned`. Assumes nothing.
 use borrow.Author.Needs.{needs}
 use Rattle.paper.specs.Bytes.{turned}
-use Rattle.renumber_id_reassigner.proofs.turn.Statement.{statement}
-use Rattle.renumber_id_reassigner.proofs.turn.Tie as tie
+use Rattle.record.proofs.turn.Statement.{statement}
+use Rattle.record.proofs.turn.Tie as tie
 
 returns : tie.Need-returns
 unfolding turned

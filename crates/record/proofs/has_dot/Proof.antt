@@ -1,13 +1,15 @@
--- What is left of the name tells.
-use Prim.Native.Nat.{_-_}
-use lib.ListN.{length}
-use Rattle.update_decide.proofs.Placing.{Dotless, dot-goes, dotting}
+-- No byte below i is a dot.
+use Prim.Native.Nat.{_-_, _≤_}
+use mathlib.Core.Path.{_≡_}
+use lib.ListN.{length, drop}
+use Rattle.paper.specs.Answer.{among}
+use Rattle.record.proofs.Dotted.{dotting}
 use borrow.Author.Needs.{needs}
-use Rattle.update_decide.proofs.has_dot.Statement.{statement}
-use Rattle.update_decide.proofs.has_dot.Tie as tie
+use Rattle.record.proofs.has_dot.Statement.{statement}
+use Rattle.record.proofs.has_dot.Tie as tie
 
 abbrev Inv-loop : tie.InvT-loop
-Inv-loop name i₀ i = Dotless name i
+Inv-loop name i₀ i = (i ≤ length name) × (among 46 name ≡ among 46 (drop i name))
 
 abbrev μ-loop : tie.MeasureT-loop
 μ-loop name i₀ i = length name - i
@@ -23,6 +25,6 @@ has-dot-spec =
     (λ c. search (dotting, needs))  -- returns
     (λ c. search (dotting, needs))  -- add-i
     (λ c. search (dotting, needs))  -- loop-less
-    (λ c. dot-goes _ _ (c .before .before .before .loop .inv) (c .before .before .loop-test .taken) (c .if1 .left))  -- loop-again
+    (λ c. search (dotting, needs))  -- loop-again
     (λ c. search (dotting, needs))  -- returns-2
     )
