@@ -1,18 +1,18 @@
 // Replays the lister.
-use crate::answers::ends;
-use crate::fields::answer;
-use crate::fields::decode;
-use crate::fields::field;
-use crate::fields::part;
-use crate::fields::place_of;
-use crate::fields::readable;
-use crate::outputs::fill;
-use crate::outputs::holds;
-use crate::outputs::untouched;
 use crate::tally::Verdict;
 use crate::tally::verdict_on;
 use lister_lines::listing;
 use record::equal;
+use recorded_lines::answers::ends;
+use recorded_lines::fields::answer;
+use recorded_lines::fields::decode;
+use recorded_lines::fields::field;
+use recorded_lines::fields::part;
+use recorded_lines::fields::place_of;
+use recorded_lines::fields::readable;
+use recorded_lines::outputs::fill;
+use recorded_lines::outputs::holds;
+use recorded_lines::outputs::untouched;
 
 // list JUDGE RECORDS POOL = answer
 pub fn replay(line: &[u8], inputs: &mut [u8], out: &mut [u8]) -> Verdict {

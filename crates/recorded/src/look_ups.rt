@@ -1,19 +1,19 @@
 // Replays the look-ups: name, id and parent.
-use crate::answers::is_sought;
-use crate::fields::Parsed;
-use crate::fields::answer;
-use crate::fields::decode;
-use crate::fields::decode_base;
-use crate::fields::field;
-use crate::fields::number;
-use crate::fields::part;
-use crate::fields::readable;
 use crate::tally::Verdict;
 use crate::tally::verdict_on;
 use index::find_id;
 use index::find_name;
 use index::find_parent;
 use record::FieldId;
+use recorded_lines::answers::is_sought;
+use recorded_lines::fields::Parsed;
+use recorded_lines::fields::answer;
+use recorded_lines::fields::decode;
+use recorded_lines::fields::decode_base;
+use recorded_lines::fields::field;
+use recorded_lines::fields::number;
+use recorded_lines::fields::part;
+use recorded_lines::fields::readable;
 
 // name JUDGE RECORDS POOL NAME = answer
 pub fn replay_name(line: &[u8], inputs: &mut [u8]) -> Verdict {

@@ -1,18 +1,15 @@
 // Replays recorded.txt over the library: each line is a case, its inputs and the answer that was recorded. Every call is made anew, and
 // every byte of its answer compared. The inputs are lent as `&`, so no call can change them, and no test of them is needed.
-mod answers;
-mod fields;
 mod lister;
 mod look_ups;
-mod outputs;
 mod pruning;
 mod renumbering;
 mod tally;
 mod updating;
 
-use fields::field;
-use fields::part;
-use fields::place_of;
+use recorded_lines::fields::field;
+use recorded_lines::fields::part;
+use recorded_lines::fields::place_of;
 use tally::Line;
 use tally::Tally;
 use tally::Verdict;

@@ -2,8 +2,8 @@
 use borrow.Author.Needs.{needs}
 use Prim.Native.Nat.{_≤_, _-_}
 use lib.ListN.{length}
-use Rattle.recorded.proofs.fields.number.Statement.{statement}
-use Rattle.recorded.proofs.fields.number.Tie as tie
+use Rattle.recorded_lines.proofs.fields.number.Statement.{statement}
+use Rattle.recorded_lines.proofs.fields.number.Tie as tie
 
 abbrev Inv-loop : tie.InvT-loop
 Inv-loop text sum₀ i₀ sum i = sum ≤ 4294967295

@@ -2,8 +2,8 @@
 use borrow.Author.Needs.{needs}
 use Prim.Native.Nat.{_-_}
 use lib.ListN.{length}
-use Rattle.recorded.proofs.outputs.untouched.Statement.{statement}
-use Rattle.recorded.proofs.outputs.untouched.Tie as tie
+use Rattle.recorded_lines.proofs.outputs.untouched.Statement.{statement}
+use Rattle.recorded_lines.proofs.outputs.untouched.Tie as tie
 
 abbrev Inv-loop : tie.InvT-loop
 Inv-loop buffer from pattern i₀ i = Unit {0}

@@ -2,8 +2,8 @@
 use borrow.Author.Needs.{needs}
 use Prim.Native.Nat.{_≤_, _*_, _-_}
 use lib.ListN.{length}
-use Rattle.recorded.proofs.outputs.spelled.Statement.{statement}
-use Rattle.recorded.proofs.outputs.spelled.Tie as tie
+use Rattle.recorded_lines.proofs.outputs.spelled.Statement.{statement}
+use Rattle.recorded_lines.proofs.outputs.spelled.Tie as tie
 
 abbrev Inv-loop : tie.InvT-loop
 Inv-loop buffer n text i₀ i = (i ≤ n) × (n ≤ length buffer) × (n * 2 ≤ length text)

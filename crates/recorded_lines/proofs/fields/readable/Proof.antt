@@ -2,8 +2,8 @@
 use borrow.Author.Needs.{needs}
 use Prim.Native.Nat.{_≤_, _-_}
 use lib.ListN.{length}
-use Rattle.recorded.proofs.fields.readable.Statement.{statement}
-use Rattle.recorded.proofs.fields.readable.Tie as tie
+use Rattle.recorded_lines.proofs.fields.readable.Statement.{statement}
+use Rattle.recorded_lines.proofs.fields.readable.Tie as tie
 
 abbrev Inv-loop : tie.InvT-loop
 Inv-loop line kinds k₀ k = k ≤ length kinds

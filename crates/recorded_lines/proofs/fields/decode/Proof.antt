@@ -3,8 +3,8 @@ use borrow.Author.Needs.{needs}
 use Prim.Native.Nat.{_≤_, _*_, _-_}
 use lib.ListN.{length}
 use mathlib.Core.Path.{_≡_}
-use Rattle.recorded.proofs.fields.decode.Statement.{statement}
-use Rattle.recorded.proofs.fields.decode.Tie as tie
+use Rattle.recorded_lines.proofs.fields.decode.Statement.{statement}
+use Rattle.recorded_lines.proofs.fields.decode.Tie as tie
 
 abbrev Inv-loop : tie.InvT-loop
 Inv-loop text buffer₀ from n i₀ at₀ buffer i at = (i ≤ n) × (n * 2 ≤ length text) × (from ≤ at) × (at ≤ length buffer₀) × (length buffer ≡ length buffer₀)

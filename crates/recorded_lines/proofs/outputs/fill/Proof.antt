@@ -3,8 +3,8 @@ use borrow.Author.Needs.{needs}
 use Prim.Native.Nat.{_≤_, _-_}
 use lib.ListN.{length}
 use mathlib.Core.Path.{_≡_}
-use Rattle.recorded.proofs.outputs.fill.Statement.{statement}
-use Rattle.recorded.proofs.outputs.fill.Tie as tie
+use Rattle.recorded_lines.proofs.outputs.fill.Statement.{statement}
+use Rattle.recorded_lines.proofs.outputs.fill.Tie as tie
 
 abbrev Inv-loop : tie.InvT-loop
 Inv-loop buffer₀ pattern i₀ buffer i = (length buffer ≡ length buffer₀) × (i ≤ length buffer₀)

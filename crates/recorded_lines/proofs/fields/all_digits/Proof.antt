@@ -2,8 +2,8 @@
 use borrow.Author.Needs.{needs}
 use Prim.Native.Nat.{_≤_, _-_}
 use lib.ListN.{length}
-use Rattle.recorded.proofs.fields.all_digits.Statement.{statement}
-use Rattle.recorded.proofs.fields.all_digits.Tie as tie
+use Rattle.recorded_lines.proofs.fields.all_digits.Statement.{statement}
+use Rattle.recorded_lines.proofs.fields.all_digits.Tie as tie
 
 abbrev Inv-loop : tie.InvT-loop
 Inv-loop text i₀ i = i ≤ length text

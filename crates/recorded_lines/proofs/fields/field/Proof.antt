@@ -2,8 +2,8 @@
 use borrow.Author.Needs.{needs}
 use Prim.Native.Nat.{_≤_}
 use lib.ListN.{length}
-use Rattle.recorded.proofs.fields.field.Statement.{statement}
-use Rattle.recorded.proofs.fields.field.Tie as tie
+use Rattle.recorded_lines.proofs.fields.field.Statement.{statement}
+use Rattle.recorded_lines.proofs.fields.field.Tie as tie
 
 abbrev Inv-loop : tie.InvT-loop
 Inv-loop line k from₀ left₀ from left = from ≤ length line

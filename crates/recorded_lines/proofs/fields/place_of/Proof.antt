@@ -2,8 +2,8 @@
 use borrow.Author.Needs.{needs}
 use Prim.Native.Nat.{_≤_, _-_}
 use lib.ListN.{length}
-use Rattle.recorded.proofs.fields.place_of.Statement.{statement}
-use Rattle.recorded.proofs.fields.place_of.Tie as tie
+use Rattle.recorded_lines.proofs.fields.place_of.Statement.{statement}
+use Rattle.recorded_lines.proofs.fields.place_of.Tie as tie
 
 abbrev Inv-loop : tie.InvT-loop
 Inv-loop text from byte i₀ i = (from ≤ i) × (i ≤ length text)
