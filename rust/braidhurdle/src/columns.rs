@@ -166,6 +166,13 @@ impl<'a> TreeRef<'a> {
         let found = self.find_name(name)?;
         Ok(found.and_then(|(_, slot)| Columns::of_accepted(self).nth(slot.0 as usize)))
     }
+
+    /// The name at a slot, the very part of the pool that holds it; none where there is none.
+    fn name(self, slot: Slot) -> Option<&'a [u8]> {
+        let part = c::found_name(self.records, self.pool, slot.0);
+        let from = (part.found == 1).then_some(part.offset as usize)?;
+        self.pool.get(from..)?.get(..part.length as usize)
+    }
 }
 
 impl<'a> Columns<'a> {
@@ -173,13 +180,6 @@ impl<'a> Columns<'a> {
     fn of_accepted(tree: TreeRef<'a>) -> Columns<'a> {
         let above = [(FieldId(0), Slot(0), 0); MOST_LEVELS];
         Columns { tree, next: 0, above, names: [&[]; MOST_LEVELS], level: 0 }
-    }
-
-    /// The name at a slot, the very part of the pool that holds it; none where there is none.
-    fn name(self, slot: Slot) -> Option<&'a [u8]> {
-        let part = c::found_name(self.records, self.pool, slot.0);
-        let from = (part.found == 1).then_some(part.offset as usize)?;
-        self.pool.get(from..)?.get(..part.length as usize)
     }
 }
 
