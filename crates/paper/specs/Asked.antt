@@ -14,6 +14,7 @@ use Rattle.paper.specs.Rows.{Row}
 use Rattle.paper.specs.Sound.{text, ids}
 use Rattle.paper.specs.Bytes.{turned}
 use Rattle.paper.specs.Encode.{bytes16, bytes32, encode-records, record-bytes, pool-bytes}
+use Rattle.paper.specs.Lent.{Stored, Lent}
 use Rattle.paper.specs.Entries.{Result, update-entry, prune-entry, renumber-entry, find-name, find-id, find-parent}
 use Rattle.paper.specs.Sample.{primitive, T-records, T-pool}
 
@@ -31,23 +32,23 @@ pub record Lending : Type 0 where
 
 abbrev pub id-bytes : List ℕ → List ℕ
 id-bytes [] = []
-id-bytes (i ∷ is) = bytes32 i (id-bytes is)
+id-bytes (id ∷ ids) = bytes32 id (id-bytes ids)
 
 -- With room for any answer.
 abbrev pub lending : (records pool identifiers : List ℕ) → (last : ℕ) → Lending
-lending s p i last =
+lending records pool identifiers last =
     record {
-      records = s;
-      pool = p;
-      identifiers = id-bytes i;
+      records = records;
+      pool = pool;
+      identifiers = id-bytes identifiers;
       last = last;
       room-records = 24576;
       room-names = 32768;
-      room-identifiers = length (id-bytes i);
+      room-identifiers = length (id-bytes identifiers);
     }
 
 abbrev pub lent : Forest Field → (identifiers : List ℕ) → (last : ℕ) → Lending
-lent t = lending (record-bytes t) (pool-bytes t)
+lent forest = lending (record-bytes forest) (pool-bytes forest)
 
 abbrev pub T-lent : (identifiers : List ℕ) → (last : ℕ) → Lending
 T-lent = lending T-records T-pool
@@ -95,7 +96,7 @@ pub data Ask : Type 0 where
 
 -- The signed id of an id of the definitions, which is 2^31 more. `pos n` is n, and `negsuc n` is -(n + 1).
 unfoldable pub signed-id : ℕ → ℤ
-signed-id i = cond (ltb i 2_147_483_648) (negsuc (2_147_483_647 - i)) (pos (i - 2_147_483_648))
+signed-id id = cond (ltb id 2_147_483_648) (negsuc (2_147_483_647 - id)) (pos (id - 2_147_483_648))
 
 -- What is answered: a tree's ids in slot order, and with an update's the last id; what is found; a refusal.
 infix 20 refusal_list_place_
@@ -107,11 +108,11 @@ pub data Reply : Type 0 where
   refusal_list_place_ : ℕ → ℕ → ℕ → Reply
 
 abbrev pub ids-are : List ℕ → Reply
-ids-are l = tree (map pos l)
+ids-are ids = tree (map pos ids)
 
 infix 20 _with-last_
 abbrev pub _with-last_ : List ℕ → ℕ → Reply
-l with-last i = updated (map pos l) (pos i)
+ids with-last last = updated (map pos ids) (pos last)
 
 -- ---- the bytes of a request: its pool has the deletions' paths, then the parents' paths, then the new names
 
@@ -158,64 +159,72 @@ lists drops adds =
 -- ---- the questions, put to an update or a pruner of the entries' types: T's last id is 10, no identifiers
 
 abbrev pub AnUpdate : Type 0
-AnUpdate =
-    (records pool identifiers : List ℕ) (last : ℕ)
-    (deletions additions added request : List ℕ) (room-records room-names : ℕ) → Answer Result
+AnUpdate = Stored → Lent → Answer Result
 
 abbrev pub APruner : Type 0
 APruner = (records pool selected : List ℕ) (full : Bool) (room-records room-names : ℕ) → Answer Result
 
 abbrev pub put-update : AnUpdate → Lending → Lists → Answer Result
-put-update f b q =
-    f (b .records) (b .pool) (b .identifiers) (b .last) (q .deletions) (q .additions) (q .added) (q .request)
-    (b .room-records) (b .room-names)
+put-update update given asked =
+    update (record { records = given .records; pool = given .pool; last = given .last })
+    (record {
+      identifiers = given .identifiers;
+      deletions = asked .deletions;
+      additions = asked .additions;
+      added-records = asked .added;
+      request-pool = asked .request;
+      room-records = given .room-records;
+      room-names = given .room-names;
+    })
 
 abbrev pub put-prune : APruner → Lending → List ℕ → Bool → Answer Result
-put-prune f b selected full = f (b .records) (b .pool) (id-bytes selected) full (b .room-records) (b .room-names)
+put-prune pruner given selected full =
+    pruner (given .records) (given .pool) (id-bytes selected) full (given .room-records) (given .room-names)
 
 abbrev pub put-renumber : Lending → ℕ → Answer Result
-put-renumber b start =
-    renumber-entry (b .records) (b .pool) (b .identifiers) start (b .room-records) (b .room-names) (b .room-identifiers)
+put-renumber given start =
+    renumber-entry (given .records) (given .pool) (given .identifiers) start
+    (given .room-records) (given .room-names) (given .room-identifiers)
 
 abbrev pub asked-update : AnUpdate → List String → List New → Answer Result
-asked-update f drops adds = put-update f (T-lent [] 10) (lists drops adds)
+asked-update update drops adds = put-update update (T-lent [] 10) (lists drops adds)
 
 abbrev pub asked-prune : APruner → List ℕ → Bool → Answer Result
-asked-prune f selected full = put-prune f (T-lent [] 10) selected full
+asked-prune pruner selected full = put-prune pruner (T-lent [] 10) selected full
 
 -- ---- the answers, as they are read
 
 abbrev pub shown : Result → List ℤ
-shown r = map signed-id (ids (r .tree))
+shown result = map signed-id (ids (result .tree))
 
 abbrev tree-reply : Answer Result → Reply
-tree-reply (ok r) = tree (shown r)
+tree-reply (ok result) = tree (shown result)
 tree-reply (refused n l p) = refusal n list l place p
 
 abbrev identifiers-reply : Answer Result → Reply
-identifiers-reply (ok r) = tree (map signed-id (r .identifiers))
+identifiers-reply (ok result) = tree (map signed-id (result .identifiers))
 identifiers-reply (refused n l p) = refusal n list l place p
 
 abbrev pub update-reply : Answer Result → Reply
-update-reply (ok r) = updated (shown r) (signed-id (turned (r .last)))
+update-reply (ok result) = updated (shown result) (signed-id (turned (result .last)))
 update-reply (refused n l p) = refusal n list l place p
 
 abbrev find-reply : Answer (Option Row) → Reply
 find-reply (ok none) = nothing
-find-reply (ok (some r)) = found (signed-id (r .field .id))
+find-reply (ok (some row)) = found (signed-id (row .field .id))
 find-reply (refused n l p) = refusal n list l place p
 
 unfoldable pub answer-of : Lending → Ask → Reply
-answer-of b (renumber-from start) = tree-reply (put-renumber b start)
-answer-of b (identifiers-from start) = identifiers-reply (put-renumber b start)
-answer-of b (find name) = find-reply (find-name (b .records) (b .pool) (text name))
-answer-of b (find-number id) = find-reply (find-id (b .records) (b .pool) id)
-answer-of b (find-above id) = find-reply (find-parent (b .records) (b .pool) id)
-answer-of b (drop ds add adds) = update-reply (put-update update-entry b (lists ds adds))
-answer-of b (request q) = update-reply (put-update update-entry b q)
-answer-of b (choose selected) = tree-reply (put-prune prune-entry b selected false)
-answer-of b (choose-full selected) = tree-reply (put-prune prune-entry b selected true)
-answer-of b (of c ask q) = answer-of c q
+answer-of given (renumber-from start) = tree-reply (put-renumber given start)
+answer-of given (identifiers-from start) = identifiers-reply (put-renumber given start)
+answer-of given (find name) = find-reply (find-name (given .records) (given .pool) (text name))
+answer-of given (find-number id) = find-reply (find-id (given .records) (given .pool) id)
+answer-of given (find-above id) = find-reply (find-parent (given .records) (given .pool) id)
+answer-of given (drop drops add adds) = update-reply (put-update update-entry given (lists drops adds))
+answer-of given (request asked) = update-reply (put-update update-entry given asked)
+answer-of given (choose selected) = tree-reply (put-prune prune-entry given selected false)
+answer-of given (choose-full selected) = tree-reply (put-prune prune-entry given selected true)
+answer-of given (of other ask asked) = answer-of other asked
 
 unfoldable pub answer : Ask → Reply
 answer = answer-of (T-lent [] 10)

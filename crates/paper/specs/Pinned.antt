@@ -24,28 +24,28 @@ use Rattle.paper.specs.Worked.{Example, _gives_}
 
 -- A tree with no identifiers and last id 10.
 abbrev pub tree-of : Forest Field → Lending
-tree-of t = lent t [] 10
+tree-of forest = lent forest [] 10
 
 -- Its first n records alone, with all the names.
 abbrev cut : ℕ → Forest Field → Lending
-cut n t = lending (take (n * 24) (record-bytes t)) (pool-bytes t) [] 10
+cut n forest = lending (take (n * 24) (record-bytes forest)) (pool-bytes forest) [] 10
 
 -- Its records alone, with no name.
 abbrev nameless : Forest Field → Lending
-nameless t = lending (record-bytes t) [] [] 10
+nameless forest = lending (record-bytes forest) [] [] 10
 
 -- A byte more than its records.
 abbrev pub longer : Forest Field → Lending
-longer t = lending (record-bytes t ++ 0 ∷ []) (pool-bytes t) [] 10
+longer forest = lending (record-bytes forest ++ 0 ∷ []) (pool-bytes forest) [] 10
 
 -- With room for so many bytes of records, names and identifiers.
 abbrev with-room : (records names identifiers : ℕ) → Lending → Lending
-with-room records names identifiers b =
+with-room records names identifiers given =
     record {
-      records = b .records;
-      pool = b .pool;
-      identifiers = b .identifiers;
-      last = b .last;
+      records = given .records;
+      pool = given .pool;
+      identifiers = given .identifiers;
+      last = given .last;
       room-records = records;
       room-names = names;
       room-identifiers = identifiers;
@@ -207,19 +207,20 @@ others =
 
 -- A request of these bytes; the additions tree and the request pool are those of what is lent.
 abbrev lists-are : (deletions additions : List ℕ) → (added : Lending) → Ask
-lists-are ds ps b = request (record { deletions = ds; additions = ps; added = b .records; request = b .pool })
+lists-are deletions additions added =
+    request (record { deletions = deletions; additions = additions; added = added .records; request = added .pool })
 
 -- A record named `a`, with id 1, of a kind and so many direct children; and what is told of it, with 4 for one of its bytes.
 abbrev one : (kind kids : ℕ) → List ℕ
 one kind kids = row24 1 0 1 kind 0 kids 0 0
 
 abbrev with-4 : List ℕ → Reply → ℕ → Example
-with-4 r told at = (of lending (set r at 4) (text "a") [] 1 ask find "a") gives told
+with-4 records told at = (of lending (set records at 4) (text "a") [] 1 ask find "a") gives told
 
 -- The same bytes again and again.
 abbrev times : ℕ → List ℕ → List ℕ
-times zero r = []
-times (suc n) r = r ++ times n r
+times zero bytes = []
+times (suc n) bytes = bytes ++ times n bytes
 
 -- 128 records of a kind that is none, with names of 255 bytes that no pool has, and one whose name has a last length.
 abbrev long-names : (last : ℕ) → Lending
@@ -322,8 +323,8 @@ met =
 
 -- Every entry, of one base: all tell the same.
 abbrev each-tells : Lending → Reply → List Example
-each-tells b r =
-    map (λ q. (of b ask q) gives r)
+each-tells given told =
+    map (λ q. (of given ask q) gives told)
     ((drop [] add []) ∷ choose [] ∷ renumber-from 1 ∷ find "a" ∷ find-number 1 ∷ find-above 1 ∷ [])
 
 -- Of the base: 2 and 3; 3 and 4; 4 and 5; 5 and 6; 6 and 7; 7 and 8. 1 and 2, where there are buffers.

@@ -84,7 +84,7 @@ renumbering-ends at requests r e old new h =
 pub renumbering-begins : (s p i : List ℕ) (start lr ln li : ℕ) (r : Result) → Bytes s
     → renumber-entry s p i start lr ln li ≡ ok r → (last : ℕ)
     → turned start + size (r .tree) ≤ suc (turned last)
-    → BeginsStored (record { records = record-bytes (r .tree); names = pool-bytes (r .tree); last = last })
+    → BeginsStored (record { records = record-bytes (r .tree); pool = pool-bytes (r .tree); last = last })
 renumbering-begins s p i start lr ln li r b e last l =
     let again = renumber-again s p i start lr ln li r b e in
     let n = renumber-numbers s p i start lr ln li r e in

@@ -10,35 +10,28 @@ use Rattle.paper.specs.Rows.{Row}
 use Rattle.paper.specs.Decode.{decode}
 use Rattle.paper.specs.Encode.{record-bytes, pool-bytes}
 use Rattle.paper.specs.Entries.{Result}
-use Rattle.paper.specs.Outcome.{Changed, changed, Found, leaves}
-use Rattle.laws.proofs.Basics.{refused≢ok, ok-is}
+use Rattle.paper.specs.Outcome.{Changed, changed, Found, leaves, Buffer, Answers}
+use Rattle.laws.proofs.Basics.{ok-is}
 use Rattle.theorems.specs.Again.{ReadsAgain}
-use Rattle.theorems.specs.One.{Handed, Promised, PromisedFound, Untouched}
+use Rattle.theorems.specs.One.{PromisedFound, Untouched, NoByteChanges}
 
-abbrev handed : Changed → (records names identifiers : List ℕ) → Handed
-handed n r m i = record { numbers = n; records = r; names = m; identifiers = i }
-
-pub one-answer : (a : Answer Result) (before x y : Handed) → Promised a before x → Promised a before y → x ≡ y
-one-answer a before x y p q =
-    let same : handed (x .numbers) (x .records) (x .names) (x .identifiers)
-    ≡ handed (y .numbers) (y .records) (y .names) (y .identifiers) = cc in
-    same
+pub one-answer : {A : Type 0} (says : Answer Result → A) (answer : Answer Result) (buffers : List Buffer)
+    → (said said′ : A) (news news′ : List (List ℕ)) → Answers says answer buffers said news
+    → Answers says answer buffers said′ news′ → (said ≡ said′) × (news ≡ news′)
+one-answer says answer buffers said said′ news news′ h k = (h .told ∙ sym (k .told), h .left ∙ sym (k .left))
 
 pub one-found : (a : Answer (Option Row)) (x y : Found) → PromisedFound a x → PromisedFound a y → x ≡ y
 one-found a x y p q = p ∙ sym q
 
-refused-untouched : (n l p : ℕ) (before after : Handed) → Promised (refused n l p) before after → Untouched before after
-unfolding leaves
-refused-untouched n l p before after h = record { records = h .records; names = h .names; identifiers = h .identifiers }
+told-untouched : (answer : Answer Result) (buffers : List Buffer) (said : Changed) (news : List (List ℕ))
+    → Answers changed answer buffers said news → (said .refusal ≡ 0 → ⊥) → Untouched buffers news
+unfolding leaves changed
+told-untouched (ok r) buffers said news h f = absurd (f (ap (λ (c : Changed). c .refusal) (h .told)))
+told-untouched (refused n l p) buffers said news h f = h .left
 
-pub untouched : (a : Answer Result) (before after : Handed) → Promised a before after
-    → ((n l p : ℕ) → a ≡ refused n l p → Untouched before after)
-    × ((after .numbers .refusal ≡ 0 → ⊥) → Untouched before after)
-unfolding changed
-untouched (ok r) before after h =
-    (λ n l p e. absurd (refused≢ok (sym e)), λ f. absurd (f (ap (λ (c : Changed). c .refusal) (h .numbers))))
-untouched (refused n l p) before after h =
-    (λ m k q e. refused-untouched n l p before after h, λ f. refused-untouched n l p before after h)
+pub no-byte-changes : NoByteChanges
+unfolding leaves
+no-byte-changes = record { refused-by = λ says n l p buffers said news h. h .left; told = told-untouched }
 
 pub one-tree : (r r′ : Result) → ReadsAgain r → ReadsAgain r′
     → record-bytes (r .tree) ≡ record-bytes (r′ .tree)

@@ -13,10 +13,11 @@ use Rattle.paper.specs.Renumber.{renumber}
 use Rattle.paper.specs.Update.{Schema, planned}
 use Rattle.paper.specs.Rebuild.{update}
 use Rattle.paper.specs.Bytes.{turned}
-use Rattle.paper.specs.Lists.{deletion-paths, addition-paths, id-list}
+use Rattle.paper.specs.Lists.{id-list}
 use Rattle.paper.specs.Decode.{decode}
 use Rattle.paper.specs.Limits.{whole, sized, sized-ids, sized-update}
-use Rattle.paper.specs.Entries.{Result, read, update-entry, prune-entry, renumber-entry}
+use Rattle.paper.specs.Lent.{Stored, Lent}
+use Rattle.paper.specs.Entries.{Result, schema-in, request-in, read, update-entry, prune-entry, renumber-entry}
 use Rattle.laws.specs.Fit.{Bytes, Fit}
 use Rattle.laws.proofs.Basics.{unbind, rebind, ok-is, fault-ok, no-fault, passed}
 use Rattle.laws.proofs.RoundTrip.{both}
@@ -24,12 +25,13 @@ use Rattle.laws.proofs.Fitting.{ids-sized, decode-fit}
 
 -- ---- 2, 7 and 8
 
-sized-trees : (s p i d a b r : List ℕ) → sized-update s p i d a b r ≡ true
-    → (sized s p ≡ true) × (sized b r ≡ true)
+sized-trees : (s : Stored) (q : Lent) → sized-update s q ≡ true
+    → (sized (s .records) (s .pool) ≡ true) × (sized (q .added-records) (q .request-pool) ≡ true)
 unfolding sized-update
-sized-trees s p i d a b r e =
-    let o = both (sized-ids 64 s p i) ((whole 8 64 d && whole 8 64 a) && sized b r) e in
-    (ids-sized 64 s p i (o .0), both (whole 8 64 d && whole 8 64 a) (sized b r) (o .1) .1)
+sized-trees s q e =
+    let entries = whole 8 64 (q .deletions) && whole 8 64 (q .additions) in
+    let o = both (sized-ids 64 (s .records) (s .pool) (q .identifiers)) (entries && sized _ _) e in
+    (ids-sized 64 _ _ (q .identifiers) (o .0), both entries (sized _ _) (o .1) .1)
 
 -- 7 and 8 do not look at the identifiers or the number of the list.
 pub sound-any : (l : ℕ) (t : Forest Field) (identifiers : List ℕ) {x : Unit {0}}
@@ -102,34 +104,26 @@ open-renumber s p i start lr ln li r e =
       renumbers = rw (← (ok-is a₄)) e₄;
     }
 
-pub record OpenedUpdate (s p i : List ℕ) (last : ℕ) (d a b q : List ℕ) (r : Result) : Type 0 where
+pub record OpenedUpdate (s : Stored) (q : Lent) (r : Result) : Type 0 where
   pub tree : Forest Field
-  pub base : Base s p tree
+  pub base : Base (s .records) (s .pool) tree
   pub new : Forest Field
-  pub new-sizes : sized b q ≡ true
-  pub new-decodes : decode 1 b q ≡ ok new
+  pub new-sizes : sized (q .added-records) (q .request-pool) ≡ true
+  pub new-decodes : decode 1 (q .added-records) (q .request-pool) ≡ ok new
   pub answer : Schema
-  pub updates : update (record { tree = tree; last = turned last })
-      (record {
-        identifiers = id-list i;
-        deletions = deletion-paths q d;
-        additions = addition-paths q a;
-        added = new;
-      })
-      ≡ ok answer
+  pub updates : update (schema-in s tree) (request-in q new) ≡ ok answer
   pub result : r ≡ record { tree = answer .tree; identifiers = []; last = turned (answer .last) }
 
-pub open-update : (s p i : List ℕ) (last : ℕ) (d a b q : List ℕ) (lr ln : ℕ) (r : Result)
-    → update-entry s p i last d a b q lr ln ≡ ok r → OpenedUpdate s p i last d a b q r
+pub open-update : (s : Stored) (q : Lent) (r : Result) → update-entry s q ≡ ok r → OpenedUpdate s q r
 unfolding update-entry update planned
-open-update s p i last d a b q lr ln r e =
+open-update s q r e =
     unbind _ _ e λ _ _ a₁. unbind _ _ a₁ λ _ e₂ a₂. unbind _ _ a₂ λ t e₃ a₃. unbind _ _ a₃ λ n e₄ a₄.
     unbind _ _ a₄ λ _ _ a₅.
     unbind _ _ a₅ λ _ _ a₆. unbind _ _ a₆ λ u e₇ a₇. unbind _ _ e₇ λ _ e₈ _. unbind _ _ e₈ λ _ e₉ _.
-    let z = sized-trees s p i d a b q (passed 2 0 0 (sized-update s p i d a b q) e₂) in
+    let z = sized-trees s q (passed 2 0 0 (sized-update s q) e₂) in
     record {
       tree = t;
-      base = record { sizes = z .0; decodes = e₃; sound-tree = sound-any 0 t (id-list i) e₉ };
+      base = record { sizes = z .0; decodes = e₃; sound-tree = sound-any 0 t (id-list (q .identifiers)) e₉ };
       new = n;
       new-sizes = z .1;
       new-decodes = e₄;

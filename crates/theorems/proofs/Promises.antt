@@ -16,8 +16,9 @@ use Rattle.paper.specs.Bytes.{turned}
 use Rattle.paper.specs.Decode.{decode}
 use Rattle.paper.specs.Encode.{record-bytes, pool-bytes}
 use Rattle.paper.specs.Limits.{sized}
+use Rattle.paper.specs.Lent.{Stored, Lent}
 use Rattle.paper.specs.Entries.{Result, update-entry, prune-entry, renumber-entry}
-use Rattle.paper.specs.Outcome.{changed, Found}
+use Rattle.paper.specs.Outcome.{changed, Found, Buffer, Answers}
 use Rattle.paper.specs.Sample.{T, T-records, T-pool}
 use Rattle.paper.specs.Asked.{AnUpdate, APruner, signed-id, answer, update-reply, _with-last_}
 use Rattle.paper.specs.Worked.{examples}
@@ -26,11 +27,10 @@ use Rattle.paper.proofs.Hold.{T-decodes, all-hold}
 use Rattle.paper.proofs.Pins.{Held, pins}
 use Rattle.laws.specs.Fit.{Bytes}
 use Rattle.theorems.specs.Run.{Column, Has, Begins, run, evolve, Lasting, LastingRun}
-use Rattle.theorems.specs.Stored.{Stored, Lent, schema-of, request-of, update-stored, run-stored, BeginsStored}
-use Rattle.theorems.specs.Stored.{LastingStored}
+use Rattle.theorems.specs.Stored.{schema-of, request-of, LendsBytes, run-stored, BeginsStored, LastingStored}
 use Rattle.theorems.specs.Again.{ReadsAgain}
 use Rattle.theorems.specs.Changed.{Pruned, Renumbered}
-use Rattle.theorems.specs.One.{Handed, Promised, Untouched, PromisedFound, Told, RefusalsTold}
+use Rattle.theorems.specs.One.{NoByteChanges, PromisedFound, Told, RefusalsTold}
 use Rattle.theorems.specs.Numbered.{OneNumberEach}
 use Rattle.theorems.specs.Sites.{IdsAreNoSlots}
 use Rattle.theorems.specs.Wrong.{P4, P5, RightUpdate, P8, P9, RightPruner}
@@ -38,7 +38,7 @@ use Rattle.theorems.proofs.Signed.{signed-natural, signed-negative}
 use Rattle.theorems.proofs.Evolution.{evolved-stays, lasting, one-column}
 use Rattle.theorems.proofs.Storing.{lasting-stored}
 use Rattle.theorems.proofs.Beginning.{T-schema, T-stored, T-requests, T-begins, T-begins-stored}
-use Rattle.theorems.proofs.Beginning.{accepted-twice}
+use Rattle.theorems.proofs.Beginning.{T-lends-bytes, accepted-twice}
 use Rattle.theorems.proofs.Ends as Ends
 use Rattle.theorems.proofs.Again.{decoded-again, update-again, prune-again, renumber-again}
 use Rattle.theorems.proofs.Again.{prune-parts, renumber-numbers}
@@ -77,113 +77,116 @@ signed-reading n l = (signed-natural n l, signed-negative n l)
 -- ---- demand 3
 
 -- Over forests: from an accepted schema whose ids are at most its last id, every run of updates lasts.
-pub runs-last : (s : Schema) → Begins s → (requests : ℕ → Request) → LastingRun s requests
+pub runs-last : (schema : Schema) → Begins schema → (requests : ℕ → Request) → LastingRun schema requests
 runs-last = lasting
 
 -- Over bytes: the same, where each update is given what the last accepted one answered.
-pub runs-last-stored : (s : Stored) → BeginsStored s → (requests : ℕ → Lent)
-    → LastingStored (run-stored s requests) requests
+pub runs-last-stored : (stored : Stored) → BeginsStored stored → (requests : ℕ → Lent) → LendsBytes requests
+    → LastingStored (run-stored stored requests) requests
 runs-last-stored = lasting-stored
 
 -- Today no request changes a column: an id found in two schemas of a run, whichever two, names the same column in both.
-pub ids-keep-columns : (s : Schema) → Begins s → (requests : ℕ → Request) (i j : ℕ) (c d : Column)
-    → Has (run s requests i) c → Has (run s requests j) d → c .field .id ≡ d .field .id → c ≡ d
-ids-keep-columns s b requests =
-    one-column _ _ (λ i. evolved-stays (update (run s requests i) (requests i)) (requests i))
-    (runs-last s b requests .lasts)
+pub ids-keep-columns : (schema : Schema) → Begins schema → (requests : ℕ → Request)
+    → (i j : ℕ) (column other : Column) → Has (run schema requests i) column
+    → Has (run schema requests j) other → column .field .id ≡ other .field .id → column ≡ other
+ids-keep-columns schema begins requests =
+    one-column _ _ (λ i. evolved-stays (update (run schema requests i) (requests i)) (requests i))
+    (runs-last schema begins requests .lasts)
 
 -- The same over bytes.
-pub ids-keep-columns-stored : (s : Stored) → BeginsStored s → (requests : ℕ → Lent) (i j : ℕ) (c d : Column)
-    → Has (schema-of (run-stored s requests i)) c → Has (schema-of (run-stored s requests j)) d
-    → c .field .id ≡ d .field .id → c ≡ d
-ids-keep-columns-stored s b requests =
-    one-column (λ i. schema-of (run-stored s requests i)) _
-    (λ i. evolved-stays (update-stored (run-stored s requests i) (requests i)) (request-of (requests i)))
-    (runs-last-stored s b requests .lasts)
+pub ids-keep-columns-stored : (stored : Stored) → BeginsStored stored → (requests : ℕ → Lent) → LendsBytes requests
+    → (i j : ℕ) (column other : Column) → Has (schema-of (run-stored stored requests i)) column
+    → Has (schema-of (run-stored stored requests j)) other → column .field .id ≡ other .field .id → column ≡ other
+ids-keep-columns-stored stored begins requests bytes =
+    one-column (λ i. schema-of (run-stored stored requests i)) _
+    (λ i. evolved-stays (update-entry (run-stored stored requests i) (requests i)) (request-of (requests i)))
+    (runs-last-stored stored begins requests bytes .lasts)
 
--- Neither is empty: T begins a run,
-pub runs-begin : Begins T-schema × BeginsStored T-stored
-runs-begin = (T-begins, T-begins-stored)
+-- Neither is empty: T begins a run, and these requests lend bytes,
+pub runs-begin : Begins T-schema × BeginsStored T-stored × LendsBytes T-requests
+runs-begin = (T-begins, T-begins-stored, T-lends-bytes)
 
--- and two updates in a row are accepted. The first consumes 11
+-- and two of them in a row are accepted. The first consumes 11
 -- for a column that vanishes; the second is given 13.
-pub runs-go-on : (update-reply (update-stored T-stored (T-requests 0))
+pub runs-go-on : (update-reply (update-entry T-stored (T-requests 0))
     ≡ (1 ∷ 4 ∷ 5 ∷ 3 ∷ 8 ∷ 9 ∷ 10 ∷ 12 ∷ []) with-last 12)
-    × (update-reply (update-stored (run-stored T-stored T-requests 1) (T-requests 1))
+    × (update-reply (update-entry (run-stored T-stored T-requests 1) (T-requests 1))
     ≡ (1 ∷ 4 ∷ 5 ∷ 3 ∷ 8 ∷ 9 ∷ 10 ∷ 12 ∷ 13 ∷ []) with-last 13)
 runs-go-on = accepted-twice
 
 -- A renumbering ends a run: no run lasts in which T is followed by T renumbered from 4, whatever was asked.
-pub renumbering-ends : (at : ℕ → Schema) (requests : ℕ → Request) (r : Result)
-    → renumber-entry T-records T-pool [] 4 24576 32768 0 ≡ ok r
-    → at 0 .tree ≡ T → at 1 .tree ≡ r .tree → Lasting at (λ i. evolve (requests i)) → ⊥
+pub renumbering-ends : (at : ℕ → Schema) (requests : ℕ → Request) (result : Result)
+    → renumber-entry T-records T-pool [] 4 24576 32768 0 ≡ ok result
+    → at 0 .tree ≡ T → at 1 .tree ≡ result .tree → Lasting at (λ i. evolve (requests i)) → ⊥
 renumbering-ends = Ends.renumbering-ends
 
 -- Another may begin, from what it answered, with a last id that is at least the highest that it gave.
-pub renumbering-begins : (records pool identifiers : List ℕ) (start room-records room-names room-ids : ℕ) (r : Result)
-    → Bytes records → renumber-entry records pool identifiers start room-records room-names room-ids ≡ ok r
-    → (last : ℕ) → turned start + size (r .tree) ≤ suc (turned last)
-    → BeginsStored (record { records = record-bytes (r .tree); names = pool-bytes (r .tree); last = last })
+pub renumbering-begins : (records pool identifiers : List ℕ) (start room-records room-names room-ids : ℕ)
+    → (result : Result) → Bytes records
+    → renumber-entry records pool identifiers start room-records room-names room-ids ≡ ok result
+    → (last : ℕ) → turned start + size (result .tree) ≤ suc (turned last)
+    → BeginsStored (record { records = record-bytes (result .tree); pool = pool-bytes (result .tree); last = last })
 renumbering-begins = Ends.renumbering-begins
 
 -- ---- the round trip. `Bytes` says that what is lent are bytes, numbers below 256.
 
 -- What `decode` gives of a list that passed 2, encoded, decodes to the same forest.
-pub decode-round-trip : (list list′ : ℕ) (records pool : List ℕ) (t : Forest Field)
-    → Bytes records → sized records pool ≡ true → decode list records pool ≡ ok t
-    → decode list′ (record-bytes t) (pool-bytes t) ≡ ok t
+pub decode-round-trip : (list list′ : ℕ) (records pool : List ℕ) (tree : Forest Field)
+    → Bytes records → sized records pool ≡ true → decode list records pool ≡ ok tree
+    → decode list′ (record-bytes tree) (pool-bytes tree) ≡ ok tree
 decode-round-trip = decoded-again
 
 -- What an accepted update answers is accepted again by 2 to 8, and is read as its tree.
-pub update-round-trip : (records pool identifiers : List ℕ) (last : ℕ) (deletions additions added request : List ℕ)
-    → (room-records room-names : ℕ) (r : Result) → Bytes records → Bytes added
-    → update-entry records pool identifiers last deletions additions added request room-records room-names ≡ ok r
-    → ReadsAgain r
+pub update-round-trip : (stored : Stored) (lent : Lent) (result : Result)
+    → Bytes (stored .records) → Bytes (lent .added-records) → update-entry stored lent ≡ ok result → ReadsAgain result
 update-round-trip = update-again
 
 -- So is what an accepted pruning answers,
-pub prune-round-trip : (records pool selected : List ℕ) (full : Bool) (room-records room-names : ℕ) (r : Result)
-    → Bytes records → prune-entry records pool selected full room-records room-names ≡ ok r → ReadsAgain r
+pub prune-round-trip : (records pool selected : List ℕ) (full : Bool) (room-records room-names : ℕ) (result : Result)
+    → Bytes records → prune-entry records pool selected full room-records room-names ≡ ok result → ReadsAgain result
 prune-round-trip = prune-again
 
 -- and what an accepted renumbering answers.
-pub renumber-round-trip : (records pool identifiers : List ℕ) (start room-records room-names room-ids : ℕ) (r : Result)
-    → Bytes records → renumber-entry records pool identifiers start room-records room-names room-ids ≡ ok r
-    → ReadsAgain r
+pub renumber-round-trip : (records pool identifiers : List ℕ) (start room-records room-names room-ids : ℕ)
+    → (result : Result) → Bytes records
+    → renumber-entry records pool identifiers start room-records room-names room-ids ≡ ok result → ReadsAgain result
 renumber-round-trip = renumber-again
 
 -- ---- pruning and renumbering
 
 -- An accepted pruning gives a part of the tree: each column was
 -- there, under the same parent, and the order is kept.
-pub pruning-gives-a-part : (records pool selected : List ℕ) (full : Bool) (room-records room-names : ℕ) (r : Result)
-    → prune-entry records pool selected full room-records room-names ≡ ok r → Pruned records pool r
+pub pruning-gives-a-part : (records pool selected : List ℕ) (full : Bool) (room-records room-names : ℕ)
+    → (result : Result) → prune-entry records pool selected full room-records room-names ≡ ok result
+    → Pruned records pool result
 pruning-gives-a-part = prune-parts
 
 -- An accepted renumbering gives start .. start + n - 1, each once, and keeps all but the ids.
 pub renumbering-gives-each-once : (records pool identifiers : List ℕ)
-    → (start room-records room-names room-ids : ℕ) (r : Result)
-    → renumber-entry records pool identifiers start room-records room-names room-ids ≡ ok r
-    → Renumbered records pool start r
+    → (start room-records room-names room-ids : ℕ) (result : Result)
+    → renumber-entry records pool identifiers start room-records room-names room-ids ≡ ok result
+    → Renumbered records pool start result
 renumbering-gives-each-once = renumber-numbers
 
 -- ---- one answer
 
--- No second answer fits. What is promised of an entry equals a function of what was lent: `a` is the
--- definition's answer, `before` the buffers as they were. So two outcomes that keep the promise are one;
-pub one-answer : (a : Answer Result) (before x y : Handed) → Promised a before x → Promised a before y → x ≡ y
+-- No second answer fits: two outcomes that keep the promise of an entry that writes (`Answers`) are one.
+-- `answer` is the definition's, `said` is what is told, `news` what the buffers hold afterwards;
+pub one-answer : {A : Type 0} (says : Answer Result → A) (answer : Answer Result) (buffers : List Buffer)
+    → (said said′ : A) (news news′ : List (List ℕ)) → Answers says answer buffers said news
+    → Answers says answer buffers said′ news′ → (said ≡ said′) × (news ≡ news′)
 one-answer = One.one-answer
 
 -- and so are two of a look-up.
-pub one-found : (a : Answer (Option Row)) (x y : Found) → PromisedFound a x → PromisedFound a y → x ≡ y
+pub one-found : (answer : Answer (Option Row)) (said said′ : Found) → PromisedFound answer said
+    → PromisedFound answer said′ → said ≡ said′
 one-found = One.one-found
 
--- A refusal changes no byte. Of an outcome that keeps an entry's promise: where the definition refuses, and so where the
--- number that is told is not 0, each output buffer is as it was. An entry is lent nothing else that it could write.
-pub refusals-change-no-byte : (a : Answer Result) (before after : Handed) → Promised a before after
-    → ((n l p : ℕ) → a ≡ refused n l p → Untouched before after)
-    × ((after .numbers .refusal ≡ 0 → ⊥) → Untouched before after)
-refusals-change-no-byte = One.untouched
+-- A refusal changes no byte. Of an outcome that keeps an entry's promise: where the definition refuses, and so
+-- where the number that is told is not 0, each output buffer is as it was. An entry is lent nothing else that it
+-- could write.
+pub refusals-change-no-byte : NoByteChanges
+refusals-change-no-byte = One.no-byte-changes
 
 -- Each refusal has one number: the definitions give 1 to the last, each once, and none gives another's.
 pub each-refusal-has-one-number : OneNumberEach
@@ -198,23 +201,25 @@ pub refusals-are-told : RefusalsTold
 refusals-are-told = refusals-told
 
 -- So it is not taken for an acceptance, which says 0.
-pub zero-is-accepted : (a : Answer Result) (n l p : ℕ) → Told a → changed a .refusal ≡ 0 → a ≡ refused n l p
-    → ⊥
+pub zero-is-accepted : (answer : Answer Result) (n l p : ℕ) → Told answer → changed answer .refusal ≡ 0
+    → answer ≡ refused n l p → ⊥
 zero-is-accepted = none-accepted
 
 -- No second tree fits the bytes of an answer.
-pub one-tree : (r r′ : Result) → ReadsAgain r → ReadsAgain r′
-    → record-bytes (r .tree) ≡ record-bytes (r′ .tree)
-    → pool-bytes (r .tree) ≡ pool-bytes (r′ .tree) → r .tree ≡ r′ .tree
+pub one-tree : (result result′ : Result) → ReadsAgain result → ReadsAgain result′
+    → record-bytes (result .tree) ≡ record-bytes (result′ .tree)
+    → pool-bytes (result .tree) ≡ pool-bytes (result′ .tree) → result .tree ≡ result′ .tree
 one-tree = One.one-tree
 
 -- ---- wrong programs
 
 -- An update that answers P4 and P5 as the definition does is not one that turns all down, no no-op, not
 -- one that applies the first entry alone, and makes up no record count, name bytes or last id.
-pub no-wrong-update : (f : AnUpdate) → P4 f ≡ P4 update-entry → P5 f ≡ P5 update-entry → RightUpdate f
+pub no-wrong-update : (update : AnUpdate) → P4 update ≡ P4 update-entry → P5 update ≡ P5 update-entry
+    → RightUpdate update
 no-wrong-update = right-update
 
 -- A pruner that answers P8 and P9 as the definition does hands back no constant tree.
-pub no-wrong-pruner : (f : APruner) → P8 f ≡ P8 prune-entry → P9 f ≡ P9 prune-entry → RightPruner f
+pub no-wrong-pruner : (pruner : APruner) → P8 pruner ≡ P8 prune-entry → P9 pruner ≡ P9 prune-entry
+    → RightPruner pruner
 no-wrong-pruner = right-pruner

@@ -29,6 +29,7 @@ use Rattle.paper.specs.Lists.{ok-deletion, ok-addition, path-in, entries, entri
 use Rattle.paper.specs.Layout.{Part, deep, row-with, row, roots}
 use Rattle.paper.specs.Decode.{fields, decode}
 use Rattle.paper.specs.Limits.{room, sized, sized-ids, sized-update}
+use Rattle.paper.specs.Lent.{Stored, Lent}
 use Rattle.paper.specs.Outcome.{changed}
 use Rattle.paper.specs.Entries.{Result, update-entry, prune-entry, renumber-entry, read, find-name, find-id}
 use Rattle.paper.specs.Entries.{find-parent}
@@ -225,16 +226,15 @@ room-told b = test 1 0 (omega arith, omega arith, omega arith) 0 (not b)
 size-told : (b : Bool) → Told (fault-if 2 0 0 (not b))
 size-told b = test 2 0 (omega arith, omega arith, omega arith) 0 (not b)
 
-update-entry-told : (s p i : List ℕ) (last : ℕ) (d a b r : List ℕ) (lr ln : ℕ)
-    → Told (update-entry s p i last d a b r lr ln)
+update-entry-told : (s : Stored) (q : Lent) → Told (update-entry s q)
 unfolding update-entry
-update-entry-told s p i last d a b r lr ln =
-    told-bind (room-told (room lr ln)) λ _.
-    told-bind (size-told (sized-update s p i d a b r)) λ _.
-    told-bind (decode-told 0 (omega arith) s p) λ t.
-    told-bind (decode-told 1 (omega arith) b r) λ n.
-    told-bind (entries-told 2 (omega arith) ok-deletion d r) λ _.
-    told-bind (entries-told 3 (omega arith) ok-addition a r) λ _.
+update-entry-told s q =
+    told-bind (room-told (room (q .room-records) (q .room-names))) λ _.
+    told-bind (size-told (sized-update s q)) λ _.
+    told-bind (decode-told 0 (omega arith) (s .records) (s .pool)) λ t.
+    told-bind (decode-told 1 (omega arith) (q .added-records) (q .request-pool)) λ n.
+    told-bind (entries-told 2 (omega arith) ok-deletion (q .deletions) (q .request-pool)) λ _.
+    told-bind (entries-told 3 (omega arith) ok-addition (q .additions) (q .request-pool)) λ _.
     told-bind (update-told _ _) λ u. accepted
 
 prune-entry-told : (s p sel : List ℕ) (full : Bool) (lr ln : ℕ) → Told (prune-entry s p sel full lr ln)

@@ -35,7 +35,7 @@ ids-of (refused n l p) = []
 abbrev third : List ℕ → ℕ
 third l = getD l 2 0
 
-record Answers : Type 0 where
+record Computed : Type 0 where
   P4-counts : changed (P4 update-entry) ≡ counted 10 48 11
   P5-counts : changed (P5 update-entry) ≡ counted 8 37 12
   P4-third : third (ids-of (P4 update-entry)) ≡ 2_147_483_648 + 11
@@ -45,7 +45,7 @@ record Answers : Type 0 where
   P8-many : length (ids-of (P8 prune-entry)) ≡ 3
   P9-many : length (ids-of (P9 prune-entry)) ≡ 1
 
-answers : Answers
+answers : Computed
 unfolding update-entry prune-entry changed _>>=_ lowest size siblings levels preorder counts mapped _then_
     rows entered look-name fitting misnamed names ids sound name-bytes within prune
     deleted member-taken placed placed-all planned fresh arrivals arriving rebuilt carried-out update

@@ -22,31 +22,31 @@ pub data Part : Forest Field → Forest Field → Type 0 where
   skip : {f : Field} {m n t : Forest Field} → Part t n → Part t (node f m n)
   keep : {f : Field} {m′ m n′ n : Forest Field} → Part m′ m → Part n′ n → Part (node f m′ n′) (node f m n)
 
--- The columns in slot order, each with its parent's id; q is that of the roots.
-abbrev pub columns : (q : Option ℕ) → Forest Field → List Column
-columns q empty = []
-columns q (node f m n) = record { parent = q; field = f } ∷ (columns (some (f .id)) m ++ columns q n)
+-- The columns in slot order, each with its parent's id; first the id above the roots.
+abbrev pub columns : (parent : Option ℕ) → Forest Field → List Column
+columns parent empty = []
+columns parent (node f m n) = record { parent = parent; field = f } ∷ (columns (some (f .id)) m ++ columns parent n)
 
--- An accepted pruning of records s with names p answers r.
-pub record Pruned (s p : List ℕ) (r : Result) : Type 0 where
+-- Of what an accepted pruning answers.
+pub record Pruned (records pool : List ℕ) (result : Result) : Type 0 where
   pub base : Forest Field
-  pub reads : read s p ≡ ok base
-  pub part : Part (r .tree) base
+  pub reads : read records pool ≡ ok base
+  pub part : Part (result .tree) base
   -- No column that was not there, with the same parent, and the order is kept.
-  pub in-order : Sublistᴰ (columns none (r .tree)) (columns none base)
+  pub in-order : Sublistᴰ (columns none (result .tree)) (columns none base)
 
 -- ---- renumbering
 
--- Of t, renumbered as u from `start` on.
-pub record Numbered (start : ℕ) (t u : Forest Field) : Type 0 where
+-- Of a tree, renumbered from `start` on.
+pub record Numbered (start : ℕ) (old new : Forest Field) : Type 0 where
   -- Of n records: each of start .. start + n - 1 is an id once, and no other number is.
-  pub each-once : (x : ℕ) → start ≤ x → x < start + size t → tally x (ids u) ≡ 1
-  pub no-other : (x : ℕ) → x ∈ ids u → (start ≤ x) × (x < start + size t)
+  pub each-once : (id : ℕ) → start ≤ id → id < start + size old → tally id (ids new) ≡ 1
+  pub no-other : (id : ℕ) → id ∈ ids new → (start ≤ id) × (id < start + size old)
   -- But for the ids the trees are one.
-  pub kept : mapped (with-id 0) u ≡ mapped (with-id 0) t
+  pub kept : mapped (with-id 0) new ≡ mapped (with-id 0) old
 
--- An accepted renumbering of records s with names p, from the 32 bits of a start, answers r.
-pub record Renumbered (s p : List ℕ) (start : ℕ) (r : Result) : Type 0 where
+-- Of what an accepted renumbering answers, from the 32 bits of a start.
+pub record Renumbered (records pool : List ℕ) (start : ℕ) (result : Result) : Type 0 where
   pub base : Forest Field
-  pub reads : read s p ≡ ok base
-  pub numbered : Numbered (turned start) base (r .tree)
+  pub reads : read records pool ≡ ok base
+  pub numbered : Numbered (turned start) base (result .tree)

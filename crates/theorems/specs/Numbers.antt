@@ -4,10 +4,10 @@ use mathlib.Core.Bool.{cond}
 use mathlib.Core.List.{List, [], _∷_}
 use lib.Dec.{eqb}
 
--- n numbers from c on.
-abbrev pub range : (c n : ℕ) → List ℕ
-range c zero = []
-range c (suc n) = c ∷ range (suc c) n
+-- So many numbers, from a start on.
+abbrev pub range : (start many : ℕ) → List ℕ
+range start zero = []
+range start (suc many) = start ∷ range (suc start) many
 
 abbrev pub tally : ℕ → List ℕ → ℕ
 tally x [] = 0

@@ -1,42 +1,36 @@
--- What an entry hands back, and what is promised of it.
+-- What follows of the promise of an entry (paper's `Answers`), and which refusals are told.
 use Prim.Native.Nat.{ℕ, _≤_}
 use mathlib.Core.Path.{_≡_}
 use mathlib.Core.Bool.{Bool}
-use mathlib.Core.List.{List}
+use mathlib.Core.List.{List, map}
 use mathlib.Core.Option.{Option}
 use Rattle.paper.specs.Answer.{Answer, ok, refused}
 use Rattle.paper.specs.Refusals.{last-refusal, last-list}
 use Rattle.paper.specs.Rows.{Row}
+use Rattle.paper.specs.Lent.{Stored, Lent}
 use Rattle.paper.specs.Entries.{Result, update-entry, prune-entry, renumber-entry}
 use Rattle.paper.specs.Entries.{find-name, find-id, find-parent}
-use Rattle.paper.specs.Outcome.{Changed, changed, Found, found, leaves, out-records, out-names}
-use Rattle.paper.specs.Outcome.{out-identifiers}
+use Rattle.paper.specs.Outcome.{Changed, changed, Found, found, Buffer, Answers}
 
 -- ---- answers
 
--- The numbers of the answer, and the output buffers as they are afterwards.
-pub record Handed : Type 0 where
-  pub numbers : Changed
-  pub records : List ℕ
-  pub names : List ℕ
-  pub identifiers : List ℕ
-
--- Where the definition answers a and the buffers held `before`.
-pub record Promised (a : Answer Result) (before after : Handed) : Type 0 where
-  pub numbers : after .numbers ≡ changed a
-  pub records : after .records ≡ leaves out-records a (before .records)
-  pub names : after .names ≡ leaves out-names a (before .names)
-  pub identifiers : after .identifiers ≡ leaves out-identifiers a (before .identifiers)
-
 -- Each buffer is as it was.
-pub record Untouched (before after : Handed) : Type 0 where
-  pub records : after .records ≡ before .records
-  pub names : after .names ≡ before .names
-  pub identifiers : after .identifiers ≡ before .identifiers
+abbrev pub Untouched : (buffers : List Buffer) (news : List (List ℕ)) → Type 0
+Untouched buffers news = news ≡ map (λ buffer. buffer .old) buffers
+
+-- Of an outcome that keeps an entry's promise:
+pub record NoByteChanges : Type 1 where
+  -- Where the definition refuses, in whatever words it is told, no buffer changes;
+  pub refused-by : {A : Type 0} (says : Answer Result → A) (number list place : ℕ) (buffers : List Buffer)
+      → (said : A) (news : List (List ℕ)) → Answers says (refused number list place) buffers said news
+      → Untouched buffers news
+  -- and so where the number that is told is not 0.
+  pub told : (answer : Answer Result) (buffers : List Buffer) (said : Changed) (news : List (List ℕ))
+      → Answers changed answer buffers said news → (said .refusal ≡ 0 → ⊥) → Untouched buffers news
 
 -- A look-up hands back its numbers alone.
 abbrev pub PromisedFound : Answer (Option Row) → Found → Type 0
-PromisedFound a after = after ≡ found a
+PromisedFound answer said = said ≡ found answer
 
 -- ---- refusals
 
@@ -47,10 +41,11 @@ pub data Told {A : Type 0} : Answer A → Type 0 where
       → Told (refused number list place)
 
 pub record RefusalsTold : Type 0 where
-  pub update : (s p i : List ℕ) (last : ℕ) (d a b r : List ℕ) (lr ln : ℕ)
-      → Told (update-entry s p i last d a b r lr ln)
-  pub prune : (s p sel : List ℕ) (full : Bool) (lr ln : ℕ) → Told (prune-entry s p sel full lr ln)
-  pub renumber : (s p i : List ℕ) (start lr ln li : ℕ) → Told (renumber-entry s p i start lr ln li)
-  pub name-look-up : (s p x : List ℕ) → Told (find-name s p x)
-  pub id-look-up : (s p : List ℕ) (i : ℕ) → Told (find-id s p i)
-  pub parent-look-up : (s p : List ℕ) (i : ℕ) → Told (find-parent s p i)
+  pub update : (stored : Stored) (lent : Lent) → Told (update-entry stored lent)
+  pub prune : (records pool selected : List ℕ) (full : Bool) (room-records room-names : ℕ)
+      → Told (prune-entry records pool selected full room-records room-names)
+  pub renumber : (records pool identifiers : List ℕ) (start room-records room-names room-ids : ℕ)
+      → Told (renumber-entry records pool identifiers start room-records room-names room-ids)
+  pub name-look-up : (records pool name : List ℕ) → Told (find-name records pool name)
+  pub id-look-up : (records pool : List ℕ) (id : ℕ) → Told (find-id records pool id)
+  pub parent-look-up : (records pool : List ℕ) (id : ℕ) → Told (find-parent records pool id)

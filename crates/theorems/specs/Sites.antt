@@ -10,9 +10,9 @@ use Rattle.paper.specs.Outcome.{Found, found}
 use Rattle.paper.specs.Sample.{T-records, T-pool}
 
 -- Where something is found. Two numbers that `turned` makes one are the same 32 bits.
-pub record AtItsSlot (records : List ℕ) (f : Found) : Type 0 where
-  pub there : f .slot < slots records
-  pub same-id : turned (f .id) ≡ turned (rec-at records (f .slot) .id)
+pub record AtItsSlot (records : List ℕ) (said : Found) : Type 0 where
+  pub there : said .slot < slots records
+  pub same-id : turned (said .id) ≡ turned (rec-at records (said .slot) .id)
 
 abbrev pub found-at : (id slot : ℕ) → Found
 found-at id slot = record { refusal = 0; list = 0; place = 0; found = 1; id = id; slot = slot }
@@ -21,12 +21,14 @@ abbrev pub not-found : Found
 not-found = record { refusal = 0; list = 0; place = 0; found = 0; id = 0; slot = 0 }
 
 pub record IdsAreNoSlots : Type 0 where
-  pub by-name : (s p x : List ℕ) → found (find-name s p x) .found ≡ 1 → AtItsSlot s (found (find-name s p x))
+  pub by-name : (records pool name : List ℕ) → found (find-name records pool name) .found ≡ 1
+      → AtItsSlot records (found (find-name records pool name))
   -- What is found by an id has that id.
-  pub by-id : (s p : List ℕ) (i : ℕ) → found (find-id s p i) .found ≡ 1
-      → AtItsSlot s (found (find-id s p i)) × (turned (found (find-id s p i) .id) ≡ turned i)
-  pub by-parent : (s p : List ℕ) (i : ℕ) → found (find-parent s p i) .found ≡ 1
-      → AtItsSlot s (found (find-parent s p i))
+  pub by-id : (records pool : List ℕ) (id : ℕ) → found (find-id records pool id) .found ≡ 1
+      → AtItsSlot records (found (find-id records pool id))
+      × (turned (found (find-id records pool id) .id) ≡ turned id)
+  pub by-parent : (records pool : List ℕ) (id : ℕ) → found (find-parent records pool id) .found ≡ 1
+      → AtItsSlot records (found (find-parent records pool id))
   -- The two differ, both ways: T has ids 3 and 6 and slots 3 and 6. Id 3 is at slot 6 and id 6 at slot 4; slot 3 has
   -- id 2. Slot 0 is there and id 0 is not; id 10 is there and slot 10 is not.
   pub id-3 : found (find-id T-records T-pool 3) ≡ found-at 3 6

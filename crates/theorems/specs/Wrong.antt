@@ -12,17 +12,17 @@ use Rattle.paper.specs.Asked.{AnUpdate, APruner, asked-update, asked-prune, at-
 -- ---- updates
 
 abbrev pub P4 : AnUpdate → Answer Result
-P4 f = asked-update f ("node.cost" ∷ []) (("cost" under "node") ∷ [])
+P4 update = asked-update update ("node.cost" ∷ []) (("cost" under "node") ∷ [])
 
 abbrev pub P5 : AnUpdate → Answer Result
-P5 f = asked-update f ("visits" ∷ []) (("fault" under "visits") ∷ at-root "floor" ∷ [])
+P5 update = asked-update update ("visits" ∷ []) (("fault" under "visits") ∷ at-root "floor" ∷ [])
 
 -- P4 with its first entry alone, the deletion; P5 with the first entry of each list alone.
 abbrev pub P4-first : AnUpdate → Answer Result
-P4-first f = asked-update f ("node.cost" ∷ []) []
+P4-first update = asked-update update ("node.cost" ∷ []) []
 
 abbrev pub P5-first : AnUpdate → Answer Result
-P5-first f = asked-update f ("visits" ∷ []) (("fault" under "visits") ∷ [])
+P5-first update = asked-update update ("visits" ∷ []) (("fault" under "visits") ∷ [])
 
 -- What an accepted answer says.
 abbrev pub counted : (records names last-id : ℕ) → Changed
@@ -30,23 +30,24 @@ counted records names last-id =
     record { refusal = 0; list = 0; place = 0; records = records; names = names; last-id = last-id }
 
 -- What an update can't be that answers P4 and P5 as the paper does.
-pub record RightUpdate (f : AnUpdate) : Type 0 where
-  pub not-all-down : (n l p : ℕ) → P4 f ≡ refused n l p → ⊥
-  pub not-no-op : (r : Result) → P4 f ≡ ok r → r .tree ≡ T → ⊥
-  pub not-first-alone : (P4 f ≡ P4-first update-entry → ⊥) × (P5 f ≡ P5-first update-entry → ⊥)
+pub record RightUpdate (update : AnUpdate) : Type 0 where
+  pub not-all-down : (n l p : ℕ) → P4 update ≡ refused n l p → ⊥
+  pub not-no-op : (result : Result) → P4 update ≡ ok result → result .tree ≡ T → ⊥
+  pub not-first-alone : (P4 update ≡ P4-first update-entry → ⊥) × (P5 update ≡ P5-first update-entry → ⊥)
   -- Record count, name bytes and last id are these, so no made-up ones.
-  pub P4-counts : changed (P4 f) ≡ counted 10 48 11
-  pub P5-counts : changed (P5 f) ≡ counted 8 37 12
+  pub P4-counts : changed (P4 update) ≡ counted 10 48 11
+  pub P5-counts : changed (P5 update) ≡ counted 8 37 12
 
 -- ---- pruners
 
 abbrev pub P8 : APruner → Answer Result
-P8 f = asked-prune f (7 ∷ []) false
+P8 pruner = asked-prune pruner (7 ∷ []) false
 
 abbrev pub P9 : APruner → Answer Result
-P9 f = asked-prune f (1 ∷ []) false
+P9 pruner = asked-prune pruner (1 ∷ []) false
 
 -- A pruner that answers P8 and P9 as the paper does hands back no constant tree.
-pub record RightPruner (f : APruner) : Type 0 where
-  pub accepts : (n l p : ℕ) → (P8 f ≡ refused n l p → ⊥) × (P9 f ≡ refused n l p → ⊥)
-  pub not-constant : (r r′ : Result) → P8 f ≡ ok r → P9 f ≡ ok r′ → r .tree ≡ r′ .tree → ⊥
+pub record RightPruner (pruner : APruner) : Type 0 where
+  pub accepts : (n l p : ℕ) → (P8 pruner ≡ refused n l p → ⊥) × (P9 pruner ≡ refused n l p → ⊥)
+  pub not-constant : (result result′ : Result) → P8 pruner ≡ ok result → P9 pruner ≡ ok result′
+      → result .tree ≡ result′ .tree → ⊥
