@@ -2,7 +2,7 @@
 use mathlib.Core.Path.{_≡_, refl, sym, ap, _∙_}
 use mathlib.Core.List.{List, [], _∷_}
 use mathlib.Core.Bool.{Bool, true, false, _&&_}
-use Prim.Native.Nat.{ℕ, suc, _+_, _<_, _≤_}
+use Prim.Native.Nat.{ℕ, zero, suc, _+_, _-_, _<_, _≤_}
 use native.Mathlib.Numerals.{add-one}
 use native.Mathlib.Omega.{arith}
 use borrow.Author.Tests.{eq-eqb, ne-eqb}
@@ -21,6 +21,16 @@ same-apart [] (y ∷ ys) h = refl
 same-apart (x ∷ xs) [] h = refl
 same-apart (x ∷ xs) (y ∷ ys) h = and-false (eqb x y) (same xs ys) (same-apart xs ys (λ e. h (ap suc e)))
 
+-- one byte that differs is enough
+same-not : (a b : List ℕ) (k : ℕ) → k < length a → (getD a k 0 ≡ getD b k 0 → ⊥) → false ≡ same a b
+same-not [] b k l d = absurd (omega arith)
+same-not (x ∷ xs) [] k l d = refl
+same-not (x ∷ xs) (y ∷ ys) zero l d = rw (ne-eqb x y d)
+same-not (x ∷ xs) (y ∷ ys) (suc k) l d = and-false (eqb x y) (same xs ys) (same-not xs ys k (omega arith) d)
+
+pub same-last : (a b : List ℕ) (n : ℕ) → n ≡ length a → 0 < n → (getD a (n - 1) 0 ≡ getD b (n - 1) 0 → ⊥) → false ≡ same a b
+same-last a b n e l d = same-not a b (n - 1) (omega arith) d
+
 same-self : (a : List ℕ) → true ≡ same a a
 same-self [] = refl
 same-self (x ∷ xs) = rw (eq-eqb x x refl) (same-self xs)
@@ -35,4 +45,4 @@ module _ (W : Bool) (a b : List ℕ) (i n : ℕ) (en : n ≡ length a) (e : W �
   pub same-ends : n ≤ i → i ≤ n → length a ≡ length b → true ≡ W
   same-ends l l′ q = let d : i ≡ length a = omega arith in let d′ : i ≡ length b = omega arith in sym (e ∙ ap (λ (z : List ℕ). same z (drop i b)) (ap (λ (z : ℕ). drop z a) d ∙ drop-length a) ∙ ap (λ (z : List ℕ). same [] z) (ap (λ (z : ℕ). drop z b) d′ ∙ drop-length b))
 
-pub ruleset comparing = (same-apart, same-goes, same-stops, same-ends)
+pub ruleset comparing = (same-apart, same-last, same-goes, same-stops, same-ends)

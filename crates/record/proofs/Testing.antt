@@ -1,13 +1,17 @@
 -- A chain of tests: where a test was refused the chain is, and where it was fine the chain goes on.
 use mathlib.Core.Path.{_≡_, refl}
+use mathlib.Core.List.{List, map}
 use mathlib.Core.Option.{Option, none, some}
 use Prim.Native.Nat.{ℕ}
 use native.Mathlib.Omega.{arith}
 use Rattle.paper.specs.Answer.{Answer, ok, refused, _>>=_, fault}
+use Rattle.paper.specs.Entries.{Result}
+use Rattle.paper.specs.Outcome.{leaves, Buffer, Answers}
 use Rattle.record.specs.declared.Refusal.{Refusal}
 use Rattle.record.specs.declared.Check.{Check}
 use Rattle.record.specs.declared.Check.the-variants.{Fine, Refused}
-use Rattle.record.specs.Says.{tested, checked}
+use Rattle.record.specs.declared.Changed.the-variants as changed
+use Rattle.record.specs.Says.{tested, checked, changes}
 
 abbrev pub refused-as : {A : Type 0} → Refusal → Answer A
 refused-as r = refused (r .number) (r .list) (r .place)
@@ -40,3 +44,9 @@ pub checked-refused : (x : Answer (Unit {0})) (a : Check) (r : Refusal) → a �
 unfolding checked
 checked-refused (ok u) a r e d = let z : _≡_ {A = ℕ} 0 1 = cc in absurd (omega arith)
 checked-refused (refused n l p) a r e d = cc
+
+-- A refusal changes no byte of any buffer.
+pub refuses : (x : Answer Result) (y : Refusal) (buffers : List Buffer) → x ≡ refused-as y
+    → Answers changes x buffers (changed.Refused y) (map (λ (buffer : Buffer). buffer .old) buffers)
+unfolding changes leaves
+refuses x y buffers e = rw e (record { told = refl; left = refl })

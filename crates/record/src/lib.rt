@@ -16,6 +16,33 @@ pub struct FieldId(pub u32);
 // A place in today's list of records.
 pub struct Slot(pub usize);
 
+// What is lent as trees: the base's records and their pool, the added records and the request's pool. Who has one tree lends it twice.
+pub type Trees<'a> = [&'a [u8]; 4];
+
+pub const RECORDS: usize = 0;
+
+pub const POOL: usize = 1;
+
+pub const ADDED_RECORDS: usize = 2;
+
+pub const REQUEST_POOL: usize = 3;
+
+// The lists of an update's request.
+pub type Lists<'a> = [&'a [u8]; 3];
+
+pub const IDENTIFIERS: usize = 0;
+
+pub const DELETIONS: usize = 1;
+
+pub const ADDITIONS: usize = 2;
+
+// So many trees from a slot on, with so many levels left for them.
+pub struct Siblings {
+    pub slot: usize,
+    pub count: u32,
+    pub levels: usize,
+}
+
 // Why a request is turned down: 01's number, the list and the place in it.
 pub struct Refusal {
     pub number: u32,
@@ -81,15 +108,8 @@ pub fn place(x: u16) -> usize
     x as usize
 }
 
-// A planned number of members as a count.
-pub fn count_of(x: u16) -> u32
-    ensures { λ r. ⌜ r ≡ x ⌝ }
-{
-    x as u32
-}
-
 // A number of 32 bits as a place or a length.
-pub fn size(x: u32) -> usize
+fn size(x: u32) -> usize
     ensures { λ r. ⌜ r ≡ x ⌝ }
 {
     x as usize
@@ -320,8 +340,11 @@ pub fn check_bounds(recs: &[u8], n: usize, pool: usize, list: u32) -> Check
 
 // A record's name: the very part of the pool that holds it, at its offset, with no copy.
 pub fn name_at<'a>(pool: &'a [u8], recs: &[u8], slot: usize) -> &'a [u8]
-    requires { ⌜ (slot * 24 + 24 ≤ length (now recs)) × (in-pool (length (now pool)) (now recs) slot ≡ true) ⌝ }
-    ensures { λ r. ⌜ (now r ≡ name-of (now (pool .entry)) (now (recs .entry)) slot) × (r .ptr .0 ≡ pool .entry .ptr .0) × (r .ptr .1 ≡ pool .entry .ptr .1 + rec-at (now (recs .entry)) slot .name-at) ⌝ }
+    requires { ⌜ (slot * 24 + 24 ≤ length (now recs))
+        × (in-pool (length (now pool)) (now recs) slot ≡ true) ⌝ }
+    ensures { λ r. ⌜ (now r ≡ name-of (now (pool .entry)) (now (recs .entry)) slot)
+        × (r .ptr .0 ≡ pool .entry .ptr .0) × (r .ptr .1 ≡ pool .entry .ptr .1 + rec-at
+        (now (recs .entry)) slot .name-at) ⌝ }
 {
     let from = name_from(recs, slot);
     let len = name_len_at(recs, slot);
@@ -349,6 +372,12 @@ pub fn equal(a: &[u8], b: &[u8]) -> bool
     let n = a.len();
     if n != b.len() {
         return false;
+    }
+    // names that differ mostly differ at their end
+    if 0 < n {
+        if a[n - 1] != b[n - 1] {
+            return false;
+        }
     }
     let mut i = 0;
     while i < n {

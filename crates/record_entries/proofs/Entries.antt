@@ -15,16 +15,17 @@ use Rattle.record.specs.declared.Check.the-variants.{Fine, Refused}
 use Rattle.record.specs.Says.{tested, checked}
 use Rattle.record.proofs.Testing.{tested-fault, chain-goes, chain-stops}
 
-module _ (list : ℕ) (rule : List ℕ → ℕ → Bool) (s pool : List ℕ) where
+module _ (list : ℕ) (rule : List ℕ → ℕ → Bool) (s pool : List ℕ) (number : ℕ) (en : number ≡ list) where
   -- 3, then 4
-  module _ (a : Check) (ea : a ≡ tested 3 list (lowest (rule s) 0 (entries s))) where
+  module _ (a : Check) (ea : a ≡ tested 3 number (lowest (rule s) 0 (entries s))) where
     pub rule-stops : (x : Refusal) → a ≡ Refused x → Refused x ≡ checked (entries-ok list rule s pool)
     unfolding checked entries-ok
-    rule-stops x d = sym (ap checked (chain-stops 3 list (lowest (rule s) 0 (entries s)) a _ x ea d))
+    rule-stops x d = rw (← en) (sym (ap checked (chain-stops 3 number (lowest (rule s) 0 (entries s)) a _ x ea d)))
 
-    pub rule-goes : (b : Check) → a ≡ Fine → b ≡ tested 4 list (lowest (path-in (length pool) s) 0 (entries s)) → b ≡ checked (entries-ok list rule s pool)
+    pub rule-goes : (b : Check) → a ≡ Fine → b ≡ tested 4 number (lowest (path-in (length pool) s) 0 (entries s)) → b ≡ checked (entries-ok list rule s pool)
     unfolding entries-ok
-    rule-goes b d eb = eb ∙ tested-fault 4 list (lowest (path-in (length pool) s) 0 (entries s)) ∙ sym (ap checked (chain-goes 3 list (lowest (rule s) 0 (entries s)) a _ ea d))
+    rule-goes b d eb =
+        rw (← en) (eb ∙ tested-fault 4 number (lowest (path-in (length pool) s) 0 (entries s)) ∙ sym (ap checked (chain-goes 3 number (lowest (rule s) 0 (entries s)) a _ ea d)))
 
 pub ruleset listing = (rule-stops, rule-goes)
 

@@ -12,12 +12,19 @@ ghost use Rattle.paper.specs.Answer.{lowest};
 ghost use Rattle.paper.specs.Bytes.{word32, turned};
 ghost use Rattle.paper.specs.Lists.{entry-at, ok-deletion, ok-addition, path-in, path-of, entries-ok, id-at};
 ghost use Rattle.record.specs.Says.{tested, checked};
-ghost use Rattle.record_entries.specs.Rule.{rule-of};
+ghost use Rattle.record_entries.specs.Rule.{number-of, rule-of};
+
+// The lists whose entries are paths. They differ in their number and in their byte rule alone.
+pub enum PathList {
+    Deletions,
+    Additions,
+}
 
 // The 32 bits of the i-th id; turned, they are the id of the paper.
 pub fn id_at(ids: &[u8], i: usize) -> u32
     requires { ⌜ i * 4 + 4 ≤ length (now ids) ⌝ }
-    ensures { λ r. ⌜ (r ≡ word32 (now (ids .entry)) (i * 4)) × (id-at (now (ids .entry)) i ≡ turned r) ⌝ }
+    ensures { λ r. ⌜ (r ≡ word32 (now (ids .entry)) (i * 4))
+        × (id-at (now (ids .entry)) i ≡ turned r) ⌝ }
 {
     le32(ids, i * 4)
 }
@@ -48,8 +55,11 @@ fn path_len(entries: &[u8], k: usize) -> usize
 
 // An entry's path: the very part of the request pool that holds it.
 pub fn path_at<'a>(pool: &'a [u8], entries: &[u8], k: usize) -> &'a [u8]
-    requires { ⌜ (k * 8 + 8 ≤ length (now entries)) × (path-in (length (now pool)) (now entries) k ≡ true) ⌝ }
-    ensures { λ r. ⌜ (now r ≡ path-of (now (pool .entry)) (now (entries .entry)) k) × (r .ptr .0 ≡ pool .entry .ptr .0) × (r .ptr .1 ≡ pool .entry .ptr .1 + entry-at (now (entries .entry)) k .path-at) ⌝ }
+    requires { ⌜ (k * 8 + 8 ≤ length (now entries))
+        × (path-in (length (now pool)) (now entries) k ≡ true) ⌝ }
+    ensures { λ r. ⌜ (now r ≡ path-of (now (pool .entry)) (now (entries .entry)) k)
+        × (r .ptr .0 ≡ pool .entry .ptr .0) × (r .ptr .1 ≡ pool .entry .ptr .1 + entry-at
+        (now (entries .entry)) k .path-at) ⌝ }
 {
     let from = path_from(entries, k);
     let len = path_len(entries, k);
@@ -75,15 +85,25 @@ fn addition_ok(entries: &[u8], k: usize) -> bool
     ((has == 1) | (has == 0) & (from == 0) & (len == 0)) & (entries[k * 8 + 7] == 0)
 }
 
-// Whether an entry keeps the byte rules of its list.
-fn entry_ok(entries: &[u8], k: usize, deletion: bool) -> bool
-    requires { ⌜ k * 8 + 8 ≤ length (now entries) ⌝ }
-    ensures { λ r. ⌜ r ≡ rule-of deletion (now (entries .entry)) k ⌝ }
+// The number of a list in a refusal.
+fn number_of(list: PathList) -> u32
+    ensures { λ r. ⌜ r ≡ number-of list ⌝ }
 {
-    if deletion {
-        return deletion_ok(entries, k);
+    match list {
+        PathList::Deletions => 2,
+        PathList::Additions => 3,
     }
-    addition_ok(entries, k)
+}
+
+// Whether an entry keeps the byte rules of its list.
+fn entry_ok(entries: &[u8], k: usize, list: PathList) -> bool
+    requires { ⌜ k * 8 + 8 ≤ length (now entries) ⌝ }
+    ensures { λ r. ⌜ r ≡ rule-of list (now (entries .entry)) k ⌝ }
+{
+    match list {
+        PathList::Deletions => deletion_ok(entries, k),
+        PathList::Additions => addition_ok(entries, k),
+    }
 }
 
 // Whether an entry's path lies in a pool of a length. The sum is of 64 bits, so it can't wrap.
@@ -97,16 +117,16 @@ fn path_ok(entries: &[u8], pool: usize, k: usize) -> bool
 }
 
 // The lowest of n entries that breaks its byte rule: refusal 3.
-fn check_rules(entries: &[u8], n: usize, list: u32, deletion: bool) -> Check
+fn check_rules(entries: &[u8], n: usize, number: u32, list: PathList) -> Check
     requires { ⌜ (n * 8 ≤ length (now entries)) × (n ≤ 64) ⌝ }
-    ensures { λ r. ⌜ r ≡ tested 3 list (lowest (rule-of deletion (now (entries .entry))) 0 n) ⌝ }
+    ensures { λ r. ⌜ r ≡ tested 3 number (lowest (rule-of list (now (entries .entry))) 0 n) ⌝ }
 {
     let mut i = 0;
     while i < n {
-        if !entry_ok(entries, i, deletion) {
+        if !entry_ok(entries, i, list) {
             return Check::Refused(Refusal {
                 number: 3,
-                list,
+                list: number,
                 place: i as u32,
             });
         }
@@ -116,16 +136,16 @@ fn check_rules(entries: &[u8], n: usize, list: u32, deletion: bool) -> Check
 }
 
 // The lowest of n entries whose path passes the end of the request pool: refusal 4.
-fn check_paths(entries: &[u8], n: usize, pool: usize, list: u32) -> Check
+fn check_paths(entries: &[u8], n: usize, number: u32, pool: usize) -> Check
     requires { ⌜ (n * 8 ≤ length (now entries)) × (n ≤ 64) ⌝ }
-    ensures { λ r. ⌜ r ≡ tested 4 list (lowest (path-in pool (now (entries .entry))) 0 n) ⌝ }
+    ensures { λ r. ⌜ r ≡ tested 4 number (lowest (path-in pool (now (entries .entry))) 0 n) ⌝ }
 {
     let mut k = 0;
     while k < n {
         if !path_ok(entries, pool, k) {
             return Check::Refused(Refusal {
                 number: 4,
-                list,
+                list: number,
                 place: k as u32,
             });
         }
@@ -134,30 +154,16 @@ fn check_paths(entries: &[u8], n: usize, pool: usize, list: u32) -> Check
     Check::Fine
 }
 
-// Refusal 3 over the whole list, then refusal 4. The two lists differ in their number and their rule alone.
-fn check_entries(entries: &[u8], pool: &[u8], list: u32, deletion: bool) -> Check
+// Refusal 3 over a whole list of entries, then refusal 4. Refusal 2 was tested before, hence the length.
+pub fn check_entries(entries: &[u8], request_pool: &[u8], list: PathList) -> Check
     requires { ⌜ length (now entries) ≤ 512 ⌝ }
-    ensures { λ r. ⌜ r ≡ checked (entries-ok list (rule-of deletion) (now (entries .entry)) (now (pool .entry))) ⌝ }
+    ensures { λ r. ⌜ r ≡ checked (entries-ok (number-of list) (rule-of list) (now (entries .entry))
+        (now («request_pool» .entry))) ⌝ }
 {
     let n = entries.len() / 8;
-    if let Check::Refused(r) = check_rules(entries, n, list, deletion) {
+    let number = number_of(list);
+    if let Check::Refused(r) = check_rules(entries, n, number, list) {
         return Check::Refused(r);
     }
-    check_paths(entries, n, pool.len(), list)
-}
-
-// Refusal 3 or refusal 4 of the deletions, list 2. Refusal 2 was tested before, hence the length.
-pub fn check_deletions(deletions: &[u8], request: &[u8]) -> Check
-    requires { ⌜ length (now deletions) ≤ 512 ⌝ }
-    ensures { λ r. ⌜ r ≡ checked (entries-ok 2 ok-deletion (now (deletions .entry)) (now (request .entry))) ⌝ }
-{
-    check_entries(deletions, request, 2, true)
-}
-
-// Refusal 3 or refusal 4 of the additions, list 3. Refusal 2 was tested before, hence the length.
-pub fn check_additions(additions: &[u8], request: &[u8]) -> Check
-    requires { ⌜ length (now additions) ≤ 512 ⌝ }
-    ensures { λ r. ⌜ r ≡ checked (entries-ok 3 ok-addition (now (additions .entry)) (now (request .entry))) ⌝ }
-{
-    check_entries(additions, request, 3, false)
+    check_paths(entries, n, number, request_pool.len())
 }

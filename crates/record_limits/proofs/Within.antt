@@ -8,6 +8,7 @@ use borrow.Author.Tests.{leb-true, not-true, not-false}
 use lib.Dec.{eqb, leb}
 use lib.ListN.{length}
 use Rattle.paper.specs.Limits.{whole, sum-from, name-lens, name-sum, tree-sized, sized, sized-ids, sized-update}
+use Rattle.paper.specs.Lent.{Stored, Lent}
 use Rattle.laws.proofs.RoundTrip.{both}
 
 pub whole-most : (item most : ℕ) (s : List ℕ) → whole item most s ≡ true → length s ≤ item * most
@@ -36,34 +37,38 @@ module _ (most : ℕ) (s p i : List ℕ) (t : Bool) (e : t ≡ sized-ids most s 
 pub ruleset ids-within = (ids-tree, ids-most, ids-sized)
 
 -- where `sized_update` said yes: `search update-within`
-module _ (s p i d a b r : List ℕ) (t : Bool) (e : t ≡ sized-update s p i d a b r) (f : not t ≡ false) where
-  halves : (sized-ids 64 s p i ≡ true) × (((whole 8 64 d && whole 8 64 a) && sized b r) ≡ true)
+module _ (stored : Stored) (lent : Lent) (t : Bool) (e : t ≡ sized-update stored lent) (f : not t ≡ false) where
+  abbrev entries : Bool
+  entries = whole 8 64 (lent .deletions) && whole 8 64 (lent .additions)
+
+  halves : (sized-ids 64 (stored .records) (stored .pool) (lent .identifiers) ≡ true)
+      × ((entries && sized (lent .added-records) (lent .request-pool)) ≡ true)
   unfolding sized-update
-  halves = both (sized-ids 64 s p i) ((whole 8 64 d && whole 8 64 a) && sized b r) (sym e ∙ not-false t f)
+  halves = both (sized-ids 64 (stored .records) (stored .pool) (lent .identifiers)) _ (sym e ∙ not-false t f)
 
-  lists : (whole 8 64 d ≡ true) × (whole 8 64 a ≡ true)
-  lists = both (whole 8 64 d) (whole 8 64 a) (both (whole 8 64 d && whole 8 64 a) (sized b r) (halves .1) .0)
+  lists : (whole 8 64 (lent .deletions) ≡ true) × (whole 8 64 (lent .additions) ≡ true)
+  lists = both (whole 8 64 (lent .deletions)) _ (both entries _ (halves .1) .0)
 
-  pub update-sized : sized s p ≡ true
-  update-sized = ids-sized 64 s p i true (sym (halves .0)) refl
+  pub update-sized : sized (stored .records) (stored .pool) ≡ true
+  update-sized = ids-sized 64 (stored .records) (stored .pool) (lent .identifiers) true (sym (halves .0)) refl
 
-  pub added-sized : sized b r ≡ true
-  added-sized = both (whole 8 64 d && whole 8 64 a) (sized b r) (halves .1) .1
+  pub added-sized : sized (lent .added-records) (lent .request-pool) ≡ true
+  added-sized = both entries _ (halves .1) .1
 
-  pub base-most : length s ≤ 24576
-  base-most = tree-most s p update-sized
+  pub base-most : length (stored .records) ≤ 24576
+  base-most = tree-most (stored .records) (stored .pool) update-sized
 
-  pub added-most : length b ≤ 24576
-  added-most = tree-most b r added-sized
+  pub added-most : length (lent .added-records) ≤ 24576
+  added-most = tree-most (lent .added-records) (lent .request-pool) added-sized
 
-  pub identifiers-most : length i ≤ 256
-  identifiers-most = ids-most 64 s p i true (sym (halves .0)) refl
+  pub identifiers-most : length (lent .identifiers) ≤ 256
+  identifiers-most = ids-most 64 (stored .records) (stored .pool) (lent .identifiers) true (sym (halves .0)) refl
 
-  pub deletions-most : length d ≤ 512
-  deletions-most = whole-most 8 64 d (lists .0)
+  pub deletions-most : length (lent .deletions) ≤ 512
+  deletions-most = whole-most 8 64 (lent .deletions) (lists .0)
 
-  pub additions-most : length a ≤ 512
-  additions-most = whole-most 8 64 a (lists .1)
+  pub additions-most : length (lent .additions) ≤ 512
+  additions-most = whole-most 8 64 (lent .additions) (lists .1)
 
 pub ruleset update-within = (update-sized, added-sized, base-most, added-most, identifiers-most, deletions-most, additions-most)
 

@@ -1,11 +1,22 @@
 // Refusals 1 and 2: the lengths of all that is lent, tested before anything else is read. Each test takes any bytes at all.
+use record::ADDED_RECORDS;
+use record::ADDITIONS;
+use record::DELETIONS;
+use record::IDENTIFIERS;
+use record::Lists;
+use record::POOL;
+use record::RECORDS;
+use record::REQUEST_POOL;
+use record::Trees;
 use record::name_len_at;
 ghost use mathlib.Core.Path.{_≡_};
 ghost use mathlib.Core.Bool.{_&&_};
 ghost use Prim.Native.Nat.{_*_, _≤_, _<_};
 ghost use lib.Dec.{leb};
 ghost use lib.ListN.{length};
-ghost use Rattle.paper.specs.Limits.{room, whole, sum-from, name-lens, tree-sized, sized, sized-ids, sized-update};
+ghost use Rattle.paper.specs.Limits.{room, whole, sum-from, name-lens, tree-sized, sized, sized-ids};
+ghost use Rattle.record.specs.Trees.{trees-in, lists-in};
+ghost use Rattle.record_limits.specs.Update.{SizedUpdate};
 
 // Output buffers of these lengths hold any answer; where they do not, refusal 1.
 pub fn room(records: usize, names: usize) -> bool
@@ -62,37 +73,34 @@ pub fn sized(recs: &[u8], pool: &[u8]) -> bool
 
 // The limits on a tree and its identifiers, at most 64; where they are passed, refusal 2.
 pub fn sized_identifiers(recs: &[u8], pool: &[u8], identifiers: &[u8]) -> bool
-    ensures { λ r. ⌜ r ≡ sized-ids 64 (now (recs .entry)) (now (pool .entry)) (now (identifiers .entry)) ⌝ }
+    ensures { λ r. ⌜ r ≡ sized-ids 64 (now (recs .entry)) (now (pool .entry))
+        (now (identifiers .entry)) ⌝ }
 {
     sized(recs, pool) & whole_list(identifiers, 4, 64)
 }
 
 // The limits on a tree and selected ids, at most 1,024; where they are passed, refusal 2.
 pub fn sized_selected(recs: &[u8], pool: &[u8], selected: &[u8]) -> bool
-    ensures { λ r. ⌜ r ≡ sized-ids 1024 (now (recs .entry)) (now (pool .entry)) (now (selected .entry)) ⌝ }
+    ensures { λ r. ⌜ r ≡ sized-ids 1024 (now (recs .entry)) (now (pool .entry))
+        (now (selected .entry)) ⌝ }
 {
     sized(recs, pool) & whole_list(selected, 4, 1024)
 }
 
 // At most 64 deletions and 64 additions.
 fn sized_entries(deletions: &[u8], additions: &[u8]) -> bool
-    ensures { λ r. ⌜ r ≡ (whole 8 64 (now (deletions .entry)) && whole 8 64 (now (additions .entry))) ⌝ }
+    ensures { λ r. ⌜ r ≡ (whole 8 64 (now (deletions .entry)) && whole 8 64
+        (now (additions .entry))) ⌝ }
 {
     whole_list(deletions, 8, 64) & whole_list(additions, 8, 64)
 }
 
-// The limits on all that an update is lent; where one is passed, refusal 2.
-pub fn sized_update(
-    recs: &[u8],
-    pool: &[u8],
-    identifiers: &[u8],
-    deletions: &[u8],
-    additions: &[u8],
-    added: &[u8],
-    request: &[u8],
-) -> bool
-    ensures { λ r. ⌜ r ≡ sized-update (now (recs .entry)) (now (pool .entry)) (now (identifiers .entry)) (now (deletions .entry)) (now (additions .entry)) (now (added .entry)) (now (request .entry)) ⌝ }
+// The limits on all that an update is lent; where one is passed, refusal 2. The rooms are no part of it.
+pub fn sized_update<'a>(trees: &Trees<'a>, lists: &Lists<'a>) -> bool
+    ensures { λ r. ⌜ SizedUpdate (trees-in (now (trees .entry))) (lists-in (now (lists .entry))) r
+        ⌝ }
 {
-    sized_identifiers(recs, pool, identifiers)
-        & (sized_entries(deletions, additions) & sized(added, request))
+    sized_identifiers(trees[RECORDS], trees[POOL], lists[IDENTIFIERS])
+        & (sized_entries(lists[DELETIONS], lists[ADDITIONS])
+            & sized(trees[ADDED_RECORDS], trees[REQUEST_POOL]))
 }

@@ -36,4 +36,8 @@ module _ (li : ℕ) (kids : ℕ → ℕ) (n lv c k c′ k′ : ℕ) (h : Ends li
       pub loop-stops : (t : Refusal) → w ≡ Refused t → Refused t ≡ ended (row li kids n lv c k)
       loop-stops t e = end-stops li kids n lv c′ k′ m w q (λ z. omega arith) p em ew t e ∙ h .same
 
-pub ruleset looping = (loop-starts, loop-done, loop-deep, loop-past, loop-goes, loop-stops)
+    -- the inside of a leaf ends where it begins
+    pub loop-leaf : (m : ℕ) → k′ < n → m ≡ kids k′ → m ≡ 0 → Ends li kids n lv c k (c′ - 1) (k′ + 1)
+    loop-leaf m p em z = loop-goes m (End (k′ + 1)) p em (end-none li kids n (lv - 1) m (k′ + 1) z) (k′ + 1) refl
+
+pub ruleset looping = (loop-starts, loop-done, loop-deep, loop-past, loop-goes, loop-stops, loop-leaf)

@@ -128,6 +128,12 @@ module _ (pool s : List ℕ) (li n lv c k : ℕ) (r : Role) (l : n ≤ 1024) whe
         pub label-stops : (y : Refusal) → w ≡ Refused y → Labelled pool s li n lv c k r (Refused y)
         label-stops y d = record { says = said-stops pool s li n lv c′ k′ r′ (o .read) (λ z. omega arith) m em (sym eb ∙ not-false b t) q eq w (ew .says) y d ∙ o .same }
 
+      -- inside a leaf no name is wrong
+      pub label-leaf : not b ≡ false → (m : ℕ) → m ≡ kids-at s k′ → m ≡ 0 → (q′ : Role) → q′ ≡ after r′ → Onward pool s li n lv c k r (c′ - 1) (k′ + 1) q′
+      label-leaf t m em z q′ e =
+          let q = first (kind-at s k′) in
+          label-goes t m em q refl (End (k′ + 1)) (record { says = said-none pool s li n (lv - 1) m (k′ + 1) q z }) (k′ + 1) q′ refl e
+
     -- what the calls ask
     pub label-reads : (m : ℕ) → 0 < c′ → m ≡ kids-at s k′ → reads li (kids-at s) n (lv - 1) m (k′ + 1) ≡ true
     label-reads m h em = reads-inner li (kids-at s) n lv c′ k′ (o .read) m (λ z. omega arith) em
@@ -135,7 +141,7 @@ module _ (pool s : List ℕ) (li n lv c k : ℕ) (r : Role) (l : n ≤ 1024) whe
     pub label-pool : 0 < c′ → lowest (in-pool (length pool) s) 0 n ≡ none → in-pool (length pool) s k′ ≡ true
     label-pool h e = lowest-none (in-pool (length pool) s) 0 n e k′ (omega arith) (omega arith)
 
-pub ruleset labelling = (label-starts, label-ends, label-bad, label-goes, label-stops, label-reads, label-pool)
+pub ruleset labelling = (label-starts, label-ends, label-bad, label-goes, label-stops, label-leaf, label-reads, label-pool)
 
 -- ---- the names of the roles
 

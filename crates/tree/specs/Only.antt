@@ -9,6 +9,6 @@ use Rattle.paper.specs.Limits.{sized}
 use Rattle.paper.specs.Decode.{decode}
 
 unfoldable pub only-read : (records pool : List ℕ) → Answer (Forest Field)
-only-read s p = do
-  limited (sized s p)
-  decode 0 s p
+only-read records pool = do
+  limited (sized records pool)
+  decode 0 records pool

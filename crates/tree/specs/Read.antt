@@ -23,18 +23,18 @@ unfoldable pub reads : (list : ℕ) → (ℕ → ℕ) → (n lv c k : ℕ) → B
 reads list kids n lv c k = fine (row list kids n lv c k)
 
 -- n records of which a row of c trees from slot k on was read, with lv levels left for it.
-pub record Rowed (list : ℕ) (s : List ℕ) (n lv c k : ℕ) : Type 0 where
-  pub whole : n * 24 ≤ length s
+pub record Rowed (list : ℕ) (records : List ℕ) (n lv c k : ℕ) : Type 0 where
+  pub whole : n * 24 ≤ length records
   pub small : n ≤ 1024
   pub within : k ≤ n
-  pub read : reads list (kids-at s) n lv c k ≡ true
+  pub read : reads list (kids-at records) n lv c k ≡ true
 
 -- A record at slot k of n, whose inside was read, with lv levels left for it.
-pub record Standing (list : ℕ) (s : List ℕ) (n lv k : ℕ) : Type 0 where
-  pub whole : n * 24 ≤ length s
+pub record Standing (list : ℕ) (records : List ℕ) (n lv k : ℕ) : Type 0 where
+  pub whole : n * 24 ≤ length records
   pub small : n ≤ 1024
   pub there : k < n
-  pub read : reads list (kids-at s) n lv (kids-at s k) (k + 1) ≡ true
+  pub read : reads list (kids-at records) n lv (kids-at records k) (k + 1) ≡ true
 
 abbrev pub itself : ℕ → ℕ
 itself k = k

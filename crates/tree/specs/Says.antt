@@ -29,8 +29,8 @@ walked-to number list next none = walked.End next
 walked-to number list next (some p) = walked.Refused (refusal-of number list p)
 
 -- what a walk over c trees from slot k on, of which the first has role r, says of their names
-pub record Labelled (pool s : List ℕ) (li n lv c k : ℕ) (r : Role) (w : Walked) : Type 0 where
-  pub says : w ≡ walked-to 6 li (part li (kids-at s) n lv c k .next) (misnamed r k (fields pool s (part li (kids-at s) n lv c k .trees)))
+pub record Labelled (pool records : List ℕ) (list n lv c k : ℕ) (r : Role) (w : Walked) : Type 0 where
+  pub says : w ≡ walked-to 6 list (part list (kids-at records) n lv c k .next) (misnamed r k (fields pool records (part list (kids-at records) n lv c k .trees)))
 
 -- how many roots there are, after i that were passed
 unfoldable pub rooted : ℕ → Answer Part → Shaped

@@ -63,6 +63,12 @@ pub fn row_end(recs: &[u8], n: usize, slot: usize, count: u32, levels: usize, li
             });
         }
         let kids = kids_at(recs, at);
+        // a leaf has no inside to walk
+        if kids == 0 {
+            at += 1;
+            left -= 1;
+            continue;
+        }
         match row_end(recs, n, at + 1, kids, levels - 1, list) {
             Walked::End(next) => {
                 at = next;
@@ -91,7 +97,8 @@ pub fn row_past(recs: &[u8], n: usize, slot: usize, count: u32, levels: usize, l
 // Where the tree at a slot ends, whose inside was read with so many levels left.
 pub fn tree_end(recs: &[u8], n: usize, slot: usize, levels: usize, list: u32) -> usize
     requires { ⌜ Standing list (now recs) n levels slot ⌝ }
-    ensures { λ r. ⌜ r ≡ part list (kids-at (now (recs .entry))) n levels (kids-at (now (recs .entry)) slot) (slot + 1) .next ⌝ }
+    ensures { λ r. ⌜ r ≡ part list (kids-at (now (recs .entry))) n levels
+        (kids-at (now (recs .entry)) slot) (slot + 1) .next ⌝ }
 {
     row_past(recs, n, slot + 1, kids_at(recs, slot), levels, list)
 }
@@ -140,7 +147,8 @@ pub fn inside_role(recs: &[u8], slot: usize) -> Role
 
 // Whether a record has a name that its role allows.
 fn label_ok(recs: &[u8], pool: &[u8], slot: usize, role: Role) -> bool
-    requires { ⌜ (slot * 24 + 24 ≤ length (now recs)) × (in-pool (length (now pool)) (now recs) slot ≡ true) ⌝ }
+    requires { ⌜ (slot * 24 + 24 ≤ length (now recs))
+        × (in-pool (length (now pool)) (now recs) slot ≡ true) ⌝ }
     ensures { λ r. ⌜ r ≡ fitting role (name-of (now (pool .entry)) (now (recs .entry)) slot) ⌝ }
 {
     fits_role(name_at(pool, recs, slot), role)
@@ -157,8 +165,11 @@ pub fn check_labels(
     role: Role,
     list: u32,
 ) -> Walked
-    requires { ⌜ (n * 24 ≤ length (now recs)) × (n ≤ 1024) × (slot ≤ n) × (reads list (kids-at (now recs)) n levels count slot ≡ true) × (lowest (in-pool (length (now pool)) (now recs)) 0 n ≡ none) ⌝ }
-    ensures { λ r. ⌜ Labelled (now (pool .entry)) (now (recs .entry)) list n levels count slot role r ⌝ }
+    requires { ⌜ (n * 24 ≤ length (now recs)) × (n ≤ 1024) × (slot ≤ n)
+        × (reads list (kids-at (now recs)) n levels count slot ≡ true)
+        × (lowest (in-pool (length (now pool)) (now recs)) 0 n ≡ none) ⌝ }
+    ensures { λ r. ⌜ Labelled (now (pool .entry)) (now (recs .entry)) list n levels count slot role
+        r ⌝ }
 {
     let mut at = slot;
     let mut left = count;
@@ -172,6 +183,13 @@ pub fn check_labels(
             });
         }
         let kids = kids_at(recs, at);
+        // a leaf has no inside to walk
+        if kids == 0 {
+            at += 1;
+            part = next_role(part);
+            left -= 1;
+            continue;
+        }
         let inside = inside_role(recs, at);
         match check_labels(recs, pool, n, at + 1, kids, levels - 1, inside, list) {
             Walked::End(next) => {

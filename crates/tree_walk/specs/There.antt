@@ -9,10 +9,10 @@ use Rattle.tree.specs.Read.{part, reads}
 
 -- c trees from slot k on, with lv levels left for them.
 abbrev pub row-of : List ℕ → (lv c k : ℕ) → Part
-row-of s lv c k = part 0 (kids-at s) (slots s) lv c k
+row-of records lv c k = part 0 (kids-at records) (slots records) lv c k
 
 -- They stand there.
-pub record There (s : List ℕ) (lv c k : ℕ) : Type 0 where
-  pub few : slots s ≤ 1024
-  pub within : k ≤ slots s
-  pub read : reads 0 (kids-at s) (slots s) lv c k ≡ true
+pub record There (records : List ℕ) (lv c k : ℕ) : Type 0 where
+  pub few : slots records ≤ 1024
+  pub within : k ≤ slots records
+  pub read : reads 0 (kids-at records) (slots records) lv c k ≡ true

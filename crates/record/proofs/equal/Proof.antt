@@ -21,12 +21,17 @@ equal-spec =
     Inv-loop
     μ-loop
     (λ c. search (comparing, needs))  -- returns
-    (λ c. search (comparing, needs))  -- loop-holds
-    (λ c. search (comparing, needs))  -- shared-slice-read-if2
-    (λ c. search (comparing, needs))  -- shared-slice-read-if2-2
+    (λ c. search (comparing, needs))  -- sub-if3
+    (λ c. search (comparing, needs))  -- shared-slice-read-if3
+    (λ c. search (comparing, needs))  -- sub-if3-2
+    (λ c. search (comparing, needs))  -- shared-slice-read-if3-2
     (λ c. search (comparing, needs))  -- returns-2
+    (λ c. search (comparing, needs))  -- loop-holds
+    (λ c. search (comparing, needs))  -- shared-slice-read-if4
+    (λ c. search (comparing, needs))  -- shared-slice-read-if4-2
+    (λ c. search (comparing, needs))  -- returns-3
     (λ c. search (comparing, needs))  -- add-i
     (λ c. search (comparing, needs))  -- loop-less
     (λ c. search (comparing, needs))  -- loop-again
-    (λ c. search (comparing, needs))  -- returns-3
+    (λ c. search (comparing, needs))  -- returns-4
     )

@@ -9,10 +9,10 @@ use Rattle.record_entries.proofs.check_paths.Statement.{statement}
 use Rattle.record_entries.proofs.check_paths.Tie as tie
 
 abbrev Inv-loop : tie.InvT-loop
-Inv-loop entries n pool list k₀ k = (k ≤ n) × (lowest (path-in pool entries) 0 n ≡ lowest (path-in pool entries) k (n - k))
+Inv-loop entries n number pool k₀ k = (k ≤ n) × (lowest (path-in pool entries) 0 n ≡ lowest (path-in pool entries) k (n - k))
 
 abbrev μ-loop : tie.MeasureT-loop
-μ-loop entries n pool list k₀ k = n - k
+μ-loop entries n number pool k₀ k = n - k
 
 pub check-paths-spec : {M : Type 1} → statement M
 check-paths-spec =

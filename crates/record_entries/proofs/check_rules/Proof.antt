@@ -9,10 +9,10 @@ use Rattle.record_entries.proofs.check_rules.Statement.{statement}
 use Rattle.record_entries.proofs.check_rules.Tie as tie
 
 abbrev Inv-loop : tie.InvT-loop
-Inv-loop entries n list deletion i₀ i = (i ≤ n) × (lowest (rule-of deletion entries) 0 n ≡ lowest (rule-of deletion entries) i (n - i))
+Inv-loop entries n number list i₀ i = (i ≤ n) × (lowest (rule-of list entries) 0 n ≡ lowest (rule-of list entries) i (n - i))
 
 abbrev μ-loop : tie.MeasureT-loop
-μ-loop entries n list deletion i₀ i = n - i
+μ-loop entries n number list i₀ i = n - i
 
 pub check-rules-spec : {M : Type 1} → statement M
 check-rules-spec =

@@ -7,8 +7,10 @@ pub entry-ok-spec : {M : Type 1} → statement M
 entry-ok-spec =
     tie.close
     (tie.spec
+    (λ c. search needs)  -- enum-told
     (λ c κs. search needs)  -- deletion-ok-requires
-    (λ c. cc)  -- returns
+    (λ c. search needs)  -- enum-told-2
     (λ c κs. search needs)  -- addition-ok-requires
+    (λ c. cc)  -- returns
     (λ c. cc)  -- returns-2
     )

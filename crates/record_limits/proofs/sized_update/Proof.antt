@@ -9,8 +9,15 @@ unfolding sized-update
 sized-update-spec =
     tie.close
     (tie.spec
+    (λ c. search needs)  -- element-copy-out-sized-identifiers
+    (λ c. search needs)  -- element-copy-out-sized-identifiers-2
+    (λ c. search needs)  -- element-copy-out-sized-identifiers-3
     (λ c κs. search needs)  -- sized-identifiers-requires
+    (λ c. search needs)  -- element-copy-out-sized-entries
+    (λ c. search needs)  -- element-copy-out-sized-entries-2
     (λ c κs. search needs)  -- sized-entries-requires
+    (λ c. search needs)  -- element-copy-out-sized
+    (λ c. search needs)  -- element-copy-out-sized-2
     (λ c κs. search needs)  -- sized-requires
-    (λ c. cc)  -- returns
+    (λ c. record { says = λ last room-records room-names. cc })  -- returns
     )

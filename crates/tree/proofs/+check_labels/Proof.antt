@@ -42,12 +42,12 @@ pub +check-labels-spec : {M : Type 1} → statement M
   label-ok-reads.Learnt,
   kids-at-reads.Asked,
   kids-at-reads.Learnt,
+  next-role-reads.Asked,
+  next-role-reads.Learnt,
   inside-role-reads.Asked,
   inside-role-reads.Learnt,
   check-labels-below t,
   check-labels.Post,
-  next-role-reads.Asked,
-  next-role-reads.Learnt,
 )
     (check-labels-at t)
     check-labels.Post
@@ -58,6 +58,11 @@ pub +check-labels-spec : {M : Type 1} → statement M
     (λ c. search (labelling, needs))  -- check-labels-cast-t18
     (λ c. search (labelling, needs))  -- check-labels-returns
     (λ c κs. search (labelling, needs))  -- check-labels-kids-at-requires
+    (λ c. search (labelling, needs))  -- check-labels-add-at
+    (λ c κs. search (labelling, needs))  -- check-labels-next-role-requires
+    (λ c. search (labelling, needs))  -- check-labels-sub-left
+    (λ c. search (labelling, needs))  -- check-labels-loop-less
+    (λ c. search (labelling, needs))  -- check-labels-loop-again
     (λ c κs. search (labelling, needs))  -- check-labels-inside-role-requires
     (λ c. search (labelling, needs))  -- check-labels-add-check-labels
     (λ c. search (labelling, needs))  -- check-labels-sub-check-labels
@@ -65,8 +70,8 @@ pub +check-labels-spec : {M : Type 1} → statement M
     (λ c. search (labelling, needs))  -- check-labels-enum-known-next
     (λ c. search (labelling, needs))  -- check-labels-enum-known-r
     (λ c. search (labelling, needs))  -- check-labels-returns-2
-    (λ c κs. search (labelling, needs))  -- check-labels-next-role-requires
-    (λ c. search (labelling, needs))  -- check-labels-sub-left
-    (λ c. search (labelling, needs))  -- check-labels-loop-less
-    (λ c. search (labelling, needs))  -- check-labels-loop-again
+    (λ c κs. search (labelling, needs))  -- check-labels-next-role-requires-2
+    (λ c. search (labelling, needs))  -- check-labels-sub-left-2
+    (λ c. search (labelling, needs))  -- check-labels-loop-less-2
+    (λ c. search (labelling, needs))  -- check-labels-loop-again-2
     (λ c. search (labelling, needs))  -- check-labels-returns-3

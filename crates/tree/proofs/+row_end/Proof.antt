@@ -44,13 +44,17 @@ pub +row-end-spec : {M : Type 1} → statement M
     (λ c. search (looping, needs))  -- row-end-cast-t15
     (λ c. search (looping, needs))  -- row-end-returns-2
     (λ c κs. search (looping, needs))  -- row-end-kids-at-requires
+    (λ c. search (looping, needs))  -- row-end-add-at
+    (λ c. search (looping, needs))  -- row-end-sub-left
+    (λ c. search (looping, needs))  -- row-end-loop-less
+    (λ c. search (looping, needs))  -- row-end-loop-again
     (λ c. search (looping, needs))  -- row-end-add-row-end
     (λ c. search (looping, needs))  -- row-end-sub-row-end
     (λ c κs. search (looping, needs))  -- row-end-row-end-requires
     (λ c. search (looping, needs))  -- row-end-enum-known-next
     (λ c. search (looping, needs))  -- row-end-enum-known-r
     (λ c. search (looping, needs))  -- row-end-returns-3
-    (λ c. search (looping, needs))  -- row-end-sub-left
-    (λ c. search (looping, needs))  -- row-end-loop-less
-    (λ c. search (looping, needs))  -- row-end-loop-again
+    (λ c. search (looping, needs))  -- row-end-sub-left-2
+    (λ c. search (looping, needs))  -- row-end-loop-less-2
+    (λ c. search (looping, needs))  -- row-end-loop-again-2
     (λ c. search (looping, needs))  -- row-end-returns-4
