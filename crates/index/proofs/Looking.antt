@@ -25,11 +25,14 @@ use Rattle.record.specs.declared.Found.the-variants.{At, Nothing}
 use Rattle.record.specs.Says.{found-row, slot-before}
 use Rattle.laws.proofs.Words.{turned-twice}
 use Rattle.laws.proofs.Finding.{eqb-flip}
-use Rattle.plan.specs.Plan.{Lent, kids-in, planned-field, plan-fields, Plan}
+use Rattle.record.specs.Trees.{Trees}
+use Rattle.plan.specs.Plan.{kids-in, planned-field, plan-fields, Plan}
+use Rattle.plan.specs.Table.{numbers}
 use Rattle.plan.proofs.Standing.{field-in}
 use Rattle.index_ids.specs.Chain.{Below, lowest-below}
 use Rattle.index_ids.specs.Ids.{id-in, is-id}
-use Rattle.index_ids.proofs.Chains.{found-within}
+use Rattle.index_ids.specs.Table.{ups-in}
+use Rattle.index_ids.proofs.Chains.{found-within, found-below-room}
 use Rattle.index_ids.proofs.Repeats.{slot-at, found-below}
 use Rattle.index_names.specs.Walk.{walk, trees-of}
 use Rattle.index_names.specs.Full.{fulls, ups, full-at}
@@ -43,20 +46,20 @@ use Rattle.index_short_names.proofs.Fitting.{left-in}
 use Rattle.index_short_names.proofs.Seeking.{past-is, found-is}
 use Rattle.index_short_names.proofs.Entered as short
 use Rattle.index_short_names.proofs.Entered.{short-rel, dotless, found-in}
-use Rattle.index.specs.Index.{Raised, Falling, at-slot, found-slot, held, short-slot}
+use Rattle.index.specs.Index.{Raised, Falling, at-slot, found-slot, held, ById, ByParent, short-slot}
 use Rattle.index.proofs.Rows.{field-id, field-name, plan-is, ids-are, names-are, Rel, none-found, found-at, parent-at, id-rel, full-rel}
 
--- ---- places
-
-pub up-small : (us : List ℕ) (m k u : ℕ) → Falling m us → k < m → m ≤ 1024 → u ≡ getD us k 0 → (u ≡ 0 → ⊥) → u - 1 < 1024
-up-small us m k u f q w e z = let y = f .falls k q in omega arith
+-- ---- places: `search placing`
 
 held-before : (at : ℕ) → held (slot-before at) ≡ slot-at at
 unfolding slot-before
 held-before zero = refl
 held-before (suc k) = refl
 
--- A slot of an array of ids, as an answer.
+pub slot-small : (w : FoundSlot) (s : Slot) → Below w → w ≡ slots.At s → s .0 < 1024
+slot-small w s b e = b .small s e
+
+-- A slot and its id, as an answer.
 module _ (is : List ℕ) (w : FoundSlot) where
   pub nothing-at : w ≡ slots.Nothing → Nothing ≡ found-slot is (held w)
   unfolding found-slot
@@ -69,7 +72,7 @@ module _ (is : List ℕ) (w : FoundSlot) where
 pub at-is : (id slot : ℕ) → id < 4294967296 → At (record { 0 = id }) (record { 0 = slot }) ≡ at-slot (turned id) slot
 at-is id slot l = rw (turned-twice id l)
 
-pub ruleset placing = (nothing-at, slot-found, at-is)
+pub ruleset placing = (slot-small, nothing-at, slot-found, at-is)
 
 -- ---- the rows of a plan
 
@@ -77,7 +80,7 @@ place-ext : {A : Type 0} (t u : A → Bool) (k : ℕ) (xs : List A) → ((a : A)
 place-ext t u k [] h = refl
 place-ext t u k (x ∷ xs) h = rw (h x, place-ext t u (suc k) xs h)
 
-module _ (l : Lent) (xs is ks : List ℕ) (m : ℕ) (p : Plan l xs is ks m) where
+module _ (l : Trees) (xs is ks : List ℕ) (m : ℕ) (p : Plan l xs is ks m) where
   abbrev fld : ℕ → Field
   fld k = field-in l xs is k
 
@@ -105,13 +108,13 @@ module _ (l : Lent) (xs is ks : List ℕ) (m : ℕ) (p : Plan l xs is ks m) wher
         ap (place-of (λ a. eqb a i) 0) ids-in-order ∙ place-ext (λ a. eqb a i) (eqb i) 0 (from (id-in is) 0 m) (λ a. eqb-flip a i) ∙ sym (ap held e ∙ held-before _ ∙ found-below (eqb i) (id-in is) m) in
         rw (plan-is l xs is ks m p, ← q) (id-rel fld places (all-numbered (kids-in ks) m) (λ a. eqb a i))
 
-    pub by-id : found-row (look-id (plan-fields l xs is ks m) i) ≡ found-slot is (held w)
+    by-id : found-row (look-id (plan-fields l xs is ks m) i) ≡ found-slot is (held w)
     by-id = rel-slot id-found
 
     -- ---- by parent
 
     module _ (us : List ℕ) (rs : Raised ks m us) where
-      pub no-id : w ≡ slots.Nothing → Nothing ≡ found-row (look-parent (plan-fields l xs is ks m) i)
+      no-id : w ≡ slots.Nothing → Nothing ≡ found-row (look-parent (plan-fields l xs is ks m) i)
       unfolding look-parent found-row
       no-id z = go (look-id (plan-fields l xs is ks m) i) (subst (λ (v : FoundSlot). Rel fld 0 (ups 0 places) (look-id (plan-fields l xs is ks m) i) (held v)) z id-found)
         where
@@ -131,17 +134,17 @@ module _ (l : Lent) (xs is ks : List ℕ) (m : ℕ) (p : Plan l xs is ks m) wher
         parent-at-place : parent-of (look-id (plan-fields l xs is ks m) i) ≡ parent-at fld u
         parent-at-place = parent-is (s .0) (ap held h) (found-within (is-id is i) m w e s h) ∙ ap (parent-at fld) (sym eu)
 
-        pub no-parent : u ≡ 0 → Nothing ≡ found-row (look-parent (plan-fields l xs is ks m) i)
+        no-parent : u ≡ 0 → Nothing ≡ found-row (look-parent (plan-fields l xs is ks m) i)
         unfolding look-parent found-row
         no-parent z = rw (parent-at-place, z)
 
-        pub the-parent : (r : Found) → (u ≡ 0 → ⊥) → r ≡ found-row (look-id (plan-fields l xs is ks m) (turned (getD is (u - 1) 0))) → r ≡ found-row (look-parent (plan-fields l xs is ks m) i)
+        the-parent : (r : Found) → (u ≡ 0 → ⊥) → r ≡ found-row (look-id (plan-fields l xs is ks m) (turned (getD is (u - 1) 0))) → r ≡ found-row (look-parent (plan-fields l xs is ks m) i)
         unfolding look-parent
         the-parent r z e =
             let y : u ≡ suc (u - 1) = omega arith in
             e ∙ sym (ap (λ (o : Option ℕ). found-row (look-some (plan-fields l xs is ks m) o)) (parent-at-place ∙ ap (parent-at fld) y ∙ ap some (field-id l xs is (u - 1))))
 
-  -- ---- by name
+  -- ---- by name: `search named`
 
   module _ (us : List ℕ) (rs : Raised ks m us) (x : List ℕ) where
     abbrev full-row : Option Row
@@ -196,9 +199,34 @@ module _ (l : Lent) (xs is ks : List ℕ) (m : ℕ) (p : Plan l xs is ks m) wher
           let none-full : find (λ r. same (r .full) x) (rows top (mapped fld places)) ≡ none = rw (plan-is l xs is ks m p) at (no-full h) in
           by-short Nothing h (ap (found-slot is) (sym (subst (λ (s : (ℕ → List ℕ) × (ℕ → Kind)). seek-in (s .0) (s .1) Member (some x) none places ≡ none) parts (dotless fld x places top (sym eb ∙ not-true b t) refl none-full))))
 
--- ---- the walk for a short name
+pub ruleset named = (found-below-room, by-full, by-short, by-root)
 
-module _ (l : Lent) (xs : List ℕ) (kids : ℕ → ℕ) (m : ℕ) (x : List ℕ) (w : Sighting) (ew : w ≡ sighting (name-in l xs) (kind-in l xs) Member (left-at x 0) (seen 0) (walk kids m 16 m 0)) where
+-- ---- by id and by parent, whatever the plan draws on: `search looks`
+
+module _ (plan : List (List ℕ)) (m i : ℕ) (w : FoundSlot) (e : w ≡ slot-before (lowest-below (is-id (numbers plan) (turned i)) 0 m)) where
+  pub finds-id : (r : Found) → r ≡ found-slot (numbers plan) (held w) → ById plan m i r
+  finds-id r h = record { finds = λ l p. h ∙ sym (by-id l _ _ _ m p (turned i) w e) }
+
+  module _ (index : List (List ℕ)) where
+    pub finds-no-id : w ≡ slots.Nothing → ByParent plan index m i Nothing
+    finds-no-id z = record { finds = λ l p rs. no-id l _ _ _ m p (turned i) w e _ rs z }
+
+    module _ (s : Slot) (h : w ≡ slots.At s) (u : ℕ) (eu : u ≡ getD (ups-in index) (s .0) 0) where
+      pub finds-no-parent : u ≡ 0 → ByParent plan index m i Nothing
+      finds-no-parent z = record { finds = λ l p rs. no-parent l _ _ _ m p (turned i) w e _ rs u s h eu z }
+
+      module _ (z : u ≡ 0 → ⊥) where
+        pub finds-parent : (r : Found) → ById plan m (getD (numbers plan) (u - 1) 0) r → ByParent plan index m i r
+        finds-parent r b = record { finds = λ l p rs. the-parent l _ _ _ m p (turned i) w e _ rs u s h eu r z (b .finds l p) }
+
+        pub parent-small : m ≤ 1024 → Falling m (ups-in index) → u - 1 < 1024
+        parent-small q f = let x = found-within _ m w e s h in let y = f .falls (s .0) x in omega arith
+
+pub ruleset looks = (slot-small, found-below-room, finds-id, finds-no-id, finds-no-parent, finds-parent, parent-small)
+
+-- ---- the walk for a short name: `search shorts`
+
+module _ (l : Trees) (xs : List ℕ) (kids : ℕ → ℕ) (m : ℕ) (x : List ℕ) (w : Sighting) (ew : w ≡ sighting (name-in l xs) (kind-in l xs) Member (left-at x 0) (seen 0) (walk kids m 16 m 0)) where
   abbrev short-in : Option ℕ
   short-in = seek-in (name-in l xs) (kind-in l xs) Member (some x) none (trees-of kids m)
 
@@ -221,3 +249,5 @@ module _ (l : Lent) (xs : List ℕ) (kids : ℕ → ℕ) (m : ℕ) (x : List ℕ
 
     pub short-below : m ≤ 1024 → Below (slots.At k)
     short-below h = let z = short-room in record { small = λ s q. let y : s .0 ≡ k .0 = ap (λ (x : Slot). x .0) (let v : s ≡ k = cc in v) in omega arith }
+
+pub ruleset shorts = (short-none, short-some, short-below)

@@ -1,6 +1,7 @@
--- Lent bytes as a base: `read` of the paper is 2 to 6, then 7 and 8 with no identifiers; the base plans the tree that it holds.
-use mathlib.Core.Path.{_≡_, refl, sym, _∙_}
-use mathlib.Core.Bool.{Bool, true, false}
+-- A base that passed 2 to 6 is a plan of itself (plan's `base-plan`), so its index answers for the tree that it decodes to. Of lent
+-- bytes `read` of the paper is 2 to 6, then 7 and 8 with no identifiers. `search basing`, `search opening`, `search finding`.
+use mathlib.Core.Path.{_≡_, refl, sym, ap, _∙_}
+use mathlib.Core.Bool.{Bool, true, false, true≢false}
 use mathlib.Core.List.{List, []}
 use Prim.Native.Nat.{ℕ, _*_, _/_, _≤_}
 use native.Mathlib.Omega.{arith}
@@ -21,29 +22,62 @@ use Rattle.record.specs.declared.Check.{Check}
 use Rattle.record.specs.declared.Check.the-variants as check
 use Rattle.record.specs.declared.Found.{Found}
 use Rattle.record.specs.declared.Sought.the-variants as sought
-use Rattle.record.specs.Says.{checked, found-row, looked}
-use Rattle.record.proofs.Testing.{refused-as, checked-ok}
-use Rattle.laws.proofs.Basics.{rebind, refused≢ok, bind-not}
+use Rattle.record.specs.Says.{found-row, looked}
+use Rattle.record.specs.Trees.{Trees, alone}
+use Rattle.record.proofs.Testing.{checked-ok, checked-refused}
+use Rattle.laws.proofs.Basics.{refused≢ok, bind-is, bind-not, bind-assoc}
 use Rattle.laws.proofs.Fitting.{sized-slots}
 use Rattle.tree.specs.declared.Shaped.{Shaped}
 use Rattle.tree.specs.declared.Shaped.the-variants as shaped
+use Rattle.tree.specs.Read.{fine}
 use Rattle.tree.specs.Says.{decoded}
 use Rattle.tree.specs.Only.{only-read}
 use Rattle.tree.proofs.Deciding.{decode-refused, decode-ok}
-use Rattle.plan.specs.Plan.{lent, plan-fields, Plan}
-use Rattle.plan.specs.Sources.{Taken}
+use Rattle.plan.specs.Table.{PlanIn, fields-in, Roomy, TakenIn}
+use Rattle.plan.proofs.Rooms.{roomy-fresh, copied-roomy}
 use Rattle.plan.proofs.Taking.{Based, base-plan}
-use Rattle.index.specs.Index.{Indexing, Opened, ById, ByParent}
+use Rattle.index_ids.proofs.Tables.{rooms-fresh}
+use Rattle.index.specs.Index.{Indexing, Readable, BaseIndexed, Opened, ById, ByParent}
+
+-- ---- the base as a plan of itself
+
+was-fine : (P : Type 0) (x : Answer (Forest Field)) → fine x ≡ true → ((t : Forest Field) → x ≡ ok t → P) → P
+was-fine P (ok t) e f = f t refl
+was-fine P (refused n l p) e f = absurd (true≢false (sym e))
+
+module _ (l : Trees) (n : ℕ) (h : Readable l n) where
+  pub base-bytes : n * 24 ≤ length (l .records)
+  base-bytes = let e = h .count in omega arith
+
+  pub base-few : n ≤ 1024
+  base-few = rw (h .count) (sized-slots (l .records) (l .pool) (h .limits) .0)
+
+  module _ (old new : List (List ℕ)) (room : Roomy old) (k : TakenIn (l .records) n old new) where
+    based : (t : Forest Field) → decode 0 (l .records) (l .pool) ≡ ok t → Based l t new n
+    based t e = base-plan 0 l t n old new (h .limits) e (h .count) room k
+
+    pub base-planned : PlanIn l new n
+    base-planned = was-fine _ (decode 0 (l .records) (l .pool)) (h .decodes) λ t e. based t e .plan
+
+    pub base-indexed : (identifiers : List ℕ) (r : Check) (index index′ : List (List ℕ)) → Indexing l new n 0 identifiers r index index′ → BaseIndexed l n identifiers r old new index′
+    base-indexed identifiers r index index′ x = was-fine _ (decode 0 (l .records) (l .pool)) (h .decodes) λ t e.
+        record {
+          taken = k;
+          planned = base-planned;
+          tree = e ∙ ap ok (sym (based t e .tree));
+          answer = x .answer;
+          indexed = x .index;
+          roomy = copied-roomy 0 old new (l .records) 0 n k room;
+          rooms = x .rooms;
+        }
+
+pub ruleset basing = (base-bytes, base-few, base-planned, base-indexed)
 
 -- ---- 2 to 6
 
 read-is : (s pool : List ℕ) → read s pool ≡ (only-read s pool >>= λ t. sound 0 t [] >>= λ _. ok t)
-unfolding read only-read _>>=_
-read-is s pool = go (limited (sized s pool))
-  where
-    go : (x : Answer (Unit {0})) → (x >>= λ _. decode 0 s pool >>= λ t. sound 0 t [] >>= λ _. ok t) ≡ ((x >>= λ _. decode 0 s pool) >>= λ t. sound 0 t [] >>= λ _. ok t)
-    go (ok u) = refl
-    go (refused n l p) = refl
+unfolding read only-read
+read-is s pool = sym (bind-assoc (limited (sized s pool)) (λ _. decode 0 s pool) (λ t. sound 0 t [] >>= λ _. ok t))
 
 -- what 2 and 3 to 6 told
 sized-then : {P : Type 0} (s pool : List ℕ) (t : Forest Field) → only-read s pool ≡ ok t → (sized s pool ≡ true → decode 0 s pool ≡ ok t → P) → P
@@ -54,51 +88,41 @@ sized-then {P} s pool t e f = go (sized s pool) refl e
     go true q h = f q h
     go false q h = absurd (refused≢ok h)
 
-bound : {A B : Type 0} (y : Answer A) (f : A → Answer B) {a : A} → y ≡ ok a → (y >>= f) ≡ f a
-unfolding _>>=_
-bound y f e = rw e
-
-halted : {B : Type 0} (y : Answer (Unit {0})) (x : Refusal) (f : Unit {0} → Answer B) → check.Refused x ≡ checked y → (y >>= f) ≡ refused-as x
-unfolding checked _>>=_
-halted (ok u) x f q = let z : _≡_ {A = ℕ} 0 1 = cc in absurd (omega arith)
-halted (refused n l p) x f q = cc
-
 module _ (s pool : List ℕ) (w : Shaped) (ew : w ≡ decoded (only-read s pool)) where
-  pub open-refused : (xs is ks : List ℕ) (m : ℕ) (a b c d e f g : List ℕ) (x : Refusal) → w ≡ shaped.Refused x → Opened s pool (check.Refused x) xs is ks m a b c d e f g
-  open-refused xs is ks m a b c d e f g x h =
+  pub open-refused : (plan : List (List ℕ)) (m : ℕ) (index : List (List ℕ)) (x : Refusal) → w ≡ shaped.Refused x → Opened s pool (check.Refused x) plan m index
+  open-refused plan m index x h =
       record {
         refusal = λ y q. let z : x ≡ y = cc in rw (← z) (read-is s pool ∙ bind-not (only-read s pool) _ _ _ _ (decode-refused (only-read s pool) w x ew h));
         tree = λ q. absurd (let z : _≡_ {A = ℕ} 0 1 = cc in omega arith);
-        plan = λ q. absurd (let z : _≡_ {A = ℕ} 0 1 = cc in omega arith);
-        index = λ q. absurd (let z : _≡_ {A = ℕ} 0 1 = cc in omega arith);
+        planned = λ q. absurd (let z : _≡_ {A = ℕ} 0 1 = cc in omega arith);
+        indexed = λ q. absurd (let z : _≡_ {A = ℕ} 0 1 = cc in omega arith);
       }
 
-  module _ (n : ℕ) (ed : w ≡ shaped.Roots n) where
-    pub open-few : (length s / 24 * 24 ≤ length s) × (length s / 24 ≤ 1024)
-    open-few = decode-ok _ (only-read s pool) w n ew ed λ t e _. sized-then s pool t e λ z d. (omega arith, sized-slots s pool z .0)
+  module _ (k : ℕ) (ed : w ≡ shaped.Roots k) where
+    was-read : (P : Type 0) → ((t : Forest Field) → only-read s pool ≡ ok t → sized s pool ≡ true → decode 0 s pool ≡ ok t → P) → P
+    was-read P f = decode-ok _ (only-read s pool) w k ew ed λ t e _. sized-then s pool t e (f t e)
 
-    module _ (xs is ks xs′ is′ ks′ : List ℕ) (lx : length xs ≡ 1024) (li : length is ≡ 1024) (lk : length ks ≡ 1024) (h : Taken s (length s / 24) xs is ks xs′ is′ ks′) where
-      based : (P : Type 0) → ((t : Forest Field) → only-read s pool ≡ ok t → Based (lent pool s pool s) t xs′ is′ ks′ (length s / 24) → P) → P
-      based P f = decode-ok _ (only-read s pool) w n ew ed λ t e _. sized-then s pool t e λ z d. f t e (base-plan 0 pool s pool s t (length s / 24) xs is ks xs′ is′ ks′ z d refl lx li lk h)
+    pub open-readable : Readable (alone s pool) (length s / 24)
+    open-readable = was-read _ λ t e z d. record { limits = z; count = refl; decodes = rw d }
 
-      pub open-plan : Plan (lent pool s pool s) xs′ is′ ks′ (length s / 24)
-      open-plan = based _ λ t e b. b .plan
+    pub opened : (r : Check) (old plan index : List (List ℕ)) → BaseIndexed (alone s pool) (length s / 24) [] r old plan index → Opened s pool r plan (length s / 24) index
+    unfolding id-list from
+    opened r old plan index b = was-read _ λ t e z d.
+        let n = length s / 24 in
+        let u = fields-in (alone s pool) plan n in
+        let whole : read s pool ≡ (sound 0 u [] >>= λ _. ok u) = read-is s pool ∙ bind-is (only-read s pool) _ u (e ∙ sym d ∙ b .tree) in
+        record {
+          refusal = λ x q. whole ∙ bind-not (sound 0 u []) _ _ _ _ (checked-refused (sound 0 u []) r x (b .answer) q);
+          tree = λ q. whole ∙ bind-is (sound 0 u []) _ tt (checked-ok (sound 0 u []) r (b .answer) q);
+          planned = λ q. b .planned;
+          indexed = b .indexed;
+        }
 
-      pub opened : (r : Check) (a b c d e f g : List ℕ) → Indexing (lent pool s pool s) xs′ is′ ks′ (length s / 24) 0 [] r a b c d e f g → Opened s pool r xs′ is′ ks′ (length s / 24) a b c d e f g
-      unfolding id-list from
-      opened r a b c d e f g ix = based _ λ t et bs.
-          let t-is = bs .tree in
-          let whole : read s pool ≡ (sound 0 (plan-fields (lent pool s pool s) xs′ is′ ks′ (length s / 24)) [] >>= λ _. ok (plan-fields (lent pool s pool s) xs′ is′ ks′ (length s / 24))) = read-is s pool ∙ rw t-is (bound (only-read s pool) _ et) in
-          record {
-            refusal = λ x q. whole ∙ halted (sound 0 (plan-fields (lent pool s pool s) xs′ is′ ks′ (length s / 24)) []) x _ (sym q ∙ ix .answer);
-            tree = λ q. whole ∙ rebind _ _ (checked-ok (sound 0 (plan-fields (lent pool s pool s) xs′ is′ ks′ (length s / 24)) []) r (ix .answer) q) refl;
-            plan = λ q. bs .plan;
-            index = λ q. ix .index q;
-          }
+pub ruleset opening = (open-refused, open-readable, opened)
 
 -- ---- the entries
 
-module _ (s pool xs is ks : List ℕ) (m : ℕ) (a b c d e f g : List ℕ) (r : Check) (o : Opened s pool r xs is ks m a b c d e f g) where
+module _ (s pool : List ℕ) (plan : List (List ℕ)) (m : ℕ) (index : List (List ℕ)) (r : Check) (o : Opened s pool r plan m index) where
   pub name-refused : (x : List ℕ) (y : Refusal) → r ≡ check.Refused y → sought.Refused y ≡ looked (find-name s pool x)
   unfolding find-name looked _>>=_
   name-refused x y q = rw (o .refusal y q)
@@ -112,14 +136,16 @@ module _ (s pool xs is ks : List ℕ) (m : ℕ) (a b c d e f g : List ℕ) (r : 
   parent-refused i y q = rw (o .refusal y q)
 
   module _ (q : r ≡ check.Fine) (h : Found) where
-    pub name-looked : (x : List ℕ) → h ≡ found-row (look-name (plan-fields (lent pool s pool s) xs is ks m) x) → sought.Looked h ≡ looked (find-name s pool x)
+    pub name-looked : (x : List ℕ) → h ≡ found-row (look-name (fields-in (alone s pool) plan m) x) → sought.Looked h ≡ looked (find-name s pool x)
     unfolding find-name looked _>>=_
     name-looked x e = rw (o .tree q, e)
 
-    pub id-looked : (i : ℕ) → ById is m i h → sought.Looked h ≡ looked (find-id s pool i)
+    pub id-looked : (i : ℕ) → ById plan m i h → sought.Looked h ≡ looked (find-id s pool i)
     unfolding find-id looked _>>=_
-    id-looked i e = rw (o .tree q, e .finds (lent pool s pool s) xs ks (o .plan q))
+    id-looked i e = rw (o .tree q, e .finds (alone s pool) (o .planned q))
 
-    pub parent-looked : (i : ℕ) → ByParent is c m i h → sought.Looked h ≡ looked (find-parent s pool i)
+    pub parent-looked : (i : ℕ) → ByParent plan index m i h → sought.Looked h ≡ looked (find-parent s pool i)
     unfolding find-parent looked _>>=_
-    parent-looked i e = rw (o .tree q, e .finds (lent pool s pool s) xs ks (o .plan q) (o .index q .raised))
+    parent-looked i e = rw (o .tree q, e .finds (alone s pool) (o .planned q) (o .indexed q .raised))
+
+pub ruleset finding = (roomy-fresh, rooms-fresh, name-refused, id-refused, parent-refused, name-looked, id-looked, parent-looked)

@@ -16,17 +16,18 @@ use Rattle.paper.specs.Rows.{Row, Start, top, below, beside, rows, dotted}
 use Rattle.paper.specs.Sound.{names, ids}
 use Rattle.laws.proofs.Preorder.{size-mapped, mapped-mapped}
 use Rattle.laws.proofs.Runs.{from-append, map-append}
-use Rattle.plan.specs.Plan.{Lent, planned-field, source-in, kids-in, plan-slots, plan-tree, plan-fields, Plan}
+use Rattle.record.specs.Trees.{Trees}
+use Rattle.plan.specs.Plan.{planned-field, source-in, kids-in, plan-slots, plan-tree, plan-fields, Plan}
 use Rattle.plan.proofs.Standing.{field-in}
 use Rattle.index_ids.specs.Ids.{id-in}
 use Rattle.index_names.specs.Walk.{trees-of}
 use Rattle.index_names.specs.Full.{fulls, ups}
-use Rattle.index_names.specs.Told.{name-in, kind-in, Sources}
+use Rattle.index_names.specs.Told.{name-in, Sources}
 use Rattle.index_names.proofs.Walks.{Numbered, roots-are}
 
 -- ---- the fields of the slots
 
-module _ (l : Lent) (xs is : List ℕ) where
+module _ (l : Trees) (xs is : List ℕ) where
   pub field-id : (k : ℕ) → field-in l xs is k .id ≡ id-in is k
   unfolding planned-field
   field-id k = refl
@@ -35,15 +36,11 @@ module _ (l : Lent) (xs is : List ℕ) where
   unfolding planned-field name-in
   field-name k = refl
 
-  pub field-kind : (k : ℕ) → field-in l xs is k .kind ≡ kind-in l xs k
-  unfolding planned-field kind-in
-  field-kind k = refl
-
-pub plan-is : (l : Lent) (xs is ks : List ℕ) (m : ℕ) → Plan l xs is ks m → plan-fields l xs is ks m ≡ mapped (field-in l xs is) (trees-of (kids-in ks) m)
+pub plan-is : (l : Trees) (xs is ks : List ℕ) (m : ℕ) → Plan l xs is ks m → plan-fields l xs is ks m ≡ mapped (field-in l xs is) (trees-of (kids-in ks) m)
 unfolding plan-fields plan-tree plan-slots
 plan-is l xs is ks m p = mapped-mapped (source-in xs is) (planned-field l) _ ∙ ap (mapped (field-in l xs is)) (roots-are 4 (kids-in ks) m (p .shaped))
 
-pub plan-sources : (l : Lent) (xs is ks : List ℕ) (m : ℕ) → Plan l xs is ks m → Sources l xs m
+pub plan-sources : (l : Trees) (xs is ks : List ℕ) (m : ℕ) → Plan l xs is ks m → Sources l xs m
 plan-sources l xs is ks m p = record { few = p .few; sits = p .sits }
 
 -- ---- ids and full names in slot order

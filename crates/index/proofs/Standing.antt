@@ -4,7 +4,6 @@ use mathlib.Core.Path.{_≡_}
 use mathlib.Core.Bool.{true}
 use mathlib.Core.List.{List}
 use lib.ListN.{length}
-use Rattle.paper.specs.Field.{Field}
 use Rattle.paper.specs.Rows.{Row}
 use Rattle.paper.specs.Bytes.{in-pool, field-at, slots}
 use Rattle.paper.specs.Limits.{sized}

@@ -8,7 +8,7 @@ use Rattle.paper.specs.Entries.{find-name, find-id, find-parent}
 use Rattle.paper.specs.Rows.{Row}
 
 -- A row that a look-up in these bytes finds.
-pub data FoundIn (s pool : List ℕ) (r : Row) : Type 0 where
-  by-name : (name : List ℕ) → find-name s pool name ≡ ok (some r) → FoundIn s pool r
-  by-id : (id : ℕ) → find-id s pool id ≡ ok (some r) → FoundIn s pool r
-  by-parent : (id : ℕ) → find-parent s pool id ≡ ok (some r) → FoundIn s pool r
+pub data FoundIn (records pool : List ℕ) (r : Row) : Type 0 where
+  by-name : (name : List ℕ) → find-name records pool name ≡ ok (some r) → FoundIn records pool r
+  by-id : (id : ℕ) → find-id records pool id ≡ ok (some r) → FoundIn records pool r
+  by-parent : (id : ℕ) → find-parent records pool id ≡ ok (some r) → FoundIn records pool r

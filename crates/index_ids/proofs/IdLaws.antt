@@ -1,5 +1,5 @@
 -- Chains of ids: equal bits are equal ids, so a chain by the bits finds what the paper's ids ask for. `search ids`.
-use mathlib.Core.Path.{_≡_, refl, sym, ap, _∙_}
+use mathlib.Core.Path.{_≡_, sym, ap, _∙_}
 use mathlib.Core.Logic.{_⊎_, inl, inr}
 use mathlib.Core.Bool.{Bool, true, false, not}
 use mathlib.Core.List.{List}
@@ -19,10 +19,12 @@ use Rattle.record.specs.declared.Check.the-variants.{Fine, Refused}
 use Rattle.record.specs.Says.{tested, refusal-of, slot-before}
 use Rattle.record.proofs.Slots.{no-slot, the-slot}
 use Rattle.record.proofs.Lowest.{look-starts, look-goes, look-stops, look-ends}
-use Rattle.index_ids.specs.Chain.{pick, lowest-below, Chained, Cleared, Entered}
-use Rattle.index_ids.specs.Ids.{bucket-of, id-in, id-bucket, is-id, new-id, rule-7, Indexed}
+use Rattle.index_ids.specs.Chain.{pick, lowest-below, Chained, Cleared}
+use Rattle.index_ids.specs.Ids.{bucket-of, id-in, id-bucket, is-id, new-id, rule-7}
+use Rattle.index_ids.specs.Table.{row, Rooms, Within, EnteredIn, IdsChained, IndexedIn}
 use Rattle.index_ids.proofs.Chains.{Left, eqb-cases, chain-starts, chain-goes, chain-falls, chain-ends, chain-enters, chain-fresh}
 use Rattle.index_ids.proofs.Repeats.{repeats}
+use Rattle.index_ids.proofs.Tables.{within-same, within-both, within-wider, within-row, row-stored}
 
 -- ---- clearing
 
@@ -102,37 +104,66 @@ pub ruleset ids = (same-is, better-is, better-not, bucket-is, id-starts, id-goes
 -- ---- 7
 
 -- What holds at the loop's head.
-pub record Checking (is : List ℕ) (m : ℕ) (heads next : List ℕ) (k : ℕ) : Type 0 where
+pub record Checking (is : List ℕ) (m : ℕ) (old t : List (List ℕ)) (k : ℕ) : Type 0 where
   pub small : k ≤ m
   pub whole : lowest (new-id is) 0 m ≡ lowest (new-id is) k (m - k)
-  pub index : Chained (id-bucket is) heads next k
+  pub index : IdsChained is t k
+  pub within : Within 0 2 old t
 
-pub checking-starts : (is : List ℕ) (m : ℕ) (heads next : List ℕ) → Cleared heads → length next ≡ 1024 → Checking is m heads next 0
-checking-starts is m heads next c e = record { small = omega arith; whole = look-starts (new-id is) m; index = chain-fresh (id-bucket is) heads next c e }
+pub checking-goes : (is : List ℕ) (m : ℕ) (old t t′ : List (List ℕ)) (k : ℕ) (b : Bool) (c : ℕ) → EnteredIn 0 c k t t′ → Checking is m old t k → k < m → m ≤ 1024 → b ≡ new-id is k → not b ≡ false → c ≡ id-bucket is k → c < 1024 → Checking is m old t′ (k + 1)
+checking-goes is m old t t′ k b c en h l n et q eb lb =
+    record {
+      small = omega arith;
+      whole = look-goes (new-id is) (lowest (new-id is) 0 m) k m b (h .whole) l et q;
+      index = chain-enters (id-bucket is) k _ _ _ _ c (h .index) (en .entered) (omega arith) lb eb;
+      within = within-both 0 2 old t t′ (h .within) (en .within);
+    }
 
 all-new : (list : ℕ) (is : List ℕ) (m : ℕ) → rule-7 list is m ≡ tested 7 list (lowest (new-id is) 0 m)
 unfolding rule-7
 all-new list is m = ap (tested 7 list) (repeats eqb (id-in is) 0 m)
 
-module _ (is : List ℕ) (m list : ℕ) (heads next : List ℕ) (k : ℕ) (h : Checking is m heads next k) (t : Bool) (l : k < m) (et : t ≡ new-id is k) where
-  pub checking-goes : (heads′ next′ : List ℕ) (b id : ℕ) → turned id ≡ id-in is k → m ≤ 1024 → not t ≡ false → b ≡ bucket-of (turned id) → b < 1024 → Entered heads next b k heads′ next′ → Checking is m heads′ next′ (k + 1)
-  checking-goes heads′ next′ b id ei n q eb lb en =
+-- The loop begins where the heads were cleared.
+module _ (is : List ℕ) (m list : ℕ) (old : List (List ℕ)) (heads : List ℕ) (n : Rooms old) (z : Cleared heads) where
+  abbrev first : List (List ℕ)
+  first = set old 0 heads
+
+  begun : Within 0 2 old first
+  begun = within-wider 0 1 0 2 old first (within-row old 0 heads (z .room)) (omega arith) (omega arith)
+
+  pub checking-starts : Checking is m first first 0
+  checking-starts =
+      let e : row first 0 ≡ heads = row-stored old 0 heads (let y = n .rows in omega arith) in
       record {
         small = omega arith;
-        whole = look-goes (new-id is) (lowest (new-id is) 0 m) k m t (h .whole) l et q;
-        index = chain-enters (id-bucket is) k heads next heads′ next′ b (h .index) en (omega arith) lb (eb ∙ ap bucket-of ei);
+        whole = look-starts (new-id is) m;
+        index = chain-fresh (id-bucket is) _ _ (rw e z) (begun .rooms n .wide 1 (omega arith));
+        within = within-same 0 2 first;
       }
 
-  pub checking-stops : not t ≡ true → Indexed is m list (Refused (refusal-of 7 list k)) heads next
-  checking-stops q =
-      record {
-        answer = look-stops (new-id is) 7 list (lowest (new-id is) 0 m) k m t (h .whole) l et q ∙ sym (all-new list is m);
-        index = λ e. absurd (let z : _≡_ {A = ℕ} 0 1 = cc in omega arith);
-      }
+  module _ (t : List (List ℕ)) (k : ℕ) (h : Checking is m first t k) where
+    within : Within 0 2 old t
+    within = within-both 0 2 old first t begun (h .within)
 
-pub checking-ends : (is : List ℕ) (m list : ℕ) (heads next : List ℕ) (k : ℕ) → Checking is m heads next k → m ≤ k → Indexed is m list Fine heads next
-checking-ends is m list heads next k h l =
-    let e : k ≡ m = let z = h .small in omega arith in
-    record { answer = look-ends (new-id is) 7 list (lowest (new-id is) 0 m) k m (h .whole) l ∙ sym (all-new list is m); index = λ z. rw e at (h .index) }
+    pub checking-rooms : Rooms t
+    checking-rooms = within .rooms n
 
-pub ruleset checking = (checking-starts, checking-goes, checking-stops, checking-ends)
+    pub checking-stops : (b : Bool) → k < m → b ≡ new-id is k → not b ≡ true → IndexedIn is m list (Refused (refusal-of 7 list k)) old t
+    checking-stops b l et q =
+        record {
+          indexed = record {
+            answer = look-stops (new-id is) 7 list (lowest (new-id is) 0 m) k m b (h .whole) l et q ∙ sym (all-new list is m);
+            index = λ e. absurd (let y : _≡_ {A = ℕ} 0 1 = cc in omega arith);
+          };
+          within = within;
+        }
+
+    pub checking-ends : m ≤ k → IndexedIn is m list Fine old t
+    checking-ends l =
+        let e : k ≡ m = let y = h .small in omega arith in
+        record {
+          indexed = record { answer = look-ends (new-id is) 7 list (lowest (new-id is) 0 m) k m (h .whole) l ∙ sym (all-new list is m); index = λ y. rw e at (h .index) };
+          within = within;
+        }
+
+pub ruleset checking = (checking-starts, checking-rooms, checking-stops, checking-ends)

@@ -1,2 +1,3 @@
 pub mod Chain
 pub mod Ids
+pub mod Table

@@ -2,7 +2,7 @@
 -- are one run of stores.
 use mathlib.Core.Path.{_≡_, refl, sym, ap, _∙_}
 use mathlib.Core.List.{List, [], _∷_, _++_, map}
-use Prim.Native.Nat.{ℕ, suc, _+_, _-_, _*_, _<_, _≤_}
+use Prim.Native.Nat.{ℕ, zero, suc, _+_, _-_, _*_, _<_, _≤_}
 use native.Mathlib.Numerals.{add-one}
 use native.Mathlib.Omega.{arith}
 use lib.ListN.{length, set, length-append, length-map}
@@ -11,10 +11,13 @@ use Rattle.paper.specs.Forest.{Forest, empty, node, size}
 use Rattle.paper.specs.Layout.{Part, nothing, before}
 use Rattle.paper.specs.Rows.{dotted}
 use Rattle.laws.proofs.Runs.{sets-append, map-append}
+use Rattle.index_ids.specs.Table.{row, Within}
+use Rattle.index_ids.proofs.Tables.{within-same, within-both, within-wider, within-cell, row-left}
 use Rattle.index_names.specs.Walk.{walk}
-use Rattle.index_names.specs.Hash.{mix, hash-on, hash-of}
+use Rattle.index_names.specs.Hash.{mix, hash-on, hash-of, tag, tag-of}
 use Rattle.index_names.specs.Full.{fulls, ups}
 use Rattle.index_names.specs.Told.{Marked}
+use Rattle.index_names.specs.Table.{MarkedIn}
 use Rattle.index_names.proofs.Hashing.{hash-append}
 use Rattle.index_names.proofs.Walks.{walk-none, walk-deep, walk-past, walk-in, filled}
 
@@ -33,16 +36,16 @@ both-set : (xs ys l m l′ : List ℕ) (k x j : ℕ) → m ≡ sets (set l k x) 
 both-set xs ys l m l′ k x j em ej el = el ∙ rw (em, ej) (sets-append xs ys (set l k x) (suc k))
 
 module _ (name : ℕ → List ℕ) where
-  nothing-marked : (p : Part) (k u l h : ℕ) (us ls hs : List ℕ) → p ≡ nothing k → Marked name p k u l h us ls hs us ls hs k
+  nothing-marked : (p : Part) (k u l h : ℕ) (us ls ts : List ℕ) → p ≡ nothing k → Marked name p k u l h us ls ts us ls ts k
   unfolding fulls ups
-  nothing-marked p k u l h us ls hs e = rw e record { next = refl; ups-set = refl; lens-set = λ pre q. refl; hashes-set = λ pre q. refl }
+  nothing-marked p k u l h us ls ts e = rw e record { next = refl; ups-set = refl; lens-set = λ pre q. refl; tags-set = λ pre q. refl }
 
-  joined-marked : (p a b : Part) (k u l h own h₁ j r : ℕ) (us ls hs us₁ ls₁ hs₁ us₂ ls₂ hs₂ : List ℕ)
+  joined-marked : (p a b : Part) (k u l h own h₁ j r : ℕ) (us ls ts us₁ ls₁ ts₁ us₂ ls₂ ts₂ : List ℕ)
       → p ≡ before k a b → own ≡ l + length (name k) → h₁ ≡ hash-on h (name k) → j ≡ suc k + size (a .trees)
-      → Marked name a (suc k) (suc k) (own + 1) (mix h₁ 46) (set us k u) (set ls k own) (set hs k h₁) us₁ ls₁ hs₁ j
-      → Marked name b j u l h us₁ ls₁ hs₁ us₂ ls₂ hs₂ r → Marked name p k u l h us ls hs us₂ ls₂ hs₂ r
+      → Marked name a (suc k) (suc k) (own + 1) (mix h₁ 46) (set us k u) (set ls k own) (set ts k (tag h₁)) us₁ ls₁ ts₁ j
+      → Marked name b j u l h us₁ ls₁ ts₁ us₂ ls₂ ts₂ r → Marked name p k u l h us ls ts us₂ ls₂ ts₂ r
   unfolding fulls ups hash-on
-  joined-marked p a b k u l h own h₁ j r us ls hs us₁ ls₁ hs₁ us₂ ls₂ hs₂ e eo eh ej m m′ =
+  joined-marked p a b k u l h own h₁ j r us ls ts us₁ ls₁ ts₁ us₂ ls₂ ts₂ e eo eh ej m m′ =
       rw e
       record {
         next = m′ .next;
@@ -54,62 +57,111 @@ module _ (name : ℕ → List ℕ) where
             let gs = fulls name pre (b .trees) in
             rw (map-append length fs gs, ← own-is)
             (both-set (map length fs) (map length gs) ls ls₁ ls₂ k own j (m .lens-set (dotted pre (name k)) below-is) (ej ∙ ap (λ z. suc k + z) (sym (length-map fs length ∙ length-fulls name (dotted pre (name k)) (a .trees)))) (m′ .lens-set pre q));
-        hashes-set = λ pre q.
+        tags-set = λ pre q.
             let own-is : h₁ ≡ hash-of (pre ++ name k) = eh ∙ rw q (sym (hash-append 0 pre (name k))) in
             let below-is : mix h₁ 46 ≡ hash-of (dotted pre (name k)) = hashed pre q in
             let fs = fulls name (dotted pre (name k)) (a .trees) in
             let gs = fulls name pre (b .trees) in
-            rw (map-append hash-of fs gs, ← own-is)
-            (both-set (map hash-of fs) (map hash-of gs) hs hs₁ hs₂ k h₁ j (m .hashes-set (dotted pre (name k)) below-is) (ej ∙ ap (λ z. suc k + z) (sym (length-map fs hash-of ∙ length-fulls name (dotted pre (name k)) (a .trees)))) (m′ .hashes-set pre q));
+            rw (map-append tag-of fs gs, ← own-is)
+            (both-set (map tag-of fs) (map tag-of gs) ts ts₁ ts₂ k (tag h₁) j (m .tags-set (dotted pre (name k)) below-is) (ej ∙ ap (λ z. suc k + z) (sym (length-map fs tag-of ∙ length-fulls name (dotted pre (name k)) (a .trees)))) (m′ .tags-set pre q));
       }
     where
       hashed : (pre : List ℕ) → h ≡ hash-of pre → mix h₁ 46 ≡ hash-of (dotted pre (name k))
       hashed pre q = rw (hash-append 0 pre (name k ++ (46 ∷ [])), ← q, hash-append h (name k) (46 ∷ []), ← eh)
 
-  module _ (kids : ℕ → ℕ) (n lv c k u l h : ℕ) (us ls hs : List ℕ) where
-    mark-none : c ≡ 0 → Marked name (walk kids n lv c k) k u l h us ls hs us ls hs k
-    mark-none e = nothing-marked _ k u l h us ls hs (walk-none kids n lv c k e)
+-- ---- the same in the rows of an index
 
-    pub mark-deep : lv ≡ 0 → Marked name (walk kids n lv c k) k u l h us ls hs us ls hs k
-    mark-deep e = nothing-marked _ k u l h us ls hs (walk-deep kids n lv c k e)
+-- Where there is no such row, there is nothing to store in: so no length is asked for.
+cell-stored : (t : List (List ℕ)) (r k v : ℕ) → row (set t r (set (row t r) k v)) r ≡ set (row t r) k v
+cell-stored [] r k v = refl
+cell-stored (x ∷ t) zero k v = refl
+cell-stored (x ∷ t) (suc r) k v = cell-stored t r k v
 
-    mark-past : n ≤ k → Marked name (walk kids n lv c k) k u l h us ls hs us ls hs k
-    mark-past e = nothing-marked _ k u l h us ls hs (walk-past kids n lv c k e)
+-- One slot is marked: a store in each of the three rows.
+module _ (t : List (List ℕ)) (k u own x : ℕ) where
+  abbrev first : List (List ℕ)
+  first = set t 2 (set (row t 2) k u)
 
-    mark-turn : (m own h₁ h₂ j r : ℕ) (us₁ ls₁ hs₁ us₂ ls₂ hs₂ : List ℕ) → (lv ≡ 0 → ⊥) → (c ≡ 0 → ⊥) → k < n → m ≡ kids k → own ≡ l + length (name k) → h₁ ≡ hash-on h (name k) → h₂ ≡ mix h₁ 46
-        → Marked name (walk kids n (lv - 1) m (k + 1)) (k + 1) (k + 1) (own + 1) h₂ (set us k u) (set ls k own) (set hs k h₁) us₁ ls₁ hs₁ j
-        → Marked name (walk kids n lv (c - 1) j) j u l h us₁ ls₁ hs₁ us₂ ls₂ hs₂ r → Marked name (walk kids n lv c k) k u l h us ls hs us₂ ls₂ hs₂ r
-    mark-turn m own h₁ h₂ j r us₁ ls₁ hs₁ us₂ ls₂ hs₂ e f q em eo eh eh₂ w v =
-        joined-marked (walk kids n lv c k) (walk kids n (lv - 1) m (suc k)) (walk kids n lv (c - 1) j) k u l h own h₁ j r us ls hs us₁ ls₁ hs₁ us₂ ls₂ hs₂
-        (rw (← (w .next), add-one k) at (walk-in kids n lv c k m e f q em)) eo eh (rw (add-one k) at (w .next ∙ filled kids n (lv - 1) m (k + 1) (omega arith) .count)) (rw (eh₂, add-one k) at w) v
+  abbrev second : List (List ℕ)
+  second = set first 3 (set (row first 3) k own)
 
-    -- the next slot is within the list
-    mark-room : (r : ℕ) (us′ ls′ hs′ : List ℕ) → Marked name (walk kids n lv c k) k u l h us ls hs us′ ls′ hs′ r → k ≤ n → r ≤ n
-    mark-room r us′ ls′ hs′ w q = let f = filled kids n lv c k q in omega (arith, f .most, w .next)
+  abbrev third : List (List ℕ)
+  third = set second 4 (set (row second 4) k x)
+
+  third-ups : row third 2 ≡ set (row t 2) k u
+  third-ups = row-left second 4 _ 2 (λ z. omega arith) ∙ row-left first 3 _ 2 (λ z. omega arith) ∙ cell-stored t 2 k u
+
+  third-lens : row third 3 ≡ set (row t 3) k own
+  third-lens = row-left second 4 _ 3 (λ z. omega arith) ∙ cell-stored first 3 k own ∙ ap (λ (z : List ℕ). set z k own) (row-left t 2 _ 3 (λ z. omega arith))
+
+  third-tags : row third 4 ≡ set (row t 4) k x
+  third-tags = cell-stored second 4 k x ∙ ap (λ (z : List ℕ). set z k x) (row-left first 3 _ 4 (λ z. omega arith) ∙ row-left t 2 _ 4 (λ z. omega arith))
+
+  third-within : Within 2 5 t third
+  third-within =
+      within-both 2 5 t first third
+      (within-wider 2 3 2 5 t first (within-cell t 2 k u) (omega arith) (omega arith))
+      (within-both 2 5 first second third
+      (within-wider 3 4 2 5 first second (within-cell first 3 k own) (omega arith) (omega arith))
+      (within-wider 4 5 2 5 second third (within-cell second 4 k x) (omega arith) (omega arith)))
+
+module _ (name : ℕ → List ℕ) (kids : ℕ → ℕ) (n lv c k u l h : ℕ) (t : List (List ℕ)) where
+  nothing-in : walk kids n lv c k ≡ nothing k → MarkedIn name (walk kids n lv c k) k u l h t t k
+  nothing-in e = record { marked = nothing-marked name _ k u l h _ _ _ e; within = within-same 2 5 t }
+
+  mark-none : c ≡ 0 → MarkedIn name (walk kids n lv c k) k u l h t t k
+  mark-none e = nothing-in (walk-none kids n lv c k e)
+
+  pub mark-deep : lv ≡ 0 → MarkedIn name (walk kids n lv c k) k u l h t t k
+  mark-deep e = nothing-in (walk-deep kids n lv c k e)
+
+  mark-past : n ≤ k → MarkedIn name (walk kids n lv c k) k u l h t t k
+  mark-past e = nothing-in (walk-past kids n lv c k e)
+
+  mark-turn : (m own h₁ h₂ x j r : ℕ) (t₁ t₂ : List (List ℕ)) → (lv ≡ 0 → ⊥) → (c ≡ 0 → ⊥) → k < n → m ≡ kids k → own ≡ l + length (name k) → h₁ ≡ hash-on h (name k) → h₂ ≡ mix h₁ 46 → x ≡ tag h₁
+      → MarkedIn name (walk kids n (lv - 1) m (k + 1)) (k + 1) (k + 1) (own + 1) h₂ (third t k u own x) t₁ j
+      → MarkedIn name (walk kids n lv (c - 1) j) j u l h t₁ t₂ r → MarkedIn name (walk kids n lv c k) k u l h t t₂ r
+  mark-turn m own h₁ h₂ x j r t₁ t₂ e f q em eo eh eh₂ ex w v =
+      record {
+        marked = joined-marked name (walk kids n lv c k) (walk kids n (lv - 1) m (suc k)) (walk kids n lv (c - 1) j) k u l h own h₁ j r _ _ _ _ _ _ _ _ _
+            (rw (← (w .marked .next), add-one k) at (walk-in kids n lv c k m e f q em)) eo eh (rw (add-one k) at (w .marked .next ∙ filled kids n (lv - 1) m (k + 1) (omega arith) .count))
+            (rw (third-ups t k u own x, third-lens t k u own x, third-tags t k u own x, ex, eh₂, add-one k) at (w .marked)) (v .marked);
+        within = within-both 2 5 t _ t₂ (third-within t k u own x) (within-both 2 5 _ t₁ t₂ (w .within) (v .within));
+      }
+
+-- the next slot is within the list
+mark-room : (name : ℕ → List ℕ) (kids : ℕ → ℕ) (n lv c k u l h r : ℕ) (t t′ : List (List ℕ)) → MarkedIn name (walk kids n lv c k) k u l h t t′ r → k ≤ n → r ≤ n
+mark-room name kids n lv c k u l h r t t′ w q = let f = filled kids n lv c k q in omega (arith, f .most, w .marked .next)
 
 -- As a loop over the siblings: whatever marks the rest marks the whole.
-pub record Onward (name : ℕ → List ℕ) (kids : ℕ → ℕ) (n lv c k u l h : ℕ) (us ls hs : List ℕ) (c′ k′ : ℕ) (us′ ls′ hs′ : List ℕ) : Type 0 where
-  pub within : k′ ≤ n
-  pub go : (r : ℕ) (us₂ ls₂ hs₂ : List ℕ) → Marked name (walk kids n lv c′ k′) k′ u l h us′ ls′ hs′ us₂ ls₂ hs₂ r → Marked name (walk kids n lv c k) k u l h us ls hs us₂ ls₂ hs₂ r
+pub record Onward (name : ℕ → List ℕ) (kids : ℕ → ℕ) (n lv c k u l h : ℕ) (old : List (List ℕ)) (c′ k′ : ℕ) (t : List (List ℕ)) : Type 0 where
+  pub small : k′ ≤ n
+  pub go : (r : ℕ) (t₂ : List (List ℕ)) → MarkedIn name (walk kids n lv c′ k′) k′ u l h t t₂ r → MarkedIn name (walk kids n lv c k) k u l h old t₂ r
 
-pub onward-starts : (name : ℕ → List ℕ) (kids : ℕ → ℕ) (n lv c k u l h : ℕ) (us ls hs : List ℕ) → k ≤ n → Onward name kids n lv c k u l h us ls hs c k us ls hs
-onward-starts name kids n lv c k u l h us ls hs q = record { within = q; go = λ r us₂ ls₂ hs₂ m. m }
+pub onward-starts : (name : ℕ → List ℕ) (kids : ℕ → ℕ) (n lv c k u l h : ℕ) (t : List (List ℕ)) → k ≤ n → Onward name kids n lv c k u l h t c k t
+onward-starts name kids n lv c k u l h t q = record { small = q; go = λ r t₂ m. m }
 
-module _ (name : ℕ → List ℕ) (kids : ℕ → ℕ) (n lv c k u l h : ℕ) (us ls hs : List ℕ) (c′ k′ : ℕ) (us′ ls′ hs′ : List ℕ) (on : Onward name kids n lv c k u l h us ls hs c′ k′ us′ ls′ hs′) where
-  pub onward-past : n ≤ k′ → Marked name (walk kids n lv c k) k u l h us ls hs us′ ls′ hs′ k′
-  onward-past e = on .go k′ us′ ls′ hs′ (mark-past name kids n lv c′ k′ u l h us′ ls′ hs′ e)
+module _ (name : ℕ → List ℕ) (kids : ℕ → ℕ) (n lv c k u l h : ℕ) (old : List (List ℕ)) (c′ k′ : ℕ) (t : List (List ℕ)) (on : Onward name kids n lv c k u l h old c′ k′ t) where
+  pub onward-past : n ≤ k′ → MarkedIn name (walk kids n lv c k) k u l h old t k′
+  onward-past e = on .go k′ t (mark-past name kids n lv c′ k′ u l h t e)
 
-  pub onward-done : c′ ≤ 0 → Marked name (walk kids n lv c k) k u l h us ls hs us′ ls′ hs′ k′
-  onward-done e = on .go k′ us′ ls′ hs′ (mark-none name kids n lv c′ k′ u l h us′ ls′ hs′ (omega arith))
+  pub onward-done : c′ ≤ 0 → MarkedIn name (walk kids n lv c k) k u l h old t k′
+  onward-done e = on .go k′ t (mark-none name kids n lv c′ k′ u l h t (omega arith))
 
-  pub onward-goes : (m x h₁ h₂ j : ℕ) (us₁ ls₁ hs₁ : List ℕ) → (lv ≡ 0 → ⊥) → 0 < c′ → k′ < n → m ≡ kids k′ → x ≡ length (name k′) → h₁ ≡ hash-on h (name k′) → h₂ ≡ mix h₁ 46
-      → Marked name (walk kids n (lv - 1) m (k′ + 1)) (k′ + 1) (k′ + 1) (l + x + 1) h₂ (set us′ k′ u) (set ls′ k′ (l + x)) (set hs′ k′ h₁) us₁ ls₁ hs₁ j
-      → Onward name kids n lv c k u l h us ls hs (c′ - 1) j us₁ ls₁ hs₁
-  onward-goes m x h₁ h₂ j us₁ ls₁ hs₁ e f q em ex eh eh₂ w =
+  pub onward-goes : (m x h₁ h₂ tg j : ℕ) (t₁ : List (List ℕ)) → (lv ≡ 0 → ⊥) → 0 < c′ → k′ < n → m ≡ kids k′ → x ≡ length (name k′) → h₁ ≡ hash-on h (name k′) → h₂ ≡ mix h₁ 46 → tg ≡ tag h₁
+      → MarkedIn name (walk kids n (lv - 1) m (k′ + 1)) (k′ + 1) (k′ + 1) (l + x + 1) h₂ (third t k′ u (l + x) tg) t₁ j
+      → Onward name kids n lv c k u l h old (c′ - 1) j t₁
+  onward-goes m x h₁ h₂ tg j t₁ e f q em ex eh eh₂ et w =
       record {
-        within = mark-room name kids n (lv - 1) m (k′ + 1) (k′ + 1) (l + x + 1) h₂ (set us′ k′ u) (set ls′ k′ (l + x)) (set hs′ k′ h₁) j us₁ ls₁ hs₁ w (omega arith);
-        go = λ r us₂ ls₂ hs₂ v. on .go r us₂ ls₂ hs₂ (mark-turn name kids n lv c′ k′ u l h us′ ls′ hs′ m (l + x) h₁ h₂ j r us₁ ls₁ hs₁ us₂ ls₂ hs₂ e (λ z. omega arith) q em (ap (λ z. l + z) ex) eh eh₂ w v);
+        small = mark-room name kids n (lv - 1) m (k′ + 1) (k′ + 1) (l + x + 1) h₂ j _ t₁ w (omega arith);
+        go = λ r t₂ v. on .go r t₂ (mark-turn name kids n lv c′ k′ u l h t m (l + x) h₁ h₂ tg j r t₁ t₂ e (λ z. omega arith) q em (ap (λ z. l + z) ex) eh eh₂ et w v);
       }
+
+  -- Inside a leaf there is nothing to mark.
+  pub onward-leaf : (x h₁ tg : ℕ) → (lv ≡ 0 → ⊥) → 0 < c′ → k′ < n → kids k′ ≡ 0 → x ≡ length (name k′) → h₁ ≡ hash-on h (name k′) → tg ≡ tag h₁
+      → Onward name kids n lv c k u l h old (c′ - 1) (k′ + 1) (third t k′ u (l + x) tg)
+  onward-leaf x h₁ tg e f q none ex eh et =
+      onward-goes _ x h₁ _ tg (k′ + 1) _ e f q refl ex eh refl et (mark-none name kids n (lv - 1) _ (k′ + 1) (k′ + 1) (l + x + 1) _ _ none)
 
 pub level-falls : (lv t : ℕ) → lv ≡ t → (lv ≡ 0 → ⊥) → lv - 1 < t
 level-falls lv t e h = omega arith

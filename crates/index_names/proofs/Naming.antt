@@ -5,35 +5,36 @@ use Prim.Native.Nat.{ℕ, _<_}
 use native.Mathlib.Omega.{arith}
 use lib.ListN.{length, getD}
 use Rattle.paper.specs.declared.Kind.{Kind}
-use Rattle.plan.specs.Plan.{Lent, source-field, Sits}
+use Rattle.record.specs.Trees.{Trees}
+use Rattle.plan.specs.Plan.{source-field, Sits}
 use Rattle.plan.specs.Sources.{source-kind, source-len, In}
 use Rattle.plan.proofs.Sourcing.{sits-in, kind-source, len-source}
 use Rattle.index_names.specs.Hash.{hash-on}
 use Rattle.index_names.specs.Told.{name-in, kind-in, Sources}
 
-module _ (l : Lent) (xs : List ℕ) (m k : ℕ) (s : Sources l xs m) (q : k < m) where
+module _ (l : Trees) (xs : List ℕ) (m k : ℕ) (s : Sources l xs m) (q : k < m) where
   pub source-small : k < 1024
   source-small = let z = s .few in omega arith
 
   pub source-sits : Sits l (getD xs k 0)
   source-sits = s .sits k q
 
-  pub source-in : In (l .base) (l .added) (getD xs k 0)
+  pub source-in : In (l .records) (l .added-records) (getD xs k 0)
   source-in = sits-in l (getD xs k 0) (s .sits k q)
 
-  pub len-is : (r : ℕ) → r ≡ source-len (l .base) (l .added) (getD xs k 0) → r ≡ length (name-in l xs k)
+  pub len-is : (r : ℕ) → r ≡ source-len (l .records) (l .added-records) (getD xs k 0) → r ≡ length (name-in l xs k)
   unfolding name-in
   len-is r e = e ∙ len-source l (getD xs k 0) (s .sits k q)
 
-pub name-is : (l : Lent) (xs : List ℕ) (k : ℕ) (r : List ℕ) → r ≡ source-field l (getD xs k 0) .name → r ≡ name-in l xs k
+pub name-is : (l : Trees) (xs : List ℕ) (k : ℕ) (r : List ℕ) → r ≡ source-field l (getD xs k 0) .name → r ≡ name-in l xs k
 unfolding name-in
 name-is l xs k r e = e
 
-pub kind-is : (l : Lent) (xs : List ℕ) (k : ℕ) (r : Kind) → r ≡ source-kind (l .base) (l .added) (getD xs k 0) → r ≡ kind-in l xs k
+pub kind-is : (l : Trees) (xs : List ℕ) (k : ℕ) (r : Kind) → r ≡ source-kind (l .records) (l .added-records) (getD xs k 0) → r ≡ kind-in l xs k
 unfolding kind-in
 kind-is l xs k r e = e ∙ kind-source l (getD xs k 0)
 
-pub hash-is : (l : Lent) (xs : List ℕ) (k seed r : ℕ) (x : List ℕ) → x ≡ name-in l xs k → r ≡ hash-on seed x → r ≡ hash-on seed (name-in l xs k)
+pub hash-is : (l : Trees) (xs : List ℕ) (k seed r : ℕ) (x : List ℕ) → x ≡ name-in l xs k → r ≡ hash-on seed x → r ≡ hash-on seed (name-in l xs k)
 hash-is l xs k seed r x e h = h ∙ ap (hash-on seed) e
 
 pub ruleset sourced = (source-small, source-sits, source-in, len-is, name-is, kind-is, hash-is)

@@ -13,11 +13,11 @@ use Rattle.paper.specs.Forest.{Forest, empty, node, size}
 use Rattle.paper.specs.Rows.{dotted}
 use Rattle.laws.proofs.Runs.{getD-sets}
 use Rattle.tree.proofs.Filled.{lt-or-le}
-use Rattle.plan.specs.Plan.{Lent}
+use Rattle.record.specs.Trees.{Trees}
 use Rattle.index_names.specs.Walk.{walk, trees-of}
-use Rattle.index_names.specs.Hash.{hash-on, hash-of}
+use Rattle.index_names.specs.Hash.{hash-on, tag, tag-of}
 use Rattle.index_names.specs.Full.{fulls, ups, under, climbed, full-at}
-use Rattle.index_names.specs.Told.{name-in, Sources, Marked, Spelt, Hashed}
+use Rattle.index_names.specs.Told.{name-in, Sources, Marked, Spelt, Tagged}
 use Rattle.index_names.proofs.Walks.{Numbered, all-numbered, all-there}
 use Rattle.index_names.proofs.Marking.{length-fulls, length-ups}
 
@@ -179,7 +179,7 @@ module _ (name : ℕ → List ℕ) (kids : ℕ → ℕ) (n : ℕ) where
 getD-all : (vs l : List ℕ) (k : ℕ) → k < length vs → length vs ≤ length l → getD (sets l 0 vs) k 0 ≡ getD vs k 0
 getD-all vs l k q m = let z : 0 + k ≡ k = omega arith in rw z at (getD-sets vs l 0 k 0 (omega arith) q)
 
-module _ (l : Lent) (xs : List ℕ) (kids : ℕ → ℕ) (n r : ℕ) (us ls hs us′ ls′ hs′ : List ℕ) (eu : length us ≡ 1024) (el : length ls ≡ 1024) (eh : length hs ≡ 1024) (S : Sources l xs n) (m : Marked (name-in l xs) (walk kids n 16 n 0) 0 0 0 0 us ls hs us′ ls′ hs′ r) where
+module _ (l : Trees) (xs : List ℕ) (kids : ℕ → ℕ) (n r : ℕ) (us ls ts us′ ls′ ts′ : List ℕ) (eu : length us ≡ 1024) (el : length ls ≡ 1024) (et : length ts ≡ 1024) (S : Sources l xs n) (m : Marked (name-in l xs) (walk kids n 16 n 0) 0 0 0 0 us ls ts us′ ls′ ts′ r) where
   pub ups-told : (k : ℕ) → k < n → getD us′ k 0 ≡ getD (ups 0 (trees-of kids n)) k 0
   ups-told k q = rw (m .ups-set) (getD-all (ups 0 (trees-of kids n)) us k (omega (arith, length-ups 0 (trees-of kids n), all-there kids n)) (omega (arith, length-ups 0 (trees-of kids n), all-there kids n, S .few)))
 
@@ -196,6 +196,6 @@ module _ (l : Lent) (xs : List ℕ) (kids : ℕ → ℕ) (n r : ℕ) (us ls hs u
   pub names-told : Spelt l xs n us′ ls′
   names-told = record { sources = S; falls = ups-fall (name-in l xs) kids n us′ ups-told; len = told length ls ls′ el refl (m .lens-set [] refl) }
 
-  pub hashes-told : Hashed l xs n us′ hs′
-  unfolding hash-on
-  hashes-told = record { hash = told hash-of hs hs′ eh refl (m .hashes-set [] refl) }
+  pub tags-told : Tagged l xs n us′ ts′
+  unfolding hash-on tag
+  tags-told = record { tag = told tag-of ts ts′ et refl (m .tags-set [] refl) }

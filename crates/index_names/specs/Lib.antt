@@ -2,3 +2,4 @@ pub mod Walk
 pub mod Hash
 pub mod Full
 pub mod Told
+pub mod Table

@@ -7,38 +7,38 @@ use lib.ListN.{length, getD}
 use lib.Seq.{sets}
 use Rattle.paper.specs.declared.Kind.{Kind}
 use Rattle.paper.specs.Answer.{same, repeated}
-use Rattle.paper.specs.Bytes.{turned, from}
+use Rattle.paper.specs.Bytes.{from}
 use Rattle.paper.specs.Layout.{Part}
 use Rattle.record.specs.declared.Check.{Check}
 use Rattle.record.specs.declared.Check.the-variants.{Fine}
 use Rattle.record.specs.Says.{tested}
-use Rattle.plan.specs.Plan.{Lent, source-field, Sits}
+use Rattle.record.specs.Trees.{Trees}
+use Rattle.plan.specs.Plan.{source-field, Sits}
 use Rattle.index_ids.specs.Chain.{Chained, new-at}
-use Rattle.index_ids.specs.Ids.{bucket-of}
-use Rattle.index_names.specs.Hash.{hash-of}
+use Rattle.index_names.specs.Hash.{hash-of, tag-of, tag-bucket}
 use Rattle.index_names.specs.Full.{fulls, ups, full-at}
 
 -- The name of the planned record at a place, and its kind.
-unfoldable pub name-in : Lent → List ℕ → ℕ → List ℕ
+unfoldable pub name-in : Trees → List ℕ → ℕ → List ℕ
 name-in l xs k = source-field l (getD xs k 0) .name
 
-unfoldable pub kind-in : Lent → List ℕ → ℕ → Kind
+unfoldable pub kind-in : Trees → List ℕ → ℕ → Kind
 kind-in l xs k = source-field l (getD xs k 0) .kind
 
 -- m planned records whose sources are there.
-pub record Sources (l : Lent) (xs : List ℕ) (m : ℕ) : Type 0 where
+pub record Sources (l : Trees) (xs : List ℕ) (m : ℕ) : Type 0 where
   pub few : m ≤ 1024
   pub sits : (k : ℕ) → k < m → Sits l (getD xs k 0)
 
 -- What a walk over a row leaves, whatever stands before its names: `len` and `hash` are that prefix's.
-pub record Marked (name : ℕ → List ℕ) (p : Part) (slot up len hash : ℕ) (us ls hs us′ ls′ hs′ : List ℕ) (r : ℕ) : Type 0 where
+pub record Marked (name : ℕ → List ℕ) (p : Part) (slot up len hash : ℕ) (us ls ts us′ ls′ ts′ : List ℕ) (r : ℕ) : Type 0 where
   pub next : r ≡ p .next
   pub ups-set : us′ ≡ sets us slot (ups up (p .trees))
   pub lens-set : (pre : List ℕ) → len ≡ length pre → ls′ ≡ sets ls slot (map length (fulls name pre (p .trees)))
-  pub hashes-set : (pre : List ℕ) → hash ≡ hash-of pre → hs′ ≡ sets hs slot (map hash-of (fulls name pre (p .trees)))
+  pub tags-set : (pre : List ℕ) → hash ≡ hash-of pre → ts′ ≡ sets ts slot (map tag-of (fulls name pre (p .trees)))
 
--- The places above, and the lengths and hashes of the full names.
-pub record Spelt (l : Lent) (xs : List ℕ) (m : ℕ) (us ls : List ℕ) : Type 0 where
+-- The places above, and the lengths and tags of the full names.
+pub record Spelt (l : Trees) (xs : List ℕ) (m : ℕ) (us ls : List ℕ) : Type 0 where
   pub sources : Sources l xs m
   pub falls : (k : ℕ) → k < m → getD us k 0 ≤ k
   pub len : (k : ℕ) → k < m → getD ls k 0 ≡ length (full-at (name-in l xs) us k)
@@ -54,27 +54,27 @@ pub record Above (name : ℕ → List ℕ) (us : List ℕ) (m slot pos r : ℕ) 
   pub owns : Owns name us m r pos
   pub prefix : (j : ℕ) → j ≤ pos → getD (full-at name us slot) j 0 ≡ getD (full-at name us r) j 0
 
-pub record Hashed (l : Lent) (xs : List ℕ) (m : ℕ) (us hs : List ℕ) : Type 0 where
-  pub hash : (k : ℕ) → k < m → getD hs k 0 ≡ hash-of (full-at (name-in l xs) us k)
+pub record Tagged (l : Trees) (xs : List ℕ) (m : ℕ) (us ts : List ℕ) : Type 0 where
+  pub tag : (k : ℕ) → k < m → getD ts k 0 ≡ tag-of (full-at (name-in l xs) us k)
 
-abbrev pub name-bucket : Lent → List ℕ → List ℕ → ℕ → ℕ
-name-bucket l xs us k = bucket-of (turned (hash-of (full-at (name-in l xs) us k)))
+abbrev pub name-bucket : Trees → List ℕ → List ℕ → ℕ → ℕ
+name-bucket l xs us k = tag-bucket (tag-of (full-at (name-in l xs) us k))
 
-abbrev pub same-name : Lent → List ℕ → List ℕ → ℕ → ℕ → Bool
+abbrev pub same-name : Trees → List ℕ → List ℕ → ℕ → ℕ → Bool
 same-name l xs us k j = same (full-at (name-in l xs) us k) (full-at (name-in l xs) us j)
 
-abbrev pub new-name : Lent → List ℕ → List ℕ → ℕ → Bool
+abbrev pub new-name : Trees → List ℕ → List ℕ → ℕ → Bool
 new-name l xs us k = new-at (same-name l xs us) k
 
 -- Whether the full name of a slot is x.
-abbrev pub is-full : Lent → List ℕ → List ℕ → List ℕ → ℕ → Bool
+abbrev pub is-full : Trees → List ℕ → List ℕ → List ℕ → ℕ → Bool
 is-full l xs us x j = same (full-at (name-in l xs) us j) x
 
 -- refusal 8: a full name equals an earlier one
-unfoldable pub rule-8 : ℕ → Lent → List ℕ → List ℕ → ℕ → Check
+unfoldable pub rule-8 : ℕ → Trees → List ℕ → List ℕ → ℕ → Check
 rule-8 list l xs us m = tested 8 list (repeated same [] 0 (from (full-at (name-in l xs) us) 0 m))
 
 -- The answer to 8, and the index that is left where there is no fault.
-pub record Unequal (l : Lent) (xs us : List ℕ) (m list : ℕ) (r : Check) (heads next : List ℕ) : Type 0 where
+pub record Unequal (l : Trees) (xs us : List ℕ) (m list : ℕ) (r : Check) (heads next : List ℕ) : Type 0 where
   pub answer : r ≡ rule-8 list l xs us m
   pub index : r ≡ Fine → Chained (name-bucket l xs us) heads next m

@@ -1,5 +1,5 @@
 -- A name against what is left of the asked name: it is that, or it and a dot begin it. `search fitting`, `search small`.
-use mathlib.Core.Path.{_≡_, refl, sym, _∙_}
+use mathlib.Core.Path.{_≡_, refl, sym, ap, _∙_}
 use mathlib.Core.Bool.{Bool, true, false, _&&_, cond}
 use mathlib.Core.List.{List, [], _∷_, _++_}
 use mathlib.Core.Option.{none, some}
@@ -10,11 +10,15 @@ use borrow.Author.Tests.{eq-eqb, ne-eqb, lt-ltb, le-ltb}
 use lib.Dec.{eqb}
 use lib.ListN.{length, getD, drop, length-drop, drop-of-length-le}
 use lib.Seq.{drop-cons, drop-drop}
+use Rattle.paper.specs.declared.Kind.{Kind}
+use Rattle.paper.specs.declared.Role.{Role}
 use Rattle.paper.specs.Answer.{same, or-else}
+use Rattle.paper.specs.Field.{first}
+use Rattle.paper.specs.Rows.{skipped}
 use Rattle.laws.proofs.Finding.{eqb-flip}
 use Rattle.index_ids.specs.Chain.{pick}
 use Rattle.index_short_names.specs.declared.Sighting.the-variants.{Found, Past}
-use Rattle.index_short_names.specs.Seek.{strip, left-at, fits, inside, own, seen, outcome}
+use Rattle.index_short_names.specs.Seek.{strip, left-at, fits, inside, own, Turned, seen, outcome}
 
 -- ---- the loop: i bytes of the name and of x from pos on are equal
 
@@ -116,13 +120,22 @@ module _ (nm x : List ℕ) (pos f : ℕ) (l : pos ≤ length x) (ef : f ≡ fits
       rw (e, left-in x pos l, under-is nm (drop pos x), ne-eqb (fits nm (drop pos x)) 2 (λ z. q (ef ∙ z)))
       (left-out x (length x + 1) (omega arith))
 
-  pub own-is : (k : ℕ) → seen (pick (eqb f 1) (k + 1) 0) ≡ own (left-at x pos) nm k
+  own-is : (k : ℕ) → seen (pick (eqb f 1) (k + 1) 0) ≡ own (left-at x pos) nm k
   unfolding seen
   own-is k = rw (left-in x pos l, whole-is nm (drop pos x), ← ef, add-one k) (go (eqb f 1))
     where
       go : (t : Bool) → seen (pick t (suc k) 0) ≡ cond t (some k) none
       go true = refl
       go false = refl
+
+  pub turned : (name : ℕ → List ℕ) (kind : ℕ → Kind) (role rl : Role) (k deep me : ℕ) (kd : Kind) (skip : Bool) → kd ≡ kind k → nm ≡ name k → skip ≡ skipped role kd → left-at x deep ≡ inside skip (left-at x pos) nm → rl ≡ first kd → me ≡ pick (eqb f 1) (k + 1) 0
+      → Turned name kind role x pos k (record { role = rl; pos = deep; me = me })
+  turned name kind role rl k deep me kd skip ekd enm es ed er em =
+      record {
+        members = er ∙ ap first ekd;
+        left = ed ∙ rw (es, ekd, enm);
+        mine = ap seen em ∙ own-is k ∙ ap (λ z. own (left-at x pos) z k) enm;
+      }
 
 -- ---- small things
 

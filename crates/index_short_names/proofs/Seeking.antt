@@ -3,12 +3,11 @@ use mathlib.Core.Path.{_≡_, refl, sym, ap, _∙_}
 use mathlib.Core.Bool.{Bool, true, false, not, _&&_, cond}
 use mathlib.Core.List.{List}
 use mathlib.Core.Option.{Option, none, some}
-use Prim.Native.Nat.{ℕ, _+_, _-_, _<_, _≤_}
-use native.Mathlib.Numerals.{add-one}
+use Prim.Native.Nat.{ℕ, zero, suc, _+_, _-_, _<_, _≤_}
 use native.Mathlib.Omega.{arith}
 use borrow.Author.Tests.{ltb-true, ltb-false}
-use lib.Dec.{ltb, eqb}
-use lib.ListN.{length, drop}
+use lib.Dec.{ltb}
+use lib.ListN.{length}
 use Rattle.paper.specs.declared.Kind.{Kind}
 use Rattle.paper.specs.declared.Role.{Role}
 use Rattle.paper.specs.Answer.{or-else}
@@ -16,15 +15,15 @@ use Rattle.paper.specs.Forest.{Forest, empty, node}
 use Rattle.paper.specs.Field.{first, after}
 use Rattle.paper.specs.Layout.{Part, nothing, before}
 use Rattle.paper.specs.Rows.{skipped, late}
-use Rattle.laws.proofs.Basics.{or-else-none}
-use Rattle.index_ids.specs.Chain.{pick}
+use Rattle.laws.proofs.Basics.{none≢some, or-else-none}
 use Rattle.index_names.specs.Walk.{walk}
 use Rattle.index_names.proofs.Walks.{walk-none, walk-deep, walk-past, walk-in}
 use Rattle.record.specs.declared.Slot.{Slot}
+use Rattle.index_short_names.specs.declared.Turn.{Turn}
 use Rattle.index_short_names.specs.declared.Sighting.{Sighting}
 use Rattle.index_short_names.specs.declared.Sighting.the-variants.{Found, Past}
-use Rattle.index_short_names.specs.Seek.{left-at, inside, fits, own, seek-in, seen, outcome, sighting}
-use Rattle.index_short_names.proofs.Fitting.{own-is, left-out}
+use Rattle.index_short_names.specs.Seek.{left-is, left-at, inside, own, Turned, seek-in, seen, outcome, sighting}
+use Rattle.index_short_names.proofs.Fitting.{left-out}
 
 pub past-is : (o : Option ℕ) (m : ℕ) (j : Slot) → Past j ≡ outcome o m → (o ≡ none) × (j .0 ≡ m)
 unfolding outcome
@@ -92,8 +91,8 @@ module _ (name : ℕ → List ℕ) (kind : ℕ → Kind) (kids : ℕ → ℕ) (x
     pub leave-done : c ≤ 0 → r ≡ W
     leave-done l = nothing-sighted name kind role (left-at x pos) (seen wait) (walk kids n lv c k) k r (walk-none kids n lv c k (omega arith)) er ∙ sym eW
 
-  module _ (m : ℕ) (kd : Kind) (f deep : ℕ) (rl : Role) (me : ℕ) (nm : List ℕ) (sk : Bool) (w : Sighting) (el : lv ≡ 0 → ⊥) (ec : 0 < c) (l : k < n) (pin : pos ≤ length x) (em : m ≡ kids k) (ekd : kd ≡ kind k) (enm : nm ≡ name k) (ef : f ≡ fits nm (drop pos x)) (esk : sk ≡ skipped role kd) (ed : left-at x deep ≡ inside sk (left-at x pos) nm) (erl : rl ≡ first kd) (eme : me ≡ pick (eqb f 1) (k + 1) 0)
-      (ew : w ≡ sighting name kind rl (left-at x deep) (seen 0) (walk kids n (lv - 1) m (k + 1))) where
+  module _ (m : ℕ) (t : Turn) (w : Sighting) (el : lv ≡ 0 → ⊥) (ec : 0 < c) (l : k < n) (em : m ≡ kids k) (et : Turned name kind role x pos k t)
+      (ew : w ≡ sighting name kind (t .role) (left-at x (t .pos)) (seen 0) (walk kids n (lv - 1) m (k + 1))) where
     abbrev inside-part : Part
     inside-part = walk kids n (lv - 1) m (k + 1)
 
@@ -103,11 +102,8 @@ module _ (name : ℕ → List ℕ) (kind : ℕ → Kind) (kids : ℕ → ℕ) (x
     whole : walk kids n lv c k ≡ before k inside-part rest
     whole = walk-in kids n lv c k m el (λ z. omega arith) l em
 
-    inner-is : inner name kind role (left-at x pos) (seen wait) k (inside-part .trees) (rest .trees) ≡ seek-in name kind rl (left-at x deep) none (inside-part .trees)
-    inner-is = rw (erl, ed, esk, ekd, enm)
-
-    mine : seen me ≡ own (left-at x pos) (name k) k
-    mine = ap seen eme ∙ own-is nm x pos f pin ef k ∙ ap (λ z. own (left-at x pos) z k) enm
+    inner-is : inner name kind role (left-at x pos) (seen wait) k (inside-part .trees) (rest .trees) ≡ seek-in name kind (t .role) (left-at x (t .pos)) none (inside-part .trees)
+    inner-is = rw (et .members, et .left)
 
     passed : (j : Slot) → w ≡ Past j → (inner name kind role (left-at x pos) (seen wait) k (inside-part .trees) (rest .trees) ≡ none) × (j .0 ≡ inside-part .next)
     unfolding sighting seen outcome
@@ -119,47 +115,50 @@ module _ (name : ℕ → List ℕ) (kind : ℕ → Kind) (kids : ℕ → ℕ) (x
         let z = found-is _ _ j (sym e ∙ ew) in
         rw (whole, node-found name kind role (left-at x pos) (seen wait) k (inside-part .trees) (rest .trees) (j .0) (inner-is ∙ z))
 
-    seek-waits : (j : Slot) (e : ℕ) (nr : Role) → w ≡ Past j → late role ≡ true → nr ≡ after role → seen e ≡ or-else (seen wait) (seen me) → sighting name kind nr (left-at x pos) (seen e) (walk kids n lv (c - 1) (j .0)) ≡ sighting name kind role (left-at x pos) (seen wait) (walk kids n lv c k)
+    seek-waits : (j : Slot) (e : ℕ) (nr : Role) → w ≡ Past j → late role ≡ true → nr ≡ after role → seen e ≡ or-else (seen wait) (seen (t .me)) → sighting name kind nr (left-at x pos) (seen e) (walk kids n lv (c - 1) (j .0)) ≡ sighting name kind role (left-at x pos) (seen wait) (walk kids n lv c k)
     unfolding sighting seen outcome
-    seek-waits j e nr q t en ee =
+    seek-waits j e nr q lt en ee =
         let z = passed j q in
-        rw (z .1, en, ee, mine) (sym (rw (whole, node-waits name kind role (left-at x pos) (seen wait) k (inside-part .trees) (rest .trees) (z .0) t)))
+        rw (z .1, en, ee, et .mine) (sym (rw (whole, node-waits name kind role (left-at x pos) (seen wait) k (inside-part .trees) (rest .trees) (z .0) lt)))
 
-    seek-own : (j : Slot) → w ≡ Past j → late role ≡ false → 0 < me → Found (record { 0 = k }) ≡ sighting name kind role (left-at x pos) (seen wait) (walk kids n lv c k)
+    seek-own : (j : Slot) → w ≡ Past j → late role ≡ false → 0 < t .me → Found (record { 0 = k }) ≡ sighting name kind role (left-at x pos) (seen wait) (walk kids n lv c k)
     unfolding sighting seen outcome
-    seek-own j q t p =
+    seek-own j q lt p =
         let z = passed j q in
-        rw (whole, node-own name kind role (left-at x pos) (seen wait) k (inside-part .trees) (rest .trees) (z .0) t (sym mine ∙ yes))
+        rw (whole, node-own name kind role (left-at x pos) (seen wait) k (inside-part .trees) (rest .trees) (z .0) lt (sym (et .mine) ∙ yes))
       where
-        go : (t : Bool) → me ≡ pick t (k + 1) 0 → seen me ≡ some k
-        go true e = ap seen (e ∙ add-one k)
-        go false e = absurd (omega arith)
+        go : (v : ℕ) (b : Bool) → 0 < v → seen v ≡ cond b (some k) none → seen v ≡ some k
+        go zero b q e = absurd (omega arith)
+        go (suc v) true q e = e
+        go (suc v) false q e = absurd (none≢some (sym e))
 
-        yes : seen me ≡ some k
-        yes = go (eqb f 1) eme
+        yes : seen (t .me) ≡ some k
+        yes = go (t .me) (left-is (left-at x pos) (name k)) p (et .mine)
 
-    seek-on : (j : Slot) (nr : Role) → w ≡ Past j → late role ≡ false → me ≤ 0 → nr ≡ after role → sighting name kind nr (left-at x pos) (seen wait) (walk kids n lv (c - 1) (j .0)) ≡ sighting name kind role (left-at x pos) (seen wait) (walk kids n lv c k)
+    seek-on : (j : Slot) (nr : Role) → w ≡ Past j → late role ≡ false → t .me ≤ 0 → nr ≡ after role → sighting name kind nr (left-at x pos) (seen wait) (walk kids n lv (c - 1) (j .0)) ≡ sighting name kind role (left-at x pos) (seen wait) (walk kids n lv c k)
     unfolding sighting seen outcome
-    seek-on j nr q t p en =
+    seek-on j nr q lt p en =
         let z = passed j q in
-        let me0 : me ≡ 0 = omega arith in
-        rw (z .1, en) (sym (rw (whole, node-on name kind role (left-at x pos) (seen wait) k (inside-part .trees) (rest .trees) (z .0) t (sym mine ∙ ap seen me0))))
+        let me0 : t .me ≡ 0 = omega arith in
+        rw (z .1, en) (sym (rw (whole, node-on name kind role (left-at x pos) (seen wait) k (inside-part .trees) (rest .trees) (z .0) lt (sym (et .mine) ∙ ap seen me0))))
 
     -- as the loop over the siblings asks them; W is the whole answer, b whether the record waits
     module _ (W : Sighting) (eW : W ≡ sighting name kind role (left-at x pos) (seen wait) (walk kids n lv c k)) where
       pub turn-found : (j : Slot) → w ≡ Found j → Found j ≡ W
       turn-found j e = seek-found j e ∙ sym eW
 
-      pub turn-own : (j : Slot) (b t : Bool) → w ≡ Past j → b ≡ late role → t ≡ (not b && ltb 0 me) → t ≡ true → Found (record { 0 = k }) ≡ W
-      turn-own j b t e eb et q = go b eb (sym et ∙ q)
+      pub turn-own : (j : Slot) (b y : Bool) → w ≡ Past j → b ≡ late role → y ≡ (not b && ltb 0 (t .me)) → y ≡ true → Found (record { 0 = k }) ≡ W
+      turn-own j b y e eb ey q = go b eb (sym ey ∙ q)
         where
-          go : (b : Bool) → b ≡ late role → (not b && ltb 0 me) ≡ true → Found (record { 0 = k }) ≡ W
+          go : (b : Bool) → b ≡ late role → (not b && ltb 0 (t .me)) ≡ true → Found (record { 0 = k }) ≡ W
           go true f h = absurd (let z : _≡_ {A = ℕ} 0 1 = cc in omega arith)
-          go false f h = seek-own j e (sym f) (ltb-true 0 me h) ∙ sym eW
+          go false f h = seek-own j e (sym f) (ltb-true 0 (t .me) h) ∙ sym eW
 
-      pub turn-on : (j : Slot) (v : ℕ) (nr : Role) (b t : Bool) → w ≡ Past j → b ≡ late role → t ≡ (not b && ltb 0 me) → t ≡ false → seen v ≡ cond b (or-else (seen wait) (seen me)) (seen wait) → nr ≡ after role → W ≡ sighting name kind nr (left-at x pos) (seen v) (walk kids n lv (c - 1) (j .0))
-      turn-on j v nr b t e eb et q ev en = go b eb (sym et ∙ q) ev
+      pub turn-on : (j : Slot) (v : ℕ) (nr : Role) (b y : Bool) → w ≡ Past j → b ≡ late role → y ≡ (not b && ltb 0 (t .me)) → y ≡ false → seen v ≡ cond b (or-else (seen wait) (seen (t .me))) (seen wait) → nr ≡ after role → W ≡ sighting name kind nr (left-at x pos) (seen v) (walk kids n lv (c - 1) (j .0))
+      turn-on j v nr b y e eb ey q ev en = go b eb (sym ey ∙ q) ev
         where
-          go : (b : Bool) → b ≡ late role → (not b && ltb 0 me) ≡ false → seen v ≡ cond b (or-else (seen wait) (seen me)) (seen wait) → W ≡ sighting name kind nr (left-at x pos) (seen v) (walk kids n lv (c - 1) (j .0))
+          go : (b : Bool) → b ≡ late role → (not b && ltb 0 (t .me)) ≡ false → seen v ≡ cond b (or-else (seen wait) (seen (t .me))) (seen wait) → W ≡ sighting name kind nr (left-at x pos) (seen v) (walk kids n lv (c - 1) (j .0))
           go true f h y = eW ∙ sym (seek-waits j v nr e (sym f) en y)
-          go false f h y = eW ∙ sym (ap (λ o. sighting name kind nr (left-at x pos) o (walk kids n lv (c - 1) (j .0))) y ∙ seek-on j nr e (sym f) (ltb-false 0 me h) en)
+          go false f h y = eW ∙ sym (ap (λ o. sighting name kind nr (left-at x pos) o (walk kids n lv (c - 1) (j .0))) y ∙ seek-on j nr e (sym f) (ltb-false 0 (t .me) h) en)
+
+pub ruleset seeking = (seek-out, seek-deep, leave-past, leave-done)

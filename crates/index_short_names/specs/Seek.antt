@@ -1,5 +1,6 @@
 -- A walk that looks for a short name and carries what is left of it, over slots.
 use Prim.Native.Nat.{ℕ, zero, suc}
+use mathlib.Core.Path.{_≡_}
 use mathlib.Core.Bool.{Bool, false, cond}
 use mathlib.Core.List.{List, [], _∷_, _++_}
 use mathlib.Core.Option.{Option, none, some}
@@ -12,6 +13,7 @@ use Rattle.paper.specs.Forest.{Forest, empty, node}
 use Rattle.paper.specs.Field.{first, after}
 use Rattle.paper.specs.Layout.{Part}
 use Rattle.paper.specs.Rows.{skipped, late}
+use Rattle.index_short_names.specs.declared.Turn.{Turn}
 use Rattle.index_short_names.specs.declared.Sighting.{Sighting}
 use Rattle.index_short_names.specs.declared.Sighting.the-variants.{Found, Past}
 
@@ -47,17 +49,23 @@ inside skip left name = cond skip left (then-strip left (name ++ (46 ∷ [])))
 abbrev pub own : Option (List ℕ) → List ℕ → ℕ → Option ℕ
 own left name k = cond (left-is left name) (some k) none
 
+-- A place, one more than a slot or 0, as a found slot.
+unfoldable pub seen : ℕ → Option ℕ
+seen zero = none
+seen (suc k) = some k
+
+-- What is asked of the record at slot k.
+pub record Turned (name : ℕ → List ℕ) (kind : ℕ → Kind) (role : Role) (x : List ℕ) (pos k : ℕ) (t : Turn) : Type 0 where
+  pub members : t .role ≡ first (kind k)
+  pub left : left-at x (t .pos) ≡ inside (skipped role (kind k)) (left-at x pos) (name k)
+  pub mine : seen (t .me) ≡ own (left-at x pos) (name k) k
+
 -- The first entered slot whose short name is what is left, or what waits.
 unfoldable pub seek-in : (ℕ → List ℕ) → (ℕ → Kind) → Role → Option (List ℕ) → Option ℕ → Forest ℕ → Option ℕ
 seek-in name kind role left wait empty = wait
 seek-in name kind role left wait (node k m n) =
     or-else (seek-in name kind (first (kind k)) (inside (skipped role (kind k)) left (name k)) none m)
     (cond (late role) (seek-in name kind (after role) left (or-else wait (own left (name k) k)) n) (or-else (own left (name k) k) (seek-in name kind (after role) left wait n)))
-
--- A place, one more than a slot or 0, as a found slot.
-unfoldable pub seen : ℕ → Option ℕ
-seen zero = none
-seen (suc k) = some k
 
 unfoldable pub outcome : Option ℕ → ℕ → Sighting
 outcome none next = Past (record { 0 = next })

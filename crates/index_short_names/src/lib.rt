@@ -5,9 +5,13 @@ use paper::Role;
 use paper::first_role;
 use paper::is_struct;
 use paper::next_role;
+use plan::MEMBERS;
+use plan::PlanRows;
+use plan::SOURCES;
 use plan::planned_kind;
+use record::Siblings;
 use record::Slot;
-use record::count_of;
+use record::Trees;
 ghost use mathlib.Core.Path.{_≡_};
 ghost use mathlib.Core.Bool.{not, _&&_, cond};
 ghost use Prim.Native.Nat.{_+_, _≤_, _<_};
@@ -15,11 +19,10 @@ ghost use lib.Dec.{eqb, ltb};
 ghost use lib.ListN.{length, drop};
 ghost use Rattle.paper.specs.Answer.{or-else};
 ghost use Rattle.paper.specs.Rows.{skipped, late};
-ghost use Rattle.plan.specs.Plan.{lent, kids-in};
+ghost use Rattle.record.specs.Trees.{trees-in};
 ghost use Rattle.index_ids.specs.Chain.{pick};
-ghost use Rattle.index_names.specs.Walk.{walk};
-ghost use Rattle.index_names.specs.Told.{name-in, kind-in, Sources};
-ghost use Rattle.index_short_names.specs.Seek.{left-at, fits, inside, seen, outcome, sighting};
+ghost use Rattle.index_names.specs.Table.{names-in, kinds-in, walk-in, SourcesIn};
+ghost use Rattle.index_short_names.specs.Seek.{left-at, fits, inside, Turned, seen, outcome, sighting};
 
 // A slot that was found, or the slot behind a row in which there is none.
 pub enum Sighting {
@@ -27,22 +30,35 @@ pub enum Sighting {
     Past(Slot),
 }
 
+// What a search meets at a record: its members' role, where to look on inside it, and its own place if its name is what is left.
+struct Turn {
+    role: Role,
+    pos: usize,
+    me: usize,
+}
+
 // Where a row ends. A loop over the siblings, so the stack holds a frame for each level only.
-pub fn row_next(kids: &[u16; 1024], m: usize, slot: usize, count: u32, levels: usize) -> usize
+pub fn row_next(plan: &PlanRows, m: usize, row: Siblings) -> usize
     requires { ⌜ m ≤ 1024 ⌝ }
-    ensures { λ r. ⌜ r ≡ walk (kids-in (now (kids .entry))) m levels count slot .next ⌝ }
+    ensures { λ r. ⌜ r
+        ≡ walk-in (now (plan .entry)) m (row .levels) (row .count) (row .slot) .next ⌝ }
 {
+    let levels = row.levels;
     if levels == 0 {
-        return slot;
+        return row.slot;
     }
-    let mut at = slot;
-    let mut left = count;
+    let mut at = row.slot;
+    let mut left = row.count;
     while 0 < left {
         if m <= at {
             return at;
         }
-        let inner = count_of(kids[at]);
-        at = row_next(kids, m, at + 1, inner, levels - 1);
+        let inside = Siblings {
+            slot: at + 1,
+            count: plan[MEMBERS][at],
+            levels: levels - 1,
+        };
+        at = row_next(plan, m, inside);
         left -= 1;
     }
     at
@@ -72,19 +88,11 @@ fn skips(role: Role, kind: Kind) -> bool
     }
 }
 
-fn kind_of<'a>(
-    pool: &'a [u8],
-    base: &[u8],
-    request: &'a [u8],
-    added: &[u8],
-    slots: &[u16; 1024],
-    m: usize,
-    k: usize,
-) -> Kind
-    requires { ⌜ (k < m) × Sources (lent (now pool) (now base) (now request) (now added)) (now slots) m ⌝ }
-    ensures { λ r. ⌜ r ≡ kind-in (lent (now (pool .entry)) (now (base .entry)) (now (request .entry)) (now (added .entry))) (now (slots .entry)) k ⌝ }
+fn kind_of<'a>(trees: &Trees<'a>, plan: &PlanRows, m: usize, k: usize) -> Kind
+    requires { ⌜ (k < m) × SourcesIn (trees-in (now trees)) (now plan) m ⌝ }
+    ensures { λ r. ⌜ r ≡ kinds-in (trees-in (now (trees .entry))) (now (plan .entry)) k ⌝ }
 {
-    planned_kind(base, added, slots[k])
+    planned_kind(trees, plan[SOURCES][k])
 }
 
 // A name against x from `pos` on: 1 it is that, 2 it and a dot begin it, 0 neither.
@@ -119,7 +127,8 @@ fn fit(name: &[u8], x: &[u8], pos: usize) -> u8
 // Where to look on inside the record: behind x's end where nothing there can match.
 fn deeper(f: u8, skip: bool, name: &[u8], x: &[u8], pos: usize) -> usize
     requires { ⌜ (pos ≤ length (now x)) × (f ≡ fits (now name) (drop pos (now x))) ⌝ }
-    ensures { λ r. ⌜ left-at (now (x .entry)) r ≡ inside skip (left-at (now (x .entry)) pos) (now (name .entry)) ⌝ }
+    ensures { λ r. ⌜ left-at (now (x .entry)) r
+        ≡ inside skip (left-at (now (x .entry)) pos) (now (name .entry)) ⌝ }
 {
     if skip {
         return pos;
@@ -139,6 +148,31 @@ fn own_place(f: u8, slot: usize) -> usize
         return slot + 1;
     }
     0
+}
+
+fn turn_at<'a>(
+    trees: &Trees<'a>,
+    plan: &PlanRows,
+    m: usize,
+    at: usize,
+    role: Role,
+    x: &[u8],
+    pos: usize,
+) -> Turn
+    requires { ⌜ (at < m) × ((pos ≤ length (now x))
+        × SourcesIn (trees-in (now trees)) (now plan) m) ⌝ }
+    ensures { λ r. ⌜ Turned (names-in (trees-in (now (trees .entry))) (now (plan .entry)))
+        (kinds-in (trees-in (now (trees .entry))) (now (plan .entry))) role
+        (now (x .entry)) pos at r ⌝ }
+{
+    let kind = kind_of(trees, plan, m, at);
+    let name = name_of(trees, plan, m, at);
+    let f = fit(name, x, pos);
+    Turn {
+        role: first_role(kind),
+        pos: deeper(f, skips(role, kind), name, x, pos),
+        me: own_place(f, at),
+    }
 }
 
 fn either(a: usize, b: usize) -> usize
@@ -179,60 +213,45 @@ fn waiting(late_one: bool, wait: usize, me: usize) -> usize
 // The record of a row of trees whose short name is what is left of x from `pos` on, in the order of entry: a record after its inside,
 // a key and a value after both insides. `wait` is a place that waits for the row's end. A subtree is entered where the prefix fits.
 pub fn seek<'a>(
-    pool: &'a [u8],
-    base: &[u8],
-    request: &'a [u8],
-    added: &[u8],
-    slots: &[u16; 1024],
-    kids: &[u16; 1024],
+    trees: &Trees<'a>,
+    plan: &PlanRows,
     m: usize,
-    slot: usize,
-    count: u32,
-    levels: usize,
+    row: Siblings,
     role: Role,
     x: &[u8],
     pos: usize,
     wait: usize,
 ) -> Sighting
-    requires { ⌜ (slot ≤ m) × Sources (lent (now pool) (now base) (now request) (now added)) (now slots) m ⌝ }
-    ensures { λ r. ⌜ r ≡ sighting (name-in (lent (now (pool .entry)) (now (base .entry)) (now (request .entry)) (now (added .entry))) (now (slots .entry))) (kind-in (lent (now (pool .entry)) (now (base .entry)) (now (request .entry)) (now (added .entry))) (now (slots .entry))) role (left-at (now (x .entry)) pos) (seen wait) (walk (kids-in (now (kids .entry))) m levels count slot) ⌝ }
+    requires { ⌜ (row .slot ≤ m) × SourcesIn (trees-in (now trees)) (now plan) m ⌝ }
+    ensures { λ r. ⌜ r ≡ sighting (names-in (trees-in (now (trees .entry))) (now (plan .entry)))
+        (kinds-in (trees-in (now (trees .entry))) (now (plan .entry))) role
+        (left-at (now (x .entry)) pos) (seen wait)
+        (walk-in (now (plan .entry)) m (row .levels) (row .count) (row .slot)) ⌝ }
 {
+    let levels = row.levels;
     if x.len() < pos {
-        return ended(wait, row_next(kids, m, slot, count, levels));
+        return ended(wait, row_next(plan, m, row));
     }
     if levels == 0 {
-        return ended(wait, slot);
+        return ended(wait, row.slot);
     }
-    let mut at = slot;
-    let mut left = count;
+    let mut at = row.slot;
+    let mut left = row.count;
     let mut part = role;
     let mut first = wait;
     while 0 < left {
         if m <= at {
             return ended(first, at);
         }
-        let inner = count_of(kids[at]);
-        let kind = kind_of(pool, base, request, added, slots, m, at);
-        let name = name_of(pool, base, request, added, slots, m, at);
-        let f = fit(name, x, pos);
-        let deep = deeper(f, skips(part, kind), name, x, pos);
-        let me = own_place(f, at);
-        match seek(
-            pool,
-            base,
-            request,
-            added,
-            slots,
-            kids,
-            m,
-            at + 1,
-            inner,
-            levels - 1,
-            first_role(kind),
-            x,
-            deep,
-            0,
-        ) {
+        let inner = Siblings {
+            slot: at + 1,
+            count: plan[MEMBERS][at],
+            levels: levels - 1,
+        };
+        let turn = turn_at(trees, plan, m, at, part, x, pos);
+        let inside = turn.role;
+        let me = turn.me;
+        match seek(trees, plan, m, inner, inside, x, turn.pos, 0) {
             Sighting::Found(k) => {
                 return Sighting::Found(k);
             }

@@ -1,91 +1,88 @@
 -- Trees laid into a plan, one behind the other, and read back: a run of stores behind a run is one run, and counts tell the tree.
 use Prim.Native.Nat.{ℕ, zero, suc, _+_, _<_, _≤_}
 use mathlib.Core.Path.{_≡_, refl, sym, ap, _∙_}
-use mathlib.Core.Bool.{true}
 use mathlib.Core.List.{List, [], _∷_, _++_, map}
 use native.Mathlib.Nat.{zero-add}
 use native.Mathlib.Numerals.{add-one}
 use native.Mathlib.Omega.{arith}
 use lib.ListN.{length, getD, set, length-map, List·getD-map}
-use lib.Seq.{sets, length-sets}
+use lib.Seq.{sets}
 use Rattle.paper.specs.Answer.{Answer, ok}
 use Rattle.paper.specs.Forest.{Forest, empty, node, size, siblings, levels, preorder, counts, mapped, _then_}
 use Rattle.paper.specs.Sound.{name-bytes}
-use Rattle.paper.specs.Bytes.{from}
+use Rattle.paper.specs.Bytes.{kids-at, from}
 use Rattle.paper.specs.Layout.{Part, roots}
 use Rattle.laws.proofs.Lies.{slotted}
 use Rattle.laws.proofs.Written.{siblings-size}
 use Rattle.laws.proofs.Runs.{sets-append, sets-before, getD-sets, map-append, map-from}
 use Rattle.laws.proofs.Preorder.{length-preorder, length-counts, preorder-then, counts-then, preorder-mapped, counts-mapped}
 use Rattle.laws.proofs.Counted.{counted, placed, roots-counted}
-use Rattle.tree.specs.Read.{got, fine, itself}
+use Rattle.tree.specs.Read.{got, itself}
 use Rattle.tree.proofs.Filled.{Full}
-use Rattle.plan.specs.Plan.{Lent, Source, slot-of, bits-of, planned-field, source-in, kids-in, plan-slots, plan-tree, plan-fields, Sits, Plan, Laid}
-use Rattle.plan.specs.Draft.{Draft, Drawn}
+use Rattle.record.specs.Trees.{Trees}
+use Rattle.plan.specs.Plan.{Source, slot-of, bits-of, planned-field, source-in, kids-in, plan-slots, plan-tree, plan-fields, Sits}
+use Rattle.plan.specs.Draft.{Drawn}
+use Rattle.plan.specs.Sources.{own-source}
+use Rattle.plan.specs.Table.{sources, numbers, members, Roomy, PlanIn, DraftIn, fields-in, planned-at, LaidIn, CopiedIn}
 
 -- ---- laying
 
 -- Nothing is laid.
-pub laid-none : (i : ℕ) (xs is ks : List ℕ) → Laid empty i xs is ks xs is ks
+pub laid-none : (i : ℕ) (plan : List (List ℕ)) → length plan ≡ 3 → LaidIn empty i plan plan
 unfolding preorder counts
-laid-none i xs is ks = record { slots = refl; ids = refl; kids = refl }
-
-behind : (xs ys l l₁ l₂ zs : List ℕ) (i j : ℕ) → l₁ ≡ sets l i xs → j ≡ i + length xs → l₂ ≡ sets l₁ j ys → zs ≡ xs ++ ys → l₂ ≡ sets l i zs
-behind xs ys l l₁ l₂ zs i j e f g h = g ∙ rw (e, f, h) (sets-append xs ys l i)
+laid-none i plan e = record { sources-set = refl; numbers-set = refl; members-set = refl; rows = e }
 
 -- Siblings behind siblings.
-pub laid-then : (t u : Forest Source) (i j : ℕ) (xs is ks x₁ i₁ k₁ x₂ i₂ k₂ : List ℕ) → j ≡ i + size t → Laid t i xs is ks x₁ i₁ k₁ → Laid u j x₁ i₁ k₁ x₂ i₂ k₂ → Laid (t then u) i xs is ks x₂ i₂ k₂
-laid-then t u i j xs is ks x₁ i₁ k₁ x₂ i₂ k₂ e h g =
+mapped-then : (f : Source → ℕ) (t u : Forest Source) (i j : ℕ) (l l₁ l₂ : List ℕ) → j ≡ i + size t → l₁ ≡ sets l i (map f (preorder t)) → l₂ ≡ sets l₁ j (map f (preorder u)) → l₂ ≡ sets l i (map f (preorder (t then u)))
+mapped-then f t u i j l l₁ l₂ e h g =
     let p = length-preorder t in
+    let q = length-map (preorder t) f in
+    let d : j ≡ i + length (map f (preorder t)) = omega arith in
+    g ∙ rw (h, d, preorder-then t u, map-append f (preorder t) (preorder u)) (sets-append (map f (preorder t)) (map f (preorder u)) l i)
+
+pub laid-then : (t u : Forest Source) (i j : ℕ) (p p₁ p₂ : List (List ℕ)) → j ≡ i + size t → LaidIn t i p p₁ → LaidIn u j p₁ p₂ → LaidIn (t then u) i p p₂
+laid-then t u i j p p₁ p₂ e h g =
+    let q = length-counts t in
+    let d : j ≡ i + length (counts t) = omega arith in
     record {
-      slots = behind (map slot-of (preorder t)) (map slot-of (preorder u)) xs x₁ x₂ (map slot-of (preorder (t then u))) i j (h .slots) (let q = length-map (preorder t) slot-of in omega arith) (g .slots) (rw (preorder-then t u) (map-append slot-of (preorder t) (preorder u)));
-      ids = behind (map bits-of (preorder t)) (map bits-of (preorder u)) is i₁ i₂ (map bits-of (preorder (t then u))) i j (h .ids) (let q = length-map (preorder t) bits-of in omega arith) (g .ids) (rw (preorder-then t u) (map-append bits-of (preorder t) (preorder u)));
-      kids = behind (counts t) (counts u) ks k₁ k₂ (counts (t then u)) i j (h .kids) (let q = length-counts t in omega arith) (g .kids) (counts-then t u);
+      sources-set = mapped-then slot-of t u i j (sources p) (sources p₁) (sources p₂) e (h .sources-set) (g .sources-set);
+      numbers-set = mapped-then bits-of t u i j (numbers p) (numbers p₁) (numbers p₂) e (h .numbers-set) (g .numbers-set);
+      members-set = g .members-set ∙ rw (h .members-set, d, counts-then t u) (sets-append (counts t) (counts u) (members p) i);
+      rows = g .rows;
     }
 
--- A record whose slot, id and count are stored first, then its inside.
-pub laid-node : (a : Source) (m : Forest Source) (i c : ℕ) (xs is ks xs′ is′ ks′ : List ℕ) → c ≡ siblings m
-    → Laid m (i + 1) (set xs i (a .slot)) (set is i (a .id)) (set ks i c) xs′ is′ ks′ → Laid (node a m empty) i xs is ks xs′ is′ ks′
-unfolding preorder counts
-laid-node a m i c xs is ks xs′ is′ ks′ e h =
-    let h₁ : Laid m (suc i) (set xs i (a .slot)) (set is i (a .id)) (set ks i (siblings m)) xs′ is′ ks′ = rw (add-one i, e) at h in
-    record { slots = h₁ .slots ∙ rw (nil (preorder m)); ids = h₁ .ids ∙ rw (nil (preorder m)); kids = h₁ .kids ∙ rw (nil (counts m)) }
+-- A record stored after its inside.
+stored-last : (x : ℕ) (xs l l₁ : List ℕ) (i : ℕ) → l₁ ≡ sets l (i + 1) xs → set l₁ i x ≡ sets l i (x ∷ xs ++ [])
+stored-last x xs l l₁ i h = rw (h, nil xs, add-one i) (sets-before xs l i (suc i) x (omega arith))
   where
-    nil : {A : Type 0} (l : List A) → l ++ [] ≡ l
+    nil : (l : List ℕ) → l ++ [] ≡ l
     nil [] = refl
     nil (x ∷ l) = ap (λ r. x ∷ r) (nil l)
 
--- A record whose count is stored last, when its inside was laid.
-pub laid-closed : (a : Source) (m : Forest Source) (i c : ℕ) (xs is ks xs′ is′ ks′ : List ℕ) → c ≡ siblings m
-    → Laid m (i + 1) (set xs i (a .slot)) (set is i (a .id)) ks xs′ is′ ks′ → Laid (node a m empty) i xs is ks xs′ is′ (set ks′ i c)
-laid-closed a m i c xs is ks xs′ is′ ks′ e h =
-    laid-node a m i c xs is ks xs′ is′ (set ks′ i c) e
-    (record { slots = h .slots; ids = h .ids; kids = rw (h .kids) (sets-before (counts m) ks i (i + 1) c (omega arith)) })
-
--- Records that stand in a row of a list, laid as they stand there: f gives the source of each slot, h its id.
-pub laid-row : (p : Part) (kids f h : ℕ → ℕ) (n c k i d : ℕ) (xs is ks xs′ is′ ks′ : List ℕ) → Full kids n c k p → d ≡ size (p .trees)
-    → xs′ ≡ sets xs i (from f k d) → is′ ≡ sets is i (from h k d) → ks′ ≡ sets ks i (from kids k d) → Laid (mapped (λ j. record { slot = f j; id = h j }) (p .trees)) i xs is ks xs′ is′ ks′
-laid-row p kids f h n c k i d xs is ks xs′ is′ ks′ u e ex ei ek =
-    let g : ℕ → Source = λ j. record { slot = f j; id = h j } in
-    let q : preorder (mapped g (p .trees)) ≡ from g k d = preorder-mapped g (p .trees) ∙ rw (u .slots, ← e) (map-from g itself k d) in
+pub laid-last : (a : Source) (m : Forest Source) (i c : ℕ) (p p₁ : List (List ℕ)) → c ≡ siblings m → LaidIn m (i + 1) p p₁ → LaidIn (node a m empty) i p (planned-at p₁ i (a .slot) (a .id) c)
+unfolding preorder counts
+laid-last a m i c p p₁ e h =
     record {
-      slots = ex ∙ ap (λ (z : List ℕ). sets xs i z) (sym (ap (map slot-of) q ∙ map-from slot-of g k d));
-      ids = ei ∙ ap (λ (z : List ℕ). sets is i z) (sym (ap (map bits-of) q ∙ map-from bits-of g k d));
-      kids = ek ∙ ap (λ (z : List ℕ). sets ks i z) (sym (counts-mapped g (p .trees) ∙ u .sizes ∙ ap (λ (z : ℕ). from kids k z) (sym e)));
+      sources-set = rw (map-append slot-of (preorder m) []) (stored-last (a .slot) (map slot-of (preorder m)) (sources p) (sources p₁) i (h .sources-set));
+      numbers-set = rw (map-append bits-of (preorder m) []) (stored-last (a .id) (map bits-of (preorder m)) (numbers p) (numbers p₁) i (h .numbers-set));
+      members-set = rw e (stored-last (siblings m) (counts m) (members p) (members p₁) i (h .members-set));
+      rows = refl;
     }
 
-pub laid-length : (t : Forest Source) (i : ℕ) (xs is ks xs′ is′ ks′ : List ℕ) → Laid t i xs is ks xs′ is′ ks′ → (length xs′ ≡ length xs) × (length is′ ≡ length is) × (length ks′ ≡ length ks)
-laid-length t i xs is ks xs′ is′ ks′ h =
-    (rw (h .slots) (length-sets xs i (map slot-of (preorder t))), rw (h .ids) (length-sets is i (map bits-of (preorder t))), rw (h .kids) (length-sets ks i (counts t)))
+-- Records that stand in a row of a list, copied as they stand there.
+pub copied-laid : (s : List ℕ) (p : Part) (n c k i d : ℕ) (plan plan′ : List (List ℕ)) → Full (kids-at s) n c k p → d ≡ size (p .trees) → CopiedIn s k d plan i plan′ → LaidIn (mapped (own-source s) (p .trees)) i plan plan′
+copied-laid s p n c k i d plan plan′ u e h =
+    let q : preorder (mapped (own-source s) (p .trees)) ≡ from (own-source s) k d = preorder-mapped (own-source s) (p .trees) ∙ rw (u .slots, ← e) (map-from (own-source s) itself k d) in
+    record {
+      sources-set = h .sources-set ∙ rw (q, map-from slot-of (own-source s) k d);
+      numbers-set = h .numbers-set ∙ rw (q, map-from bits-of (own-source s) k d);
+      members-set = h .members-set ∙ rw (counts-mapped (own-source s) (p .trees), u .sizes, e);
+      rows = h .rows;
+    }
 
 -- ---- sources that are there
 
-module _ (l : Lent) where
-  pub drawn-then : (t u : Forest Source) → Drawn l t → Drawn l u → Drawn l (t then u)
-  unfolding _then_
-  drawn-then empty u h g = g
-  drawn-then (node a m n) u h g = (h .0, h .1, drawn-then n u (h .2) g)
-
+module _ (l : Trees) where
   all-sit : (ss : List Source) (ts : List Source) → ((j : ℕ) → j < length ss → Sits l (getD (map slot-of ss) j 0)) → ((j : ℕ) → j < length ts → Sits l (getD (map slot-of ts) j 0)) → (j : ℕ) → j < length ss + length ts → Sits l (getD (map slot-of (ss ++ ts)) j 0)
   all-sit [] ts h g j b = g j (omega arith)
   all-sit (s ∷ ss) ts h g zero b = h 0 (omega arith)
@@ -108,46 +105,37 @@ module _ (l : Lent) where
 
 -- ---- what was laid is read back
 
-module _ (t : Forest Source) (xs is ks xs′ is′ ks′ : List ℕ) (m : ℕ) (h : Laid t 0 xs is ks xs′ is′ ks′) (em : m ≡ size t) where
-  laid-slot : m ≤ length xs → (j : ℕ) → j < size t → getD xs′ j 0 ≡ getD (map slot-of (preorder t)) j 0
-  laid-slot lx j b =
+module _ (t : Forest Source) (plan plan′ : List (List ℕ)) (m : ℕ) (room : Roomy plan) (h : LaidIn t 0 plan plan′) (em : m ≡ size t) (few : m ≤ 1024) where
+  laid-mapped : (f : Source → ℕ) (l l′ : List ℕ) → length l ≡ 1024 → l′ ≡ sets l 0 (map f (preorder t)) → (j : ℕ) → j < size t → getD l′ j 0 ≡ getD (map f (preorder t)) j 0
+  laid-mapped f l l′ el e j b =
       let p = length-preorder t in
-      let q = length-map (preorder t) slot-of in
-      rw (h .slots) (ap (λ (z : ℕ). getD (sets xs 0 (map slot-of (preorder t))) z 0) (sym (zero-add j)) ∙ getD-sets (map slot-of (preorder t)) xs 0 j 0 (omega arith) (omega arith))
+      let q = length-map (preorder t) f in
+      rw e (ap (λ (z : ℕ). getD (sets l 0 (map f (preorder t))) z 0) (sym (zero-add j)) ∙ getD-sets (map f (preorder t)) l 0 j 0 (omega arith) (omega arith))
 
-  laid-id : m ≤ length is → (j : ℕ) → j < size t → getD is′ j 0 ≡ getD (map bits-of (preorder t)) j 0
-  laid-id li j b =
-      let p = length-preorder t in
-      let q = length-map (preorder t) bits-of in
-      rw (h .ids) (ap (λ (z : ℕ). getD (sets is 0 (map bits-of (preorder t))) z 0) (sym (zero-add j)) ∙ getD-sets (map bits-of (preorder t)) is 0 j 0 (omega arith) (omega arith))
+  laid-slot : (j : ℕ) → j < size t → getD (sources plan′) j 0 ≡ getD (map slot-of (preorder t)) j 0
+  laid-slot = laid-mapped slot-of (sources plan) (sources plan′) (room .sources-room) (h .sources-set)
 
-  laid-kid : m ≤ length ks → (j : ℕ) → j < size t → kids-in ks′ (0 + j) ≡ getD (counts t) j 0
-  laid-kid lk j b = let p = length-counts t in rw (h .kids) (getD-sets (counts t) ks 0 j 0 (omega arith) (omega arith))
+  laid-kid : (j : ℕ) → j < size t → kids-in (members plan′) (0 + j) ≡ getD (counts t) j 0
+  laid-kid j b = let p = length-counts t in let q = room .members-room in rw (h .members-set) (getD-sets (counts t) (members plan) 0 j 0 (omega arith) (omega arith))
 
-  laid-source : m ≤ length xs → m ≤ length is → (j : ℕ) → j < size t → source-in xs′ is′ (0 + j) ≡ getD (preorder t) j (record { slot = 0; id = 0 })
-  laid-source lx li j b =
-      rw (zero-add j, laid-slot lx j b, laid-id li j b, List·getD-map slot-of (preorder t) j (record { slot = 0; id = 0 }), List·getD-map bits-of (preorder t) j (record { slot = 0; id = 0 }))
+  laid-source : (j : ℕ) → j < size t → source-in (sources plan′) (numbers plan′) (0 + j) ≡ getD (preorder t) j (record { slot = 0; id = 0 })
+  laid-source j b =
+      let laid-id = laid-mapped bits-of (numbers plan) (numbers plan′) (room .numbers-room) (h .numbers-set) j b in
+      rw (zero-add j, laid-slot j b, laid-id, List·getD-map slot-of (preorder t) j (record { slot = 0; id = 0 }), List·getD-map bits-of (preorder t) j (record { slot = 0; id = 0 }))
 
-  pub laid-roots : m ≤ length ks → levels t ≤ 16 → roots 4 (kids-in ks′) m m 0 ≡ ok (record { trees = slotted 0 t; next = m })
-  laid-roots lk d = let s = siblings-size t in roots-counted 4 (kids-in ks′) m t m 0 (omega arith) d (omega arith) (counted (kids-in ks′) 0 t (laid-kid lk))
+  module _ (deep : levels t ≤ 16) where
+    laid-roots : roots 4 (kids-in (members plan′)) m m 0 ≡ ok (record { trees = slotted 0 t; next = m })
+    laid-roots = let s = siblings-size t in roots-counted 4 (kids-in (members plan′)) m t m 0 (omega arith) deep (omega arith) (counted (kids-in (members plan′)) 0 t laid-kid)
 
-  pub laid-shaped : m ≤ length ks → levels t ≤ 16 → fine (roots 4 (kids-in ks′) m m 0) ≡ true
-  laid-shaped lk d = rw (laid-roots lk d)
+    pub laid-fields : (l : Trees) → fields-in l plan′ m ≡ mapped (planned-field l) t
+    unfolding plan-fields plan-tree plan-slots
+    laid-fields l =
+        let f = source-in (sources plan′) (numbers plan′) in
+        ap (λ (z : Answer Part). mapped (planned-field l) (mapped f (got z .trees))) laid-roots ∙ ap (mapped (planned-field l)) (placed f (record { slot = 0; id = 0 }) 0 t laid-source)
 
-  pub laid-tree : m ≤ length xs → m ≤ length is → m ≤ length ks → levels t ≤ 16 → plan-tree xs′ is′ ks′ m ≡ t
-  unfolding plan-tree plan-slots
-  laid-tree lx li lk d = ap (λ (z : Answer Part). mapped (source-in xs′ is′) (got z .trees)) (laid-roots lk d) ∙ placed (source-in xs′ is′) (record { slot = 0; id = 0 }) 0 t (laid-source lx li)
+    pub laid-draft : (l : Trees) → Drawn l t → DraftIn l plan′ m
+    laid-draft l s = record { few = few; sits = λ i b. rw (laid-slot i (omega arith)) (drawn-at l t s i (omega arith)); shaped = rw laid-roots }
 
-  pub laid-fields : (l : Lent) → m ≤ length xs → m ≤ length is → m ≤ length ks → levels t ≤ 16 → plan-fields l xs′ is′ ks′ m ≡ mapped (planned-field l) t
-  unfolding plan-fields
-  laid-fields l lx li lk d = ap (mapped (planned-field l)) (laid-tree lx li lk d)
-
-  pub laid-draft : (l : Lent) → m ≤ 1024 → m ≤ length xs → m ≤ length ks → levels t ≤ 16 → Drawn l t → Draft l xs′ is′ ks′ m
-  laid-draft l w lx lk d s = record { few = w; sits = λ i b. rw (laid-slot lx i (omega arith)) (drawn-at l t s i (omega arith)); shaped = laid-shaped lk d }
-
--- A draft whose name sum is within the limit is a plan, and a plan is a draft.
-pub draft-plan : (l : Lent) (xs is ks : List ℕ) (m : ℕ) → Draft l xs is ks m → name-bytes (plan-fields l xs is ks m) ≤ 32768 → Plan l xs is ks m
-draft-plan l xs is ks m h e = record { few = h .few; sits = h .sits; shaped = h .shaped; sum = e }
-
-pub plan-draft : (l : Lent) (xs is ks : List ℕ) (m : ℕ) → Plan l xs is ks m → Draft l xs is ks m
-plan-draft l xs is ks m h = record { few = h .few; sits = h .sits; shaped = h .shaped }
+-- A draft whose name sum is within the limit is a plan.
+pub draft-plan : (l : Trees) (plan : List (List ℕ)) (m : ℕ) → DraftIn l plan m → name-bytes (fields-in l plan m) ≤ 32768 → PlanIn l plan m
+draft-plan l plan m h e = record { few = h .few; sits = h .sits; shaped = h .shaped; sum = e }

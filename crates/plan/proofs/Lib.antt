@@ -1,4 +1,5 @@
 pub mod Laying
+pub mod Rooms
 pub mod Sourcing
 pub mod Standing
 pub mod Summing

@@ -1,18 +1,19 @@
 -- A planned record is one of two lists': below 1,024 the base's, else the additions'. `search sourcing`.
 use Prim.Native.Nat.{ℕ, _+_, _-_, _*_, _/_, _%_, _<_, _≤_}
-use mathlib.Core.Path.{_≡_, _∙_}
-use mathlib.Core.Bool.{true}
+use mathlib.Core.Path.{_≡_}
+use mathlib.Core.Bool.{true, cond}
 use mathlib.Core.Logic.{⊎-elim}
 use mathlib.Core.List.{List, [], _∷_}
 use native.Mathlib.Omega.{arith}
 use borrow.Author.Tests.{leb-true, lt-ltb, le-ltb}
+use lib.Dec.{ltb}
 use lib.ListN.{length, getD, drop, length-drop}
-use lib.Seq.{sets, length-take-le}
-use Rattle.paper.specs.declared.Kind.{Kind}
-use Rattle.paper.specs.Bytes.{turned, rec-at, kind-at, name-of, in-pool, field-at}
+use lib.Seq.{length-take-le}
+use Rattle.paper.specs.Bytes.{turned, rec-at, name-of, in-pool, field-at}
 use Rattle.paper.specs.Encode.{bytes32, row24, rec-bytes}
 use Rattle.tree.proofs.Filled.{lt-or-le}
-use Rattle.plan.specs.Plan.{Lent, source-field, planned-field, Sits}
+use Rattle.record.specs.Trees.{Trees, lent-trees}
+use Rattle.plan.specs.Plan.{source-field, planned-field, Sits}
 use Rattle.plan.specs.Sources.{source-kind, source-len, row-of, source-row, In}
 
 -- ---- what the code reads and writes
@@ -30,44 +31,36 @@ module _ (base added : List ℕ) (x : ℕ) where
   pub in-added : In base added x → 1024 ≤ x → (x - 1024) * 24 + 24 ≤ length added
   in-added h l = h .added-in l
 
-  pub kind-base : (r : Kind) → x < 1024 → r ≡ kind-at base x → r ≡ source-kind base added x
-  unfolding source-kind
-  kind-base r l e = rw (lt-ltb x 1024 l) e
+module _ {A : Type 0} (x : ℕ) (r a b : A) where
+  pub from-base : x < 1024 → r ≡ a → r ≡ cond (ltb x 1024) a b
+  from-base l e = rw (lt-ltb x 1024 l) e
 
-  pub kind-added : (r : Kind) → 1024 ≤ x → r ≡ kind-at added (x - 1024) → r ≡ source-kind base added x
-  unfolding source-kind
-  kind-added r l e = rw (le-ltb x 1024 l) e
+  pub from-added : 1024 ≤ x → r ≡ b → r ≡ cond (ltb x 1024) a b
+  from-added l e = rw (le-ltb x 1024 l) e
 
-  pub len-base : (r : ℕ) → x < 1024 → r ≡ rec-at base x .name-len → r ≡ source-len base added x
-  unfolding source-len
-  len-base r l e = rw (lt-ltb x 1024 l) e
+module _ (s p b r : List ℕ) (x : ℕ) (h : Sits (lent-trees s p b r) x) where
+  pub sits-base : x < 1024 → x * 24 + 24 ≤ length s
+  sits-base l = h .base-in l
 
-  pub len-added : (r : ℕ) → 1024 ≤ x → r ≡ rec-at added (x - 1024) .name-len → r ≡ source-len base added x
-  unfolding source-len
-  len-added r l e = rw (le-ltb x 1024 l) e
+  pub named-base : x < 1024 → in-pool (length p) s x ≡ true
+  named-base l = h .base-named l
 
-  module _ (id kids at : ℕ) (r : List ℕ) where
-    pub row-base : x < 1024 → r ≡ row-of base x id kids at → r ≡ source-row base added x id kids at
-    unfolding source-row
-    row-base l e = rw (lt-ltb x 1024 l) e
+  pub sits-added : 1024 ≤ x → (x - 1024) * 24 + 24 ≤ length b
+  sits-added l = h .added-in l
 
-    pub row-added : 1024 ≤ x → r ≡ row-of added (x - 1024) id kids at → r ≡ source-row base added x id kids at
-    unfolding source-row
-    row-added l e = rw (le-ltb x 1024 l) e
+  pub named-added : 1024 ≤ x → in-pool (length r) b (x - 1024) ≡ true
+  named-added l = h .added-named l
 
-    pub row-put : (l l′ : List ℕ) (i : ℕ) → r ≡ source-row base added x id kids at → l′ ≡ sets l i r → l′ ≡ sets l i (source-row base added x id kids at)
-    row-put l l′ i e q = q ∙ rw e
-
-module _ (l : Lent) (x : ℕ) (r : List ℕ) where
-  pub named-base : x < 1024 → r ≡ name-of (l .pool) (l .base) x → r ≡ source-field l x .name
+module _ (s p b r : List ℕ) (x : ℕ) (name : List ℕ) {A B C D : Type 0} where
+  pub name-base : x < 1024 → (name ≡ name-of p s x) × A × B → (name ≡ source-field (lent-trees s p b r) x .name) × (x < 1024 → A × B) × (1024 ≤ x → C × D)
   unfolding source-field field-at
-  named-base b e = rw (lt-ltb x 1024 b) e
+  name-base l e = (rw (lt-ltb x 1024 l) (e .0), λ _. (e .1, e .2), λ h. absurd (omega arith))
 
-  pub named-added : 1024 ≤ x → r ≡ name-of (l .request) (l .added) (x - 1024) → r ≡ source-field l x .name
+  pub name-added : 1024 ≤ x → (name ≡ name-of r b (x - 1024)) × A × B → (name ≡ source-field (lent-trees s p b r) x .name) × (x < 1024 → C × D) × (1024 ≤ x → A × B)
   unfolding source-field field-at
-  named-added b e = rw (le-ltb x 1024 b) e
+  name-added l e = (rw (le-ltb x 1024 l) (e .0), λ h. absurd (omega arith), λ _. (e .1, e .2))
 
-pub ruleset sourcing = (in-base, in-added, kind-base, kind-added, len-base, len-added, row-base, row-added, row-put)
+pub ruleset sourcing = (in-base, in-added, from-base, from-added, sits-base, named-base, sits-added, named-added)
 
 -- ---- the same of the planned field
 
@@ -96,24 +89,24 @@ bits-again x rest = rw (same-bits x) (go (x % 4294967296) (x / 4294967296) (omeg
         let a′ : x % 256 ≡ r % 256 = omega arith in
         rw (a′, b, c, d, lowest-byte (r / 256) (q * 65536), lowest-byte (r / 65536) (q * 256), lowest-byte (r / 16777216) q)
 
-module _ (l : Lent) (x : ℕ) where
-  pub sits-in : Sits l x → In (l .base) (l .added) x
+module _ (l : Trees) (x : ℕ) where
+  pub sits-in : Sits l x → In (l .records) (l .added-records) x
   sits-in h = record { base-in = h .base-in; added-in = h .added-in }
 
-  pub kind-source : source-kind (l .base) (l .added) x ≡ source-field l x .kind
+  pub kind-source : source-kind (l .records) (l .added-records) x ≡ source-field l x .kind
   unfolding source-kind source-field field-at
   kind-source = ⊎-elim (λ b. rw (lt-ltb x 1024 b)) (λ b. rw (le-ltb x 1024 b)) (lt-or-le x 1024)
 
-  pub len-source : Sits l x → source-len (l .base) (l .added) x ≡ length (source-field l x .name)
+  pub len-source : Sits l x → source-len (l .records) (l .added-records) x ≡ length (source-field l x .name)
   unfolding source-len source-field field-at
   len-source h = ⊎-elim
-      (λ b. rw (lt-ltb x 1024 b, name-length (l .pool) (l .base) x (h .base-named b)))
-      (λ b. rw (le-ltb x 1024 b, name-length (l .request) (l .added) (x - 1024) (h .added-named b)))
+      (λ b. rw (lt-ltb x 1024 b, name-length (l .pool) (l .records) x (h .base-named b)))
+      (λ b. rw (le-ltb x 1024 b, name-length (l .request-pool) (l .added-records) (x - 1024) (h .added-named b)))
       (lt-or-le x 1024)
 
-  pub row-source : (id kids at : ℕ) → Sits l x → source-row (l .base) (l .added) x id kids at ≡ rec-bytes at (planned-field l (record { slot = x; id = id })) kids
+  pub row-source : (id kids at : ℕ) → Sits l x → source-row (l .records) (l .added-records) x id kids at ≡ rec-bytes at (planned-field l (record { slot = x; id = id })) kids
   unfolding source-row row-of source-field planned-field field-at row24
   row-source id kids at h = ⊎-elim
-      (λ b. rw (lt-ltb x 1024 b, name-length (l .pool) (l .base) x (h .base-named b)) (bits-again id _))
-      (λ b. rw (le-ltb x 1024 b, name-length (l .request) (l .added) (x - 1024) (h .added-named b)) (bits-again id _))
+      (λ b. rw (lt-ltb x 1024 b, name-length (l .pool) (l .records) x (h .base-named b)) (bits-again id _))
+      (λ b. rw (le-ltb x 1024 b, name-length (l .request-pool) (l .added-records) (x - 1024) (h .added-named b)) (bits-again id _))
       (lt-or-le x 1024)

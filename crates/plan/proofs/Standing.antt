@@ -1,34 +1,34 @@
 -- The records of a plan that reads, in its order: they stand at the places 0, 1, 2 and so on.
-use Prim.Native.Nat.{ℕ, zero, suc, _+_, _<_, _≤_}
+use Prim.Native.Nat.{ℕ, zero, suc, _+_, _<_}
 use mathlib.Core.Path.{_≡_, refl, sym, ap, _∙_}
 use mathlib.Core.Bool.{true}
-use mathlib.Core.List.{List, map}
+use mathlib.Core.List.{List}
 use native.Mathlib.Omega.{arith}
 use lib.ListN.{length, getD, length-append}
 use Rattle.paper.specs.Answer.{ok}
-use Rattle.paper.specs.Forest.{size, siblings, levels, preorder, counts, mapped}
+use Rattle.paper.specs.Forest.{size, siblings, preorder, counts, mapped}
 use Rattle.paper.specs.Field.{Field}
 use Rattle.paper.specs.Sound.{name-bytes}
 use Rattle.paper.specs.Bytes.{from}
 use Rattle.paper.specs.Layout.{Part, roots}
 use Rattle.paper.specs.Encode.{encode-names}
 use Rattle.paper.specs.Limits.{sum-from}
-use Rattle.laws.proofs.Taken.{roots-take}
-use Rattle.laws.proofs.Fitting.{size-mapped, levels-mapped}
+use Rattle.laws.proofs.Fitting.{size-mapped}
 use Rattle.laws.proofs.Written.{length-names}
 use Rattle.laws.proofs.Runs.{map-from}
-use Rattle.laws.proofs.Preorder.{preorder-mapped, counts-mapped}
+use Rattle.laws.proofs.Preorder.{mapped-mapped, preorder-mapped, counts-mapped}
 use Rattle.tree.specs.Read.{got, fine, itself}
 use Rattle.tree.proofs.Filled.{Full, full}
 use Rattle.tree.proofs.Roots.{roots-row}
 use Rattle.tree.proofs.Steps.{fine-got}
-use Rattle.plan.specs.Plan.{Lent, Source, planned-field, source-field, source-in, kids-in, plan-slots, plan-tree, plan-fields}
+use Rattle.record.specs.Trees.{Trees}
+use Rattle.plan.specs.Plan.{Source, planned-field, source-field, source-in, kids-in, plan-slots, plan-tree, plan-fields}
 use Rattle.plan.specs.Sources.{source-len}
-use Rattle.plan.specs.Draft.{Draft}
+use Rattle.plan.specs.Table.{sources, numbers, members, DraftIn, fields-in}
 use Rattle.plan.proofs.Sourcing.{len-source}
 
 -- The field of the planned record at a place, and its name's length.
-abbrev pub field-in : Lent → (slots ids : List ℕ) → ℕ → Field
+abbrev pub field-in : Trees → (slots ids : List ℕ) → ℕ → Field
 field-in l xs is i = planned-field l (source-in xs is i)
 
 abbrev pub len-in : (base added slots : List ℕ) → ℕ → ℕ
@@ -48,48 +48,36 @@ module _ (ks : List ℕ) (m : ℕ) (h : fine (roots 4 (kids-in ks) m m 0) ≡ tr
   whole : Full (kids-in ks) m (siblings (p .trees)) 0 p
   whole = full 4 (kids-in ks) m 16 (siblings (p .trees)) 0 p (roots-row 4 (kids-in ks) m m 0 p (omega arith) (omega arith) read .0)
 
-  pub plan-size : size (plan-slots ks m) ≡ m
+  plan-size : size (plan-slots ks m) ≡ m
   unfolding plan-slots p
   plan-size = let a = whole .next in let b = end in omega arith
 
-  pub plan-places : preorder (plan-slots ks m) ≡ from itself 0 m
+  plan-places : preorder (plan-slots ks m) ≡ from itself 0 m
   unfolding plan-slots p
   plan-places = whole .slots ∙ ap (λ (z : ℕ). from itself 0 z) plan-size
 
-  pub plan-counts : counts (plan-slots ks m) ≡ from (kids-in ks) 0 m
+  plan-counts : counts (plan-slots ks m) ≡ from (kids-in ks) 0 m
   unfolding plan-slots p
   plan-counts = whole .sizes ∙ ap (λ (z : ℕ). from (kids-in ks) 0 z) plan-size
 
-  pub plan-levels : levels (plan-slots ks m) ≤ 16
-  unfolding plan-slots p
-  plan-levels = roots-take 4 (kids-in ks) m m 0 p read .depth
+module _ (plan : List (List ℕ)) (m : ℕ) (h : fine (roots 4 (kids-in (members plan)) m m 0) ≡ true) (l : Trees) where
+  fields-mapped : fields-in l plan m ≡ mapped (field-in l (sources plan) (numbers plan)) (plan-slots (members plan) m)
+  unfolding plan-fields plan-tree
+  fields-mapped = mapped-mapped (source-in (sources plan) (numbers plan)) (planned-field l) (plan-slots (members plan) m)
 
-  module _ (l : Lent) (xs is : List ℕ) where
-    pub fields-order : preorder (plan-fields l xs is ks m) ≡ from (field-in l xs is) 0 m
-    unfolding plan-fields plan-tree
-    fields-order =
-        preorder-mapped (planned-field l) (mapped (source-in xs is) (plan-slots ks m))
-        ∙ ap (map (planned-field l)) (preorder-mapped (source-in xs is) (plan-slots ks m) ∙ ap (map (source-in xs is)) plan-places ∙ map-from (source-in xs is) itself 0 m)
-        ∙ map-from (planned-field l) (source-in xs is) 0 m
+  pub fields-order : preorder (fields-in l plan m) ≡ from (field-in l (sources plan) (numbers plan)) 0 m
+  fields-order =
+      let f = field-in l (sources plan) (numbers plan) in
+      rw fields-mapped (preorder-mapped f (plan-slots (members plan) m) ∙ rw (plan-places (members plan) m h) (map-from f itself 0 m))
 
-    pub fields-counts : counts (plan-fields l xs is ks m) ≡ from (kids-in ks) 0 m
-    unfolding plan-fields plan-tree
-    fields-counts = counts-mapped (planned-field l) (mapped (source-in xs is) (plan-slots ks m)) ∙ counts-mapped (source-in xs is) (plan-slots ks m) ∙ plan-counts
+  pub fields-counts : counts (fields-in l plan m) ≡ from (kids-in (members plan)) 0 m
+  fields-counts = rw fields-mapped (counts-mapped (field-in l (sources plan) (numbers plan)) (plan-slots (members plan) m) ∙ plan-counts (members plan) m h)
 
-    pub fields-size : size (plan-fields l xs is ks m) ≡ m
-    unfolding plan-fields plan-tree
-    fields-size = size-mapped (planned-field l) (mapped (source-in xs is) (plan-slots ks m)) ∙ size-mapped (source-in xs is) (plan-slots ks m) ∙ plan-size
+  pub fields-size : size (fields-in l plan m) ≡ m
+  fields-size = rw fields-mapped (size-mapped (field-in l (sources plan) (numbers plan)) (plan-slots (members plan) m) ∙ plan-size (members plan) m h)
 
-    pub fields-levels : levels (plan-fields l xs is ks m) ≤ 16
-    unfolding plan-fields plan-tree
-    fields-levels =
-        let a = levels-mapped (planned-field l) (mapped (source-in xs is) (plan-slots ks m)) in
-        let b = levels-mapped (source-in xs is) (plan-slots ks m) in
-        let c = plan-levels in
-        omega arith
-
-    pub fields-names : length (encode-names (from (field-in l xs is) 0 m)) ≡ name-bytes (plan-fields l xs is ks m)
-    fields-names = ap (λ (z : List Field). length (encode-names z)) (sym fields-order) ∙ length-names (plan-fields l xs is ks m)
+  pub fields-names : length (encode-names (from (field-in l (sources plan) (numbers plan)) 0 m)) ≡ name-bytes (fields-in l plan m)
+  fields-names = ap (λ (z : List Field). length (encode-names z)) (sym fields-order) ∙ length-names (fields-in l plan m)
 
 -- ---- the name sum
 
@@ -101,11 +89,12 @@ lengths f g k (suc m) h =
     let b = h k (omega arith) in
     length-append (f k .name) (encode-names (from f (suc k) m)) ∙ omega arith
 
-pub name-planned : (l : Lent) (a : Source) → planned-field l a .name ≡ source-field l (a .slot) .name
+pub name-planned : (l : Trees) (a : Source) → planned-field l a .name ≡ source-field l (a .slot) .name
 unfolding planned-field
 name-planned l a = refl
 
-pub draft-sum : (l : Lent) (xs is ks : List ℕ) (m : ℕ) → Draft l xs is ks m → name-bytes (plan-fields l xs is ks m) ≡ sum-from (len-in (l .base) (l .added) xs) 0 m
-draft-sum l xs is ks m d =
-    sym (fields-names ks m (d .shaped) l xs is)
-    ∙ lengths (field-in l xs is) (len-in (l .base) (l .added) xs) 0 m (λ i b. ap length (name-planned l (source-in xs is i)) ∙ sym (len-source l (getD xs i 0) (d .sits i (omega arith))))
+pub draft-sum : (l : Trees) (plan : List (List ℕ)) (m : ℕ) → DraftIn l plan m → name-bytes (fields-in l plan m) ≡ sum-from (len-in (l .records) (l .added-records) (sources plan)) 0 m
+draft-sum l plan m d =
+    sym (fields-names plan m (d .shaped) l)
+    ∙ lengths (field-in l (sources plan) (numbers plan)) (len-in (l .records) (l .added-records) (sources plan)) 0 m
+    (λ i b. ap length (name-planned l (source-in (sources plan) (numbers plan) i)) ∙ sym (len-source l (getD (sources plan) i 0) (d .sits i (omega arith))))

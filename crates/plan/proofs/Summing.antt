@@ -2,16 +2,16 @@
 use Prim.Native.Nat.{ℕ, suc, _+_, _-_, _*_, _<_, _≤_}
 use mathlib.Core.Path.{_≡_, sym, _∙_}
 use mathlib.Core.Bool.{Bool, true, false}
-use mathlib.Core.List.{List}
+use mathlib.Core.List.{List, [], _∷_}
 use native.Mathlib.Omega.{arith}
 use borrow.Author.Tests.{leb-true}
 use lib.Dec.{leb}
 use lib.ListN.{getD}
 use Rattle.paper.specs.Sound.{name-bytes}
 use Rattle.paper.specs.Limits.{sum-from}
-use Rattle.plan.specs.Plan.{Lent, lent, plan-fields, Plan}
-use Rattle.plan.specs.Draft.{Draft}
+use Rattle.record.specs.Trees.{Trees, lent-trees}
 use Rattle.plan.specs.Sources.{source-len, In, Inside, Summed}
+use Rattle.plan.specs.Table.{sources, numbers, members, PlanIn, DraftIn, fields-in, InsideIn}
 use Rattle.plan.proofs.Sourcing.{sits-in}
 use Rattle.plan.proofs.Standing.{len-in, draft-sum}
 use Rattle.plan.proofs.Laying.{draft-plan}
@@ -42,7 +42,7 @@ module _ (base added xs : List ℕ) (m : ℕ) where
       let d : m - i ≡ 0 = omega arith in
       let e : sum-from (len-in base added xs) 0 m ≡ sum + 0 = rw d at (h .same) in
       let f : sum-from (len-in base added xs) 0 m ≡ sum = omega arith in
-      record { says = λ pool request is ks g. rw (draft-sum (lent pool base request added) xs is ks m g, f) }
+      record { says = λ pool request is ks g. rw (draft-sum (lent-trees base pool added request) (xs ∷ is ∷ ks ∷ []) m g, f) }
 
   pub source-inside : Inside base added xs m → (i : ℕ) → i < m → In base added (getD xs i 0)
   source-inside h i l = h .all i l
@@ -51,13 +51,17 @@ pub ruleset summing = (sum-starts, sum-goes, sum-ends, source-inside)
 
 -- ---- for callers
 
-pub draft-inside : (l : Lent) (xs is ks : List ℕ) (m : ℕ) → Draft l xs is ks m → Inside (l .base) (l .added) xs m
-draft-inside l xs is ks m d = record { few = d .few; all = λ i b. sits-in l (getD xs i 0) (d .sits i b) }
+module _ (l : Trees) (plan : List (List ℕ)) (m : ℕ) (d : DraftIn l plan m) where
+  pub draft-inside : InsideIn l plan m
+  draft-inside = record { few = d .few; all = λ i b. sits-in l (getD (sources plan) i 0) (d .sits i b) }
 
--- A draft whose names fit is a plan; one whose names do not fit passes 01's limit.
-pub summed-plan : (l : Lent) (xs is ks : List ℕ) (m : ℕ) (r : Bool) → Summed (l .base) (l .added) xs m r → Draft l xs is ks m → r ≡ true → Plan l xs is ks m
-summed-plan l xs is ks m r h d e =
-    draft-plan l xs is ks m d (leb-true (name-bytes (plan-fields l xs is ks m)) 32768 (sym (h .says (l .pool) (l .request) is ks d) ∙ e))
+  -- A draft whose names fit is a plan; one whose names do not fit passes 01's limit.
+  module _ (r : Bool) (h : Summed (l .records) (l .added-records) (sources plan) m r) where
+    names-say : r ≡ leb (name-bytes (fields-in l plan m)) 32768
+    names-say = h .says (l .pool) (l .request-pool) (numbers plan) (members plan) d
 
-pub summed-over : (l : Lent) (xs is ks : List ℕ) (m : ℕ) (r : Bool) → Summed (l .base) (l .added) xs m r → Draft l xs is ks m → r ≡ false → leb (name-bytes (plan-fields l xs is ks m)) 32768 ≡ false
-summed-over l xs is ks m r h d e = sym (h .says (l .pool) (l .request) is ks d) ∙ e
+    pub summed-plan : r ≡ true → PlanIn l plan m
+    summed-plan e = draft-plan l plan m d (leb-true (name-bytes (fields-in l plan m)) 32768 (sym names-say ∙ e))
+
+    pub summed-over : r ≡ false → leb (name-bytes (fields-in l plan m)) 32768 ≡ false
+    summed-over e = sym names-say ∙ e

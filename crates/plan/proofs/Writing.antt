@@ -13,9 +13,11 @@ use Rattle.paper.specs.Bytes.{from}
 use Rattle.paper.specs.Encode.{rec-bytes, encode-records, encode-names, record-bytes, pool-bytes}
 use Rattle.laws.proofs.Written.{length-records, row-length}
 use Rattle.laws.proofs.Runs.{sets-append, sets-front, from-step, from-done, from-all}
-use Rattle.plan.specs.Plan.{Lent, source-field, source-in, kids-in, plan-fields, Sits, Plan}
-use Rattle.plan.specs.Sources.{source-row, In, Written}
-use Rattle.plan.proofs.Sourcing.{sits-in, row-source}
+use Rattle.record.specs.Trees.{Trees}
+use Rattle.plan.specs.Plan.{source-field, source-in, kids-in, Sits}
+use Rattle.plan.specs.Sources.{Written}
+use Rattle.plan.specs.Table.{sources, numbers, members, PlanIn, fields-in, planned-row}
+use Rattle.plan.proofs.Sourcing.{row-source}
 use Rattle.plan.proofs.Standing.{field-in, name-planned, fields-order, fields-counts, fields-size, fields-names}
 
 module _ (W : List ℕ) (at : ℕ) (src : List ℕ) (i : ℕ) (out : List ℕ) (e : W ≡ sets out (at + i) (drop i src)) where
@@ -27,6 +29,9 @@ module _ (W : List ℕ) (at : ℕ) (src : List ℕ) (i : ℕ) (out : List ℕ) (
 
 pub put-starts : (at : ℕ) (src out : List ℕ) → sets out at src ≡ sets out (at + 0) (drop 0 src)
 put-starts at src out = rw (add-zero at)
+
+pub row-put : (l l′ row r : List ℕ) (i : ℕ) → r ≡ row → l′ ≡ sets l i r → l′ ≡ sets l i row
+row-put l l′ row r i e q = q ∙ rw e
 
 pub ruleset putting = (put-starts, put-goes, put-ends)
 
@@ -41,100 +46,111 @@ name-step : (f : ℕ → Field) (i n : ℕ) → i < n → encode-names (from f i
 unfolding encode-names
 name-step f i n l = rw (from-step f i n l)
 
+abbrev fields : Trees → List (List ℕ) → ℕ → Field
+fields l plan = field-in l (sources plan) (numbers plan)
+
+abbrev kids : List (List ℕ) → ℕ → ℕ
+kids plan = kids-in (members plan)
+
 -- What is left from place i on, with its names from offset `at` on, gives the whole.
-pub record Going (f : ℕ → Field) (c : ℕ → ℕ) (m : ℕ) (out₀ names₀ : List ℕ) (i at : ℕ) (out names : List ℕ) : Type 0 where
+pub record Going (l : Trees) (plan : List (List ℕ)) (m : ℕ) (out₀ names₀ : List ℕ) (i at : ℕ) (out names : List ℕ) : Type 0 where
+  pub reads : PlanIn l plan m
+  pub room : 24576 ≤ length out
+  pub room-names : 32768 ≤ length names
   pub within : i ≤ m
-  pub rows : sets out₀ 0 (encode-records 0 (from f 0 m) (from c 0 m)) ≡ sets out (i * 24) (encode-records at (from f i (m - i)) (from c i (m - i)))
-  pub pool : sets names₀ 0 (encode-names (from f 0 m)) ≡ sets names at (encode-names (from f i (m - i)))
-  pub used : length (encode-names (from f 0 m)) ≡ at + length (encode-names (from f i (m - i)))
+  pub small : at ≤ 32768
+  pub rows : sets out₀ 0 (encode-records 0 (from (fields l plan) 0 m) (from (kids plan) 0 m)) ≡ sets out (i * 24) (encode-records at (from (fields l plan) i (m - i)) (from (kids plan) i (m - i)))
+  pub pool : sets names₀ 0 (encode-names (from (fields l plan) 0 m)) ≡ sets names at (encode-names (from (fields l plan) i (m - i)))
+  pub used : length (encode-names (from (fields l plan) 0 m)) ≡ at + length (encode-names (from (fields l plan) i (m - i)))
   pub long : length out ≡ length out₀
   pub long-names : length names ≡ length names₀
 
-pub write-starts : (f : ℕ → Field) (c : ℕ → ℕ) (m : ℕ) (out₀ names₀ : List ℕ) → Going f c m out₀ names₀ 0 0 out₀ names₀
-write-starts f c m out₀ names₀ =
-    let d′ : 0 * 24 ≡ 0 = omega arith in
-    record { within = omega arith; rows = rw (from-all f m, from-all c m, d′); pool = rw (from-all f m); used = rw (from-all f m) (omega arith); long = refl; long-names = refl }
+module _ (l : Trees) (plan : List (List ℕ)) (m : ℕ) (out₀ names₀ : List ℕ) where
+  pub write-starts : PlanIn l plan m → 24576 ≤ length out₀ → 32768 ≤ length names₀ → Going l plan m out₀ names₀ 0 0 out₀ names₀
+  write-starts h o n =
+      let f = fields l plan in
+      let d : 0 * 24 ≡ 0 = omega arith in
+      record { reads = h; room = o; room-names = n; within = omega arith; small = omega arith; rows = rw (from-all f m, from-all (kids plan) m, d); pool = rw (from-all f m); used = rw (from-all f m) (omega arith); long = refl; long-names = refl }
 
--- What the writer asks.
-abbrev pub Ready : (l : Lent) (xs is ks : List ℕ) (m : ℕ) (out names : List ℕ) → Type 0
-Ready l xs is ks m out names = Plan l xs is ks m × (24576 ≤ length out) × (32768 ≤ length names)
-
-module _ (l : Lent) (xs is ks : List ℕ) (m : ℕ) (out₀ names₀ : List ℕ) (ready : Ready l xs is ks m out₀ names₀) where
-  names-small : length (encode-names (from (field-in l xs is) 0 m)) ≤ 32768
-  names-small = let e = fields-names ks m (ready .0 .shaped) l xs is in let b = ready .0 .sum in omega arith
-
-  module _ (i at : ℕ) (out names : List ℕ) (h : Going (field-in l xs is) (kids-in ks) m out₀ names₀ i at out names) where
-    pub at-small : at ≤ 32768
-    at-small = let e = h .used in let b = names-small in omega arith
+  module _ (i at : ℕ) (out names : List ℕ) (h : Going l plan m out₀ names₀ i at out names) where
+    names-small : length (encode-names (from (fields l plan) 0 m)) ≤ 32768
+    names-small = let e = fields-names plan m (h .reads .shaped) l in let b = h .reads .sum in omega arith
 
     module _ (b : i < m) where
-      pub source-sits : Sits l (getD xs i 0)
-      source-sits = ready .0 .sits i b
+      pub source-sits : Sits l (getD (sources plan) i 0)
+      source-sits = h .reads .sits i b
 
-      row-same : source-row (l .base) (l .added) (getD xs i 0) (getD is i 0) (getD ks i 0) at ≡ rec-bytes at (field-in l xs is i) (kids-in ks i)
-      row-same = row-source l (getD xs i 0) (getD is i 0) (getD ks i 0) at source-sits
+      module _ (name : List ℕ) (en : name ≡ source-field l (getD (sources plan) i 0) .name) where
+        name-same : name ≡ fields l plan i .name
+        name-same = en ∙ sym (name-planned l (source-in (sources plan) (numbers plan) i))
 
-      pub record-asked : In (l .base) (l .added) (getD xs i 0) × (i < 1024) × (24576 ≤ length out)
-      record-asked = let p = ready .0 .few in let q = ready .1 in let e = h .long in (sits-in l (getD xs i 0) source-sits, omega arith, omega arith)
-
-      module _ (name : List ℕ) (en : name ≡ source-field l (getD xs i 0) .name) where
-        name-same : name ≡ field-in l xs is i .name
-        name-same = en ∙ sym (name-planned l (source-in xs is i))
-
-        pub name-room : (at + length name ≤ length names) × (at + length name ≤ 32768)
+        name-room : at + length name ≤ 32768
         name-room =
-            let f = field-in l xs is in
+            let f = fields l plan in
             let a = ap length name-same in
             let e = h .used in
             let g = ap length (name-step f i m b) ∙ length-append (f i .name) (encode-names (from f (i + 1) (m - (i + 1)))) in
             let p = names-small in
-            let q = h .long-names in
-            let r = ready .2 in
-            (omega arith, omega arith)
+            omega arith
 
-      pub write-goes : (name out′ names′ : List ℕ) → out′ ≡ sets out (i * 24) (source-row (l .base) (l .added) (getD xs i 0) (getD is i 0) (getD ks i 0) at) → name ≡ source-field l (getD xs i 0) .name → names′ ≡ sets names at name
-          → Going (field-in l xs is) (kids-in ks) m out₀ names₀ (i + 1) (at + length name) out′ names′
-      write-goes name out′ names′ eo en em =
-          let f = field-in l xs is in
-          let c = kids-in ks in
-          let en′ = name-same name en in
-          let g = name-step f i m b in
-          let j : (i + 1) * 24 ≡ i * 24 + length (rec-bytes at (f i) (c i)) = let e = row-length at (f i) (c i) in omega arith in
-          let rest = encode-records (at + length (f i .name)) (from f (i + 1) (m - (i + 1))) (from c (i + 1) (m - (i + 1))) in
-          let more = encode-names (from f (i + 1) (m - (i + 1))) in
-          let u : length (encode-names (from f i (m - i))) ≡ length (f i .name) + length more = ap length g ∙ length-append (f i .name) more in
-          let v = h .used in
-          let w = ap length en′ in
-          record {
-            within = omega arith;
-            rows = h .rows ∙ rw (record-step f c at i m b, eo, row-same, en′, j) (sym (sets-append (rec-bytes at (f i) (c i)) rest out (i * 24)));
-            pool = h .pool ∙ rw (g, em, en′) (sym (sets-append (f i .name) more names at));
-            used = omega arith;
-            long = rw eo (length-sets out (i * 24) (source-row (l .base) (l .added) (getD xs i 0) (getD is i 0) (getD ks i 0) at)) ∙ h .long;
-            long-names = rw em (length-sets names at name) ∙ h .long-names;
-          }
+        pub names-room : at + length name ≤ length names
+        names-room = let a = name-room in let b = h .room-names in omega arith
 
-    pub write-ends : m ≤ i → Written (plan-fields l xs is ks m) out₀ names₀ at out names
+        pub write-goes : (out′ names′ : List ℕ) → out′ ≡ sets out (i * 24) (planned-row l plan i at) → names′ ≡ sets names at name
+            → Going l plan m out₀ names₀ (i + 1) (at + length name) out′ names′
+        write-goes out′ names′ eo em =
+            let f = fields l plan in
+            let c = kids plan in
+            let row = row-source l (getD (sources plan) i 0) (getD (numbers plan) i 0) (getD (members plan) i 0) at source-sits in
+            let g = name-step f i m b in
+            let j : (i + 1) * 24 ≡ i * 24 + length (rec-bytes at (f i) (c i)) = let e = row-length at (f i) (c i) in omega arith in
+            let rest = encode-records (at + length (f i .name)) (from f (i + 1) (m - (i + 1))) (from c (i + 1) (m - (i + 1))) in
+            let more = encode-names (from f (i + 1) (m - (i + 1))) in
+            let u : length (encode-names (from f i (m - i))) ≡ length (f i .name) + length more = ap length g ∙ length-append (f i .name) more in
+            let v = h .used in
+            let w = ap length name-same in
+            let y : length out′ ≡ length out = rw eo (length-sets out (i * 24) (planned-row l plan i at)) in
+            let z : length names′ ≡ length names = rw em (length-sets names at name) in
+            let o = h .room in
+            let n = h .room-names in
+            record {
+              reads = h .reads;
+              room = omega arith;
+              room-names = omega arith;
+              within = omega arith;
+              small = name-room;
+              rows = h .rows ∙ rw (record-step f c at i m b, eo, row, name-same, j) (sym (sets-append (rec-bytes at (f i) (c i)) rest out (i * 24)));
+              pool = h .pool ∙ rw (g, em, name-same) (sym (sets-append (f i .name) more names at));
+              used = omega arith;
+              long = y ∙ h .long;
+              long-names = z ∙ h .long-names;
+            }
+
+    pub write-ends : m ≤ i → Written (fields-in l plan m) out₀ names₀ at out names
     unfolding record-bytes pool-bytes encode-records encode-names
     write-ends b =
-        let t = plan-fields l xs is ks m in
-        let f = field-in l xs is in
-        let c = kids-in ks in
-        let s = ready .0 .shaped in
-        let ef = fields-order ks m s l xs is in
-        let ec = fields-counts ks m s l xs is in
+        let t = fields-in l plan m in
+        let f = fields l plan in
+        let c = kids plan in
+        let s = h .reads .shaped in
+        let ef = fields-order plan m s l in
+        let ec = fields-counts plan m s l in
         let df = from-done f i m b in
         let ro : sets out₀ 0 (encode-records 0 (from f 0 m) (from c 0 m)) ≡ out = rw df at (h .rows) in
         let po : sets names₀ 0 (encode-names (from f 0 m)) ≡ names = rw df at (h .pool) in
         let us : length (encode-names (from f 0 m)) ≡ at + 0 = rw df at (h .used) in
         let rl : length (encode-records 0 (preorder t) (counts t)) ≡ size t * 24 = length-records 0 t in
-        let ss = fields-size ks m s l xs is in
+        let ss = fields-size plan m s l in
         let nn = names-small in
-        let fw = ready .0 .few in
-        let r₁ = ready .1 in
-        let r₂ = ready .2 in
+        let fw = h .reads .few in
+        let r₁ = h .room in
+        let r₂ = h .room-names in
+        let l₁ = h .long in
+        let l₂ = h .long-names in
         record {
           rows = sym ro ∙ rw (ef, ec) (sets-front (encode-records 0 (from f 0 m) (from c 0 m)) out₀ (let z = rw (ef, ec) at rl in omega arith));
           pool = sym po ∙ rw ef (sets-front (encode-names (from f 0 m)) names₀ (omega arith));
           bytes = rw ef (omega arith);
         }
+
+pub ruleset writing = (write-starts, source-sits, names-room, write-goes, write-ends)

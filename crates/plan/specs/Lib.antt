@@ -1,3 +1,4 @@
 pub mod Plan
 pub mod Draft
 pub mod Sources
+pub mod Table

@@ -5,15 +5,14 @@ use mathlib.Core.Bool.{Bool, cond}
 use mathlib.Core.List.{List, _++_}
 use lib.Dec.{ltb, leb}
 use lib.ListN.{length, getD, drop}
-use lib.Seq.{sets}
 use Rattle.paper.specs.declared.Kind.{Kind}
 use Rattle.paper.specs.Forest.{Forest}
 use Rattle.paper.specs.Field.{Field}
 use Rattle.paper.specs.Sound.{name-bytes}
-use Rattle.paper.specs.Bytes.{rec-at, kind-at, kids-at, from}
+use Rattle.paper.specs.Bytes.{rec-at, kind-at}
 use Rattle.paper.specs.Encode.{kind-byte, row24, record-bytes, pool-bytes}
-use Rattle.tree.specs.Read.{itself}
-use Rattle.plan.specs.Plan.{lent, plan-fields}
+use Rattle.record.specs.Trees.{lent-trees}
+use Rattle.plan.specs.Plan.{Source, plan-fields}
 use Rattle.plan.specs.Draft.{Draft}
 
 unfoldable pub source-kind : (base added : List ℕ) → ℕ → Kind
@@ -24,7 +23,7 @@ source-len base added x = cond (ltb x 1024) (rec-at base x .name-len) (rec-at ad
 
 -- The record at a slot of a list, with another id, count and name offset.
 unfoldable pub row-of : List ℕ → (k id kids at : ℕ) → List ℕ
-row-of s k id kids at = row24 id at (rec-at s k .name-len) (kind-byte (kind-at s k)) (rec-at s k .flags) kids (rec-at s k .code) (rec-at s k .attribute)
+row-of records k id kids at = row24 id at (rec-at records k .name-len) (kind-byte (kind-at records k)) (rec-at records k .flags) kids (rec-at records k .code) (rec-at records k .attribute)
 
 unfoldable pub source-row : (base added : List ℕ) → (x id kids at : ℕ) → List ℕ
 source-row base added x id kids at = cond (ltb x 1024) (row-of base x id kids at) (row-of added (x - 1024) id kids at)
@@ -41,16 +40,14 @@ pub record Inside (base added xs : List ℕ) (m : ℕ) : Type 0 where
 
 -- The test of a draft's name sum: it asks the name lengths alone, so any pools, ids and counts may go with them.
 pub record Summed (base added xs : List ℕ) (m : ℕ) (r : Bool) : Type 0 where
-  pub says : (pool request is ks : List ℕ) → Draft (lent pool base request added) xs is ks m → r ≡ leb (name-bytes (plan-fields (lent pool base request added) xs is ks m)) 32768
+  pub says : (pool request is ks : List ℕ) → Draft (lent-trees base pool added request) xs is ks m → r ≡ leb (name-bytes (plan-fields (lent-trees base pool added request) xs is ks m)) 32768
 
--- The n records of a list as a plan of themselves.
+-- A record of a list as its own source.
 abbrev pub id-bits : List ℕ → ℕ → ℕ
-id-bits s k = rec-at s k .id
+id-bits records k = rec-at records k .id
 
-pub record Taken (s : List ℕ) (n : ℕ) (xs is ks xs′ is′ ks′ : List ℕ) : Type 0 where
-  pub slots : xs′ ≡ sets xs 0 (from itself 0 n)
-  pub ids : is′ ≡ sets is 0 (from (id-bits s) 0 n)
-  pub kids : ks′ ≡ sets ks 0 (from (kids-at s) 0 n)
+abbrev pub own-source : List ℕ → ℕ → Source
+own-source records k = record { slot = k; id = id-bits records k }
 
 -- What the writer leaves in the two buffers, and the name bytes that it used.
 pub record Written (t : Forest Field) (records names : List ℕ) (used : ℕ) (records′ names′ : List ℕ) : Type 0 where

@@ -1,8 +1,12 @@
 // Plans: planned records, their names as parts of one of two pools, and the one writer.
 use paper::Kind;
+use record::ADDED_RECORDS;
+use record::POOL;
+use record::RECORDS;
+use record::REQUEST_POOL;
+use record::Trees;
 use record::attribute_at;
 use record::code_at;
-use record::count_of;
 use record::flags_at;
 use record::id_bits_at;
 use record::kids_at;
@@ -12,84 +16,127 @@ use record::name_len_at;
 use record::word_bytes;
 ghost use mathlib.Core.Path.{_≡_};
 ghost use Prim.Native.Nat.{_+_, _-_, _*_, _≤_, _<_};
-ghost use lib.ListN.{length};
+ghost use lib.ListN.{length, getD};
 ghost use lib.Seq.{sets};
 ghost use Rattle.paper.specs.Bytes.{rec-at};
 ghost use Rattle.paper.specs.Encode.{kind-byte, row24};
-ghost use Rattle.plan.specs.Plan.{lent, source-field, plan-fields, Sits, Plan};
-ghost use Rattle.plan.specs.Sources.{source-kind, source-len, row-of, source-row, In, Inside, Summed, Taken, Written};
+ghost use Rattle.record.specs.Trees.{trees-in, slice-at};
+ghost use Rattle.plan.specs.Plan.{source-field, Sits};
+ghost use Rattle.plan.specs.Sources.{source-kind, source-len, row-of, source-row, In, Summed, Written};
+ghost use Rattle.plan.specs.Table.{sources, PlanIn, fields-in, InsideIn, planned-row, planned-at, CopiedIn, TakenIn};
 
-// The base as a plan of itself: each place holds its own slot, id and count; the arrays' rest stays.
-pub fn take_base(
-    base: &[u8],
-    n: usize,
-    slots: &mut [u16; 1024],
-    ids: &mut [u32; 1024],
-    kids: &mut [u16; 1024],
-)
-    requires { ⌜ (n * 24 ≤ length (now base)) × (n ≤ 1024) ⌝ }
-    ensures { λ r. ⌜ Taken (now (base .entry)) n (now (slots .entry)) (now (ids .entry)) (now (kids .entry)) (now (slots .exit)) (now (ids .exit)) (now (kids .exit)) ⌝ }
+// A plan's rows: where each planned record comes from, its id as 32 bits, how many members it has. A source below 1,024 is a slot of
+// the base, one from 1,024 on a slot of the additions tree.
+pub type PlanRows = [[u32; 1024]; 3];
+
+pub const SOURCES: usize = 0;
+
+pub const NUMBERS: usize = 1;
+
+pub const MEMBERS: usize = 2;
+
+// A record planned at a place; the other places stay.
+pub fn put_planned(plan: &mut PlanRows, at: usize, source: u32, id: u32, members: u32)
+    requires { ⌜ (at < 1024) × (length (now plan) ≡ 3) ⌝ }
+    ensures { λ r. ⌜ now (plan .exit) ≡ planned-at (now (plan .entry)) at source id members ⌝ }
+{
+    plan[SOURCES][at] = source;
+    plan[NUMBERS][at] = id;
+    plan[MEMBERS][at] = members;
+}
+
+// So many records of a list from a slot on, planned as they stand from place `at` on; the rest of the rows stays.
+pub fn copy_records(records: &[u8], slot: usize, count: usize, plan: &mut PlanRows, at: usize)
+    requires { ⌜ ((slot + count) * 24 ≤ length (now records)) × (slot + count ≤ 1024)
+        × (at + count ≤ 1024) × (length (now plan) ≡ 3) ⌝ }
+    ensures { λ r. ⌜ CopiedIn (now (records .entry)) slot count (now (plan .entry)) at
+        (now (plan .exit)) ⌝ }
 {
     let mut i = 0;
-    while i < n {
-        slots[i] = i as u16;
-        ids[i] = id_bits_at(base, i);
-        kids[i] = kids_at(base, i) as u16;
+    while i < count {
+        let k = slot + i;
+        put_planned(
+            plan,
+            at + i,
+            k as u32,
+            id_bits_at(records, k),
+            kids_at(records, k),
+        );
         i += 1;
     }
 }
 
-// A planned record's kind.
-pub fn planned_kind(base: &[u8], added: &[u8], source: u16) -> Kind
-    requires { ⌜ In (now base) (now added) source ⌝ }
-    ensures { λ r. ⌜ r ≡ source-kind (now (base .entry)) (now (added .entry)) source ⌝ }
+// The base as a plan of itself: each place holds its own slot, id and count; the rest of the rows stays.
+pub fn take_base(records: &[u8], n: usize, plan: &mut PlanRows)
+    requires { ⌜ (n * 24 ≤ length (now records)) × (n ≤ 1024) × (length (now plan) ≡ 3) ⌝ }
+    ensures { λ r. ⌜ TakenIn (now (records .entry)) n (now (plan .entry)) (now (plan .exit)) ⌝ }
 {
+    copy_records(records, 0, n, plan, 0);
+}
+
+// A planned record's kind.
+pub fn planned_kind<'a>(trees: &Trees<'a>, source: u32) -> Kind
+    requires { ⌜ In (trees-in (now trees) .records) (trees-in (now trees) .added-records) source ⌝ }
+    ensures { λ r. ⌜ r ≡ source-kind (trees-in (now (trees .entry)) .records)
+        (trees-in (now (trees .entry)) .added-records) source ⌝ }
+{
+    let records = trees[RECORDS];
+    let added = trees[ADDED_RECORDS];
     let k = source as usize;
     if k < 1024 {
-        return kind_at(base, k);
+        return kind_at(records, k);
     }
     kind_at(added, k - 1024)
 }
 
 // The length of a planned record's name.
-pub fn planned_name_len(base: &[u8], added: &[u8], source: u16) -> usize
-    requires { ⌜ In (now base) (now added) source ⌝ }
-    ensures { λ r. ⌜ (r ≡ source-len (now (base .entry)) (now (added .entry)) source) × (r ≤ 255) ⌝ }
+pub fn planned_name_len<'a>(trees: &Trees<'a>, source: u32) -> usize
+    requires { ⌜ In (trees-in (now trees) .records) (trees-in (now trees) .added-records) source ⌝ }
+    ensures { λ r. ⌜ (r ≡ source-len (trees-in (now (trees .entry)) .records)
+        (trees-in (now (trees .entry)) .added-records) source) × (r ≤ 255) ⌝ }
 {
+    // both are read before the choice, so that a loop need not read them each time
+    let records = trees[RECORDS];
+    let added = trees[ADDED_RECORDS];
     let k = source as usize;
     if k < 1024 {
-        return name_len_at(base, k);
+        return name_len_at(records, k);
     }
     name_len_at(added, k - 1024)
 }
 
 // A planned record's name: a part of the base pool or of the request pool, whichever it came from.
-pub fn planned_name<'a>(
-    pool: &'a [u8],
-    base: &[u8],
-    request: &'a [u8],
-    added: &[u8],
-    source: u16,
-) -> &'a [u8]
-    requires { ⌜ Sits (lent (now pool) (now base) (now request) (now added)) source ⌝ }
-    ensures { λ r. ⌜ (now r ≡ source-field (lent (now (pool .entry)) (now (base .entry)) (now (request .entry)) (now (added .entry))) source .name) × (source < 1024 → (r .ptr .0 ≡ pool .entry .ptr .0) × (r .ptr .1 ≡ pool .entry .ptr .1 + rec-at (now (base .entry)) source .name-at)) × (1024 ≤ source → (r .ptr .0 ≡ request .entry .ptr .0) × (r .ptr .1 ≡ request .entry .ptr .1 + rec-at (now (added .entry)) (source - 1024) .name-at)) ⌝ }
+pub fn planned_name<'a>(trees: &Trees<'a>, source: u32) -> &'a [u8]
+    requires { ⌜ Sits (trees-in (now trees)) source ⌝ }
+    ensures { λ r. ⌜ (now r ≡ source-field (trees-in (now (trees .entry))) source .name)
+        × (source < 1024 → (r .ptr .0 ≡ slice-at (now (trees .entry)) 1 .ptr .0)
+        × (r .ptr .1 ≡ slice-at (now (trees .entry)) 1 .ptr .1
+        + rec-at (trees-in (now (trees .entry)) .records) source .name-at))
+        × (1024 ≤ source → (r .ptr .0 ≡ slice-at (now (trees .entry)) 3 .ptr .0)
+        × (r .ptr .1 ≡ slice-at (now (trees .entry)) 3 .ptr .1
+        + rec-at (trees-in (now (trees .entry)) .added-records) (source - 1024) .name-at)) ⌝ }
 {
+    let records = trees[RECORDS];
+    let pool = trees[POOL];
+    let added = trees[ADDED_RECORDS];
+    let request_pool = trees[REQUEST_POOL];
     let k = source as usize;
     if k < 1024 {
-        return name_at(pool, base, k);
+        return name_at(pool, records, k);
     }
-    name_at(request, added, k - 1024)
+    name_at(request_pool, added, k - 1024)
 }
 
 // Whether the names of the m planned records are within the limit, one of the three that refusal 19 reports.
-pub fn names_fit(base: &[u8], added: &[u8], slots: &[u16; 1024], m: usize) -> bool
-    requires { ⌜ Inside (now base) (now added) (now slots) m ⌝ }
-    ensures { λ r. ⌜ Summed (now (base .entry)) (now (added .entry)) (now (slots .entry)) m r ⌝ }
+pub fn names_fit<'a>(trees: &Trees<'a>, plan: &PlanRows, m: usize) -> bool
+    requires { ⌜ InsideIn (trees-in (now trees)) (now plan) m ⌝ }
+    ensures { λ r. ⌜ Summed (trees-in (now (trees .entry)) .records)
+        (trees-in (now (trees .entry)) .added-records) (sources (now (plan .entry))) m r ⌝ }
 {
     let mut i = 0;
     let mut sum = 0;
     while i < m {
-        sum += planned_name_len(base, added, slots[i]);
+        sum += planned_name_len(trees, plan[SOURCES][i]);
         i += 1;
     }
     sum <= 32768
@@ -154,7 +201,7 @@ fn row_bytes(
 }
 
 // A record of a list with another id, name offset and number of members.
-fn changed_bytes(recs: &[u8], slot: usize, id: u32, kids: u16, at: u32) -> [u8; 24]
+fn changed_bytes(recs: &[u8], slot: usize, id: u32, kids: u32, at: u32) -> [u8; 24]
     requires { ⌜ slot * 24 + 24 ≤ length (now recs) ⌝ }
     ensures { λ r. ⌜ r ≡ row-of (now (recs .entry)) slot id kids at ⌝ }
 {
@@ -164,22 +211,23 @@ fn changed_bytes(recs: &[u8], slot: usize, id: u32, kids: u16, at: u32) -> [u8; 
         name_len_at(recs, slot) as u8,
         kind_byte(kind_at(recs, slot)),
         flags_at(recs, slot),
-        count_of(kids),
+        kids,
         code_at(recs, slot),
         attribute_at(recs, slot),
     )
 }
 
 // A planned record's 24 bytes, its name at offset `at` of the answer.
-fn planned_bytes(base: &[u8], added: &[u8], source: u16, id: u32, kids: u16, at: u32) -> [u8; 24]
-    requires { ⌜ In (now base) (now added) source ⌝ }
-    ensures { λ r. ⌜ r ≡ source-row (now (base .entry)) (now (added .entry)) source id kids at ⌝ }
+fn planned_bytes<'a>(trees: &Trees<'a>, source: u32, id: u32, kids: u32, at: u32) -> [u8; 24]
+    requires { ⌜ Sits (trees-in (now trees)) source ⌝ }
+    ensures { λ r. ⌜ r ≡ source-row (trees-in (now (trees .entry)) .records)
+        (trees-in (now (trees .entry)) .added-records) source id kids at ⌝ }
 {
     let k = source as usize;
     if k < 1024 {
-        return changed_bytes(base, k, id, kids, at);
+        return changed_bytes(trees[RECORDS], k, id, kids, at);
     }
-    changed_bytes(added, k - 1024, id, kids, at)
+    changed_bytes(trees[ADDED_RECORDS], k - 1024, id, kids, at)
 }
 
 // The bytes of `src` into `out` from `at` on; the rest of `out` stays.
@@ -195,55 +243,42 @@ pub fn put_bytes(out: &mut [u8], at: usize, src: &[u8])
     }
 }
 
-// A planned record into place i of the records; the rest of them stays.
-fn put_record(
-    base: &[u8],
-    added: &[u8],
-    source: u16,
-    id: u32,
-    kids: u16,
-    at: u32,
-    out: &mut [u8],
-    i: usize,
-)
-    requires { ⌜ In (now base) (now added) source × (i < 1024) × (24576 ≤ length (now out)) ⌝ }
-    ensures { λ r. ⌜ now (out .exit) ≡ sets (now (out .entry)) (i * 24) (source-row (now (base .entry)) (now (added .entry)) source id kids at) ⌝ }
+// The planned record i into its place among the records; the rest of them stays.
+fn put_record<'a>(trees: &Trees<'a>, plan: &PlanRows, i: usize, at: u32, out: &mut [u8])
+    requires { ⌜ Sits (trees-in (now trees)) (getD (sources (now plan)) i 0) × (i < 1024)
+        × (24576 ≤ length (now out)) ⌝ }
+    ensures { λ r. ⌜ now (out .exit) ≡ sets (now (out .entry)) (i * 24)
+        (planned-row (trees-in (now (trees .entry))) (now (plan .entry)) i at) ⌝ }
 {
-    let row = planned_bytes(base, added, source, id, kids, at);
+    let row = planned_bytes(
+        trees,
+        plan[SOURCES][i],
+        plan[NUMBERS][i],
+        plan[MEMBERS][i],
+        at,
+    );
     put_bytes(out, i * 24, &row);
 }
 
 // The one writer: a plan's records, and their names packed from offset 0; bytes beyond stay. Answers how many name bytes there are.
 pub fn write_plan<'a>(
-    pool: &'a [u8],
-    base: &[u8],
-    request: &'a [u8],
-    added: &[u8],
-    slots: &[u16; 1024],
-    ids: &[u32; 1024],
-    kids: &[u16; 1024],
+    trees: &Trees<'a>,
+    plan: &PlanRows,
     m: usize,
     out_records: &mut [u8],
     out_names: &mut [u8],
 ) -> usize
-    requires { ⌜ Plan (lent (now pool) (now base) (now request) (now added)) (now slots) (now ids) (now kids) m × (24576 ≤ length (now «out_records»)) × (32768 ≤ length (now «out_names»)) ⌝ }
-    ensures { λ r. ⌜ Written (plan-fields (lent (now (pool .entry)) (now (base .entry)) (now (request .entry)) (now (added .entry))) (now (slots .entry)) (now (ids .entry)) (now (kids .entry)) m) (now («out_records» .entry)) (now («out_names» .entry)) r (now («out_records» .exit)) (now («out_names» .exit)) ⌝ }
+    requires { ⌜ PlanIn (trees-in (now trees)) (now plan) m × (24576 ≤ length (now «out_records»))
+        × (32768 ≤ length (now «out_names»)) ⌝ }
+    ensures { λ r. ⌜ Written (fields-in (trees-in (now (trees .entry))) (now (plan .entry)) m)
+        (now («out_records» .entry)) (now («out_names» .entry)) r
+        (now («out_records» .exit)) (now («out_names» .exit)) ⌝ }
 {
     let mut i = 0;
     let mut at = 0;
     while i < m {
-        let source = slots[i];
-        put_record(
-            base,
-            added,
-            source,
-            ids[i],
-            kids[i],
-            at as u32,
-            out_records,
-            i,
-        );
-        let name = planned_name(pool, base, request, added, source);
+        put_record(trees, plan, i, at as u32, out_records);
+        let name = planned_name(trees, plan[SOURCES][i]);
         put_bytes(out_names, at, name);
         at += name.len();
         i += 1;

@@ -3,8 +3,6 @@ use Rattle.index.proofs.Looking.{placing}
 use borrow.Author.Needs.{needs}
 use Rattle.index.proofs.found_at.Statement.{statement}
 use Rattle.index.proofs.found_at.Tie as tie
-use Rattle.index.proofs.found_at.Reads as reads
-use Rattle.index.proofs.found_at.Lts as lts
 
 pub found-at-spec : {M : Type 1} → statement M
 found-at-spec = tie.close (tie.spec

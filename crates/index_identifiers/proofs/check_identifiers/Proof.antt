@@ -1,15 +1,16 @@
 -- The identifiers below i were found, and what is left gives the whole answer.
 use Prim.Native.Nat.{_-_}
+use Rattle.plan.specs.Table.{numbers}
 use Rattle.index_identifiers.proofs.Naming.{Naming, nine}
 use borrow.Author.Needs.{needs}
 use Rattle.index_identifiers.proofs.check_identifiers.Statement.{statement}
 use Rattle.index_identifiers.proofs.check_identifiers.Tie as tie
 
 abbrev Inv-loop : tie.InvT-loop
-Inv-loop identifiers ids m heads next n i₀ i = Naming identifiers ids m n i
+Inv-loop identifiers plan m index n i₀ i = Naming identifiers (numbers plan) m n i
 
 abbrev μ-loop : tie.MeasureT-loop
-μ-loop identifiers ids m heads next n i₀ i = n - i
+μ-loop identifiers plan m index n i₀ i = n - i
 
 pub check-identifiers-spec : {M : Type 1} → statement M
 check-identifiers-spec =

@@ -3,8 +3,6 @@ use Rattle.index_ids.proofs.IdLaws.{ids}
 use borrow.Author.Needs.{needs}
 use Rattle.index_ids.proofs.bucket_of.Statement.{statement}
 use Rattle.index_ids.proofs.bucket_of.Tie as tie
-use Rattle.index_ids.proofs.bucket_of.Reads as reads
-use Rattle.index_ids.proofs.bucket_of.Lts as lts
 
 pub bucket-of-spec : {M : Type 1} → statement M
 bucket-of-spec = tie.close (tie.spec

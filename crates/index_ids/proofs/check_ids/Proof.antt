@@ -1,21 +1,17 @@
 -- The slots below k stand in chains, and what is left to test gives the whole answer.
-use Rattle.index_ids.proofs.IdLaws.{Checking}
 use Prim.Native.Nat.{_-_}
-use Rattle.index_ids.proofs.IdLaws.{checking}
+use Rattle.plan.specs.Table.{numbers}
+use Rattle.index_ids.proofs.Tables.{rooms-wide}
+use Rattle.index_ids.proofs.IdLaws.{Checking, checking, checking-goes}
 use borrow.Author.Needs.{needs}
 use Rattle.index_ids.proofs.check_ids.Statement.{statement}
 use Rattle.index_ids.proofs.check_ids.Tie as tie
-use Rattle.index_ids.proofs.check_ids.Reads as reads
-use Rattle.index_ids.proofs.check_ids.Lts as lts
-use Rattle.index_ids.proofs.bucket_of.Reads as bucket-of-reads
-use Rattle.index_ids.proofs.enter.Reads as enter-reads
-use Rattle.index_ids.proofs.is_new.Reads as is-new-reads
 
 abbrev Inv-loop : tie.InvT-loop
-Inv-loop ids m list heads₀ next₀ k₀ heads next k = Checking ids m heads next k
+Inv-loop plan m list index₀ k₀ index k = Checking (numbers plan) m index₀ index k
 
 abbrev μ-loop : tie.MeasureT-loop
-μ-loop ids m list heads₀ next₀ k₀ heads next k = m - k
+μ-loop plan m list index₀ k₀ index k = m - k
 
 pub check-ids-spec : {M : Type 1} → statement M
 check-ids-spec =
@@ -23,16 +19,19 @@ check-ids-spec =
     (tie.spec
     Inv-loop
     μ-loop
+    (λ c. search (checking, needs))  -- index-1-clear
+    (λ c κs. search (rooms-wide, needs))  -- clear-requires
     (λ c. search (checking, needs))  -- loop-holds
     (λ c. search (checking, needs))  -- mul-id
-    (λ c. search (checking, needs))  -- element-copy-out-id
+    (λ c. search (checking, needs))  -- index-1-id
+    (λ c. search (checking, needs))  -- index-2-id
     (λ c κs. search (checking, needs))  -- is-new-requires
-    (λ c. search (checking, needs))  -- cast-t16
+    (λ c. search (checking, needs))  -- cast-t20
     (λ c. search (checking, needs))  -- returns
     (λ c κs. search (checking, needs))  -- bucket-of-requires
     (λ c κs. search (checking, needs))  -- enter-requires
     (λ c. search (checking, needs))  -- add-k
     (λ c. search (checking, needs))  -- loop-less
-    (λ c. search (checking, needs))  -- loop-again
+    (λ c. checking-goes _ _ _ _ _ _ _ _ (c .enter .ensures) (search needs) (search needs) (search needs) (c .before .before .before .before .is-new .ensures) (search needs) (search needs) (search needs))  -- loop-again
     (λ c. search (checking, needs))  -- returns-2
     )

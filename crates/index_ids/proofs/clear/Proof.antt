@@ -5,8 +5,6 @@ use Rattle.index_ids.proofs.IdLaws.{clearing}
 use borrow.Author.Needs.{needs}
 use Rattle.index_ids.proofs.clear.Statement.{statement}
 use Rattle.index_ids.proofs.clear.Tie as tie
-use Rattle.index_ids.proofs.clear.Reads as reads
-use Rattle.index_ids.proofs.clear.Lts as lts
 
 abbrev Inv-loop : tie.InvT-loop
 Inv-loop heads₀ b₀ heads b = Clearing heads b

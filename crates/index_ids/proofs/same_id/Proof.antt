@@ -3,8 +3,6 @@ use Rattle.index_ids.proofs.IdLaws.{ids}
 use borrow.Author.Needs.{needs}
 use Rattle.index_ids.proofs.same_id.Statement.{statement}
 use Rattle.index_ids.proofs.same_id.Tie as tie
-use Rattle.index_ids.proofs.same_id.Reads as reads
-use Rattle.index_ids.proofs.same_id.Lts as lts
 
 pub same-id-spec : {M : Type 1} → statement M
 same-id-spec = tie.close (tie.spec

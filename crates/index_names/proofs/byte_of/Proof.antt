@@ -3,10 +3,6 @@ use Rattle.index_names.proofs.Spelling.{byting}
 use borrow.Author.Needs.{needs}
 use Rattle.index_names.proofs.byte_of.Statement.{statement}
 use Rattle.index_names.proofs.byte_of.Tie as tie
-use Rattle.index_names.proofs.byte_of.Reads as reads
-use Rattle.index_names.proofs.byte_of.Lts as lts
-use Rattle.index_names.proofs.name_of.Reads as name-of-reads
-use Rattle.index_names.proofs.start_of.Reads as start-of-reads
 
 pub byte-of-spec : {M : Type 1} → statement M
 byte-of-spec = tie.close (tie.spec

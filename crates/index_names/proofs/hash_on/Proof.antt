@@ -7,9 +7,6 @@ use Rattle.index_names.proofs.Hashing.{hashing}
 use borrow.Author.Needs.{needs}
 use Rattle.index_names.proofs.hash_on.Statement.{statement}
 use Rattle.index_names.proofs.hash_on.Tie as tie
-use Rattle.index_names.proofs.hash_on.Reads as reads
-use Rattle.index_names.proofs.hash_on.Lts as lts
-use Rattle.index_names.proofs.mixed.Reads as mixed-reads
 
 abbrev Inv-loop : tie.InvT-loop
 Inv-loop name seed h₀ i₀ h i = (i ≤ length name) × (hash-on seed name ≡ hash-on h (drop i name))

@@ -4,8 +4,6 @@ use Rattle.index_names.proofs.Hashing.{hashing}
 use borrow.Author.Needs.{needs}
 use Rattle.index_names.proofs.mixed.Statement.{statement}
 use Rattle.index_names.proofs.mixed.Tie as tie
-use Rattle.index_names.proofs.mixed.Reads as reads
-use Rattle.index_names.proofs.mixed.Lts as lts
 
 pub mixed-spec : {M : Type 1} → statement M
 unfolding mix

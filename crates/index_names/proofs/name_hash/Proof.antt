@@ -3,10 +3,6 @@ use Rattle.index_names.proofs.Naming.{sourced}
 use borrow.Author.Needs.{needs}
 use Rattle.index_names.proofs.name_hash.Statement.{statement}
 use Rattle.index_names.proofs.name_hash.Tie as tie
-use Rattle.index_names.proofs.name_hash.Reads as reads
-use Rattle.index_names.proofs.name_hash.Lts as lts
-use Rattle.index_names.proofs.hash_on.Reads as hash-on-reads
-use Rattle.index_names.proofs.name_of.Reads as name-of-reads
 
 pub name-hash-spec : {M : Type 1} → statement M
 name-hash-spec = tie.close (tie.spec

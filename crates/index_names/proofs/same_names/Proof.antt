@@ -1,26 +1,60 @@
--- Siblings have one prefix; others are compared byte by byte.
-use Rattle.index_names.proofs.Spelling.{siblings-same}
+-- The two names are equal exactly where those at or above them, at s and t, are.
+use Rattle.record.specs.Trees.{trees-in}
+use Rattle.index_ids.specs.Table.{ups-in}
+use Rattle.index_names.specs.Table.{names-in}
+use Rattle.index_names.proofs.Spelling.{Climbing, climbing}
 use borrow.Author.Needs.{needs}
 use Rattle.index_names.proofs.same_names.Statement.{statement}
 use Rattle.index_names.proofs.same_names.Tie as tie
-use Rattle.index_names.proofs.same_names.Reads as reads
-use Rattle.index_names.proofs.same_names.Lts as lts
-use Rattle.index_names.proofs.name_of.Reads as name-of-reads
-use Rattle.index_names.proofs.same_apart.Reads as same-apart-reads
-use Rattle.record.proofs.equal.Reads as equal-reads
+
+abbrev Inv-loop : tie.InvT-loop
+Inv-loop trees plan m index a b s₀ t₀ u₀ v₀ s t u v = Climbing (names-in (trees-in trees) plan) (ups-in index) m a b s t u v
+
+abbrev μ-loop : tie.MeasureT-loop
+μ-loop trees plan m index a b s₀ t₀ u₀ v₀ s t u v = s
 
 pub same-names-spec : {M : Type 1} → statement M
 same-names-spec =
     tie.close
     (tie.spec
-    (λ c. search needs)  -- mul-if1
-    (λ c. search needs)  -- element-copy-out-if1
-    (λ c. search needs)  -- mul-if1-2
-    (λ c. search needs)  -- element-copy-out-if1-2
-    (λ c κs. search needs)  -- same-apart-requires
-    (λ c. search needs)  -- returns
-    (λ c κs. search needs)  -- name-of-requires
-    (λ c κs. search needs)  -- name-of-requires-2
-    (λ c κs. search needs)  -- equal-requires
-    (λ c. let p = c .before .before .before .before .before .before .before .before .before .before .pre in siblings-same _ _ _ _ _ _ _ _ _ _ (p .1 .1) (p .0) (p .1 .0) (c .before .before .before .if1 .left) (c .before .before .name-of .ensures) (c .before .name-of2 .ensures) (c .equal .ensures))  -- returns-2
+    Inv-loop
+    μ-loop
+    (λ c. search (climbing, needs))  -- mul-if1
+    (λ c. search (climbing, needs))  -- index-1-if1
+    (λ c. search (climbing, needs))  -- index-2-if1
+    (λ c. search (climbing, needs))  -- mul-if1-2
+    (λ c. search (climbing, needs))  -- index-1-if1-2
+    (λ c. search (climbing, needs))  -- index-2-if1-2
+    (λ c. search (climbing, needs))  -- returns
+    (λ c. search (climbing, needs))  -- mul-place
+    (λ c. search (climbing, needs))  -- index-1-place
+    (λ c. search (climbing, needs))  -- index-2-place
+    (λ c κs. search (climbing, needs))  -- place-requires
+    (λ c. search (climbing, needs))  -- mul-place-2
+    (λ c. search (climbing, needs))  -- index-1-place-2
+    (λ c. search (climbing, needs))  -- index-2-place-2
+    (λ c κs. search (climbing, needs))  -- place-requires-2
+    (λ c. search (climbing, needs))  -- loop-holds
+    (λ c κs. search (climbing, needs))  -- name-of-requires
+    (λ c κs. search (climbing, needs))  -- name-of-requires-2
+    (λ c κs. search (climbing, needs))  -- same-apart-requires
+    (λ c. search (climbing, needs))  -- returns-2
+    (λ c κs. search (climbing, needs))  -- equal-requires
+    (λ c. search (climbing, needs))  -- returns-3
+    (λ c. search (climbing, needs))  -- sub-s
+    (λ c. search (climbing, needs))  -- sub-t
+    (λ c. search (climbing, needs))  -- mul-place-3
+    (λ c. search (climbing, needs))  -- index-1-place-3
+    (λ c. search (climbing, needs))  -- index-2-place-3
+    (λ c κs. search (climbing, needs))  -- place-requires-3
+    (λ c. search (climbing, needs))  -- mul-place-4
+    (λ c. search (climbing, needs))  -- index-1-place-4
+    (λ c. search (climbing, needs))  -- index-2-place-4
+    (λ c κs. search (climbing, needs))  -- place-requires-4
+    (λ c. search (climbing, needs))  -- loop-less
+    (λ c. search (climbing, needs))  -- loop-again
+    (λ c κs. search (climbing, needs))  -- name-of-requires-3
+    (λ c κs. search (climbing, needs))  -- name-of-requires-4
+    (λ c κs. search (climbing, needs))  -- equal-requires-2
+    (λ c. search (climbing, needs))  -- returns-4
     )

@@ -3,8 +3,6 @@ use Rattle.index_short_names.proofs.Fitting.{small}
 use borrow.Author.Needs.{needs}
 use Rattle.index_short_names.proofs.deeper.Statement.{statement}
 use Rattle.index_short_names.proofs.deeper.Tie as tie
-use Rattle.index_short_names.proofs.deeper.Reads as reads
-use Rattle.index_short_names.proofs.deeper.Lts as lts
 
 pub deeper-spec : {M : Type 1} → statement M
 deeper-spec = tie.close (tie.spec

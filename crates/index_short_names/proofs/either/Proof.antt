@@ -3,8 +3,6 @@ use Rattle.index_short_names.proofs.Fitting.{small}
 use borrow.Author.Needs.{needs}
 use Rattle.index_short_names.proofs.either.Statement.{statement}
 use Rattle.index_short_names.proofs.either.Tie as tie
-use Rattle.index_short_names.proofs.either.Reads as reads
-use Rattle.index_short_names.proofs.either.Lts as lts
 
 pub either-spec : {M : Type 1} → statement M
 either-spec = tie.close (tie.spec

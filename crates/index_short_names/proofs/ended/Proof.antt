@@ -3,8 +3,6 @@ use Rattle.index_short_names.proofs.Fitting.{small}
 use borrow.Author.Needs.{needs}
 use Rattle.index_short_names.proofs.ended.Statement.{statement}
 use Rattle.index_short_names.proofs.ended.Tie as tie
-use Rattle.index_short_names.proofs.ended.Reads as reads
-use Rattle.index_short_names.proofs.ended.Lts as lts
 
 pub ended-spec : {M : Type 1} → statement M
 ended-spec = tie.close (tie.spec

@@ -7,8 +7,6 @@ use Rattle.index_short_names.proofs.Fitting.{fitting}
 use borrow.Author.Needs.{needs}
 use Rattle.index_short_names.proofs.fit.Statement.{statement}
 use Rattle.index_short_names.proofs.fit.Tie as tie
-use Rattle.index_short_names.proofs.fit.Reads as reads
-use Rattle.index_short_names.proofs.fit.Lts as lts
 
 abbrev Inv-loop : tie.InvT-loop
 Inv-loop name x pos i₀ at₀ i at = (i ≤ length name) × ((at ≡ pos + i) × (fits name (drop pos x) ≡ fits (drop i name) (drop at x)))

@@ -3,8 +3,6 @@ use Rattle.index_short_names.proofs.Fitting.{small}
 use borrow.Author.Needs.{needs}
 use Rattle.index_short_names.proofs.own_place.Statement.{statement}
 use Rattle.index_short_names.proofs.own_place.Tie as tie
-use Rattle.index_short_names.proofs.own_place.Reads as reads
-use Rattle.index_short_names.proofs.own_place.Lts as lts
 
 pub own-place-spec : {M : Type 1} → statement M
 own-place-spec = tie.close (tie.spec

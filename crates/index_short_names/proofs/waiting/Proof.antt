@@ -3,9 +3,6 @@ use Rattle.index_short_names.proofs.Fitting.{small}
 use borrow.Author.Needs.{needs}
 use Rattle.index_short_names.proofs.waiting.Statement.{statement}
 use Rattle.index_short_names.proofs.waiting.Tie as tie
-use Rattle.index_short_names.proofs.waiting.Reads as reads
-use Rattle.index_short_names.proofs.waiting.Lts as lts
-use Rattle.index_short_names.proofs.either.Reads as either-reads
 
 pub waiting-spec : {M : Type 1} → statement M
 waiting-spec = tie.close (tie.spec

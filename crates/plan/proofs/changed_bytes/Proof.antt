@@ -14,7 +14,6 @@ changed-bytes-spec =
     (λ c κs. search needs)  -- kind-at-requires
     (λ c κs. search needs)  -- kind-byte-requires
     (λ c κs. search needs)  -- flags-at-requires
-    (λ c κs. search needs)  -- count-of-requires
     (λ c κs. search needs)  -- code-at-requires
     (λ c κs. search needs)  -- attribute-at-requires
     (λ c κs. search needs)  -- row-bytes-requires

@@ -1,5 +1,5 @@
 -- The record's bytes, put at its place.
-use Rattle.plan.proofs.Sourcing.{sourcing}
+use Rattle.plan.proofs.Writing.{row-put}
 use borrow.Author.Needs.{needs}
 use Rattle.plan.proofs.put_record.Statement.{statement}
 use Rattle.plan.proofs.put_record.Tie as tie
@@ -8,10 +8,19 @@ pub put-record-spec : {M : Type 1} → statement M
 put-record-spec =
     tie.close
     (tie.spec
+    (λ c. search needs)  -- mul-planned-bytes
+    (λ c. search needs)  -- index-1-planned-bytes
+    (λ c. search needs)  -- index-2-planned-bytes
+    (λ c. search needs)  -- mul-planned-bytes-2
+    (λ c. search needs)  -- index-1-planned-bytes-2
+    (λ c. search needs)  -- index-2-planned-bytes-2
+    (λ c. search needs)  -- mul-planned-bytes-3
+    (λ c. search needs)  -- index-1-planned-bytes-3
+    (λ c. search needs)  -- index-2-planned-bytes-3
     (λ c κs. search needs)  -- planned-bytes-requires
     (λ c. search needs)  -- mul-put-bytes
     (λ c. search needs)  -- slice-aggregate-put-bytes
     (λ c κs. search needs)  -- put-bytes-requires
     (λ c. search needs)  -- same-length
-    (λ c. search (sourcing, needs))  -- returns
+    (λ c. search (row-put, needs))  -- returns
     )

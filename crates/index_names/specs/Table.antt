@@ -1,0 +1,50 @@
+-- The same, said of a plan's table and an index's.
+use Prim.Native.Nat.{ℕ}
+use mathlib.Core.List.{List}
+use Rattle.paper.specs.declared.Kind.{Kind}
+use Rattle.paper.specs.Layout.{Part}
+use Rattle.record.specs.declared.Check.{Check}
+use Rattle.record.specs.Trees.{Trees}
+use Rattle.plan.specs.Plan.{kids-in}
+use Rattle.plan.specs.Table.{sources, members}
+use Rattle.index_ids.specs.Chain.{Chained}
+use Rattle.index_ids.specs.Table.{ups-in, lens-in, tags-in, name-heads, name-next, Within}
+use Rattle.index_names.specs.Walk.{walk}
+use Rattle.index_names.specs.Full.{full-at}
+use Rattle.index_names.specs.Told.{name-in, kind-in, Sources, Marked, Spelt, Tagged, name-bucket, Unequal}
+
+abbrev pub names-in : Trees → (plan : List (List ℕ)) → ℕ → List ℕ
+names-in l plan = name-in l (sources plan)
+
+abbrev pub kinds-in : Trees → (plan : List (List ℕ)) → ℕ → Kind
+kinds-in l plan = kind-in l (sources plan)
+
+abbrev pub SourcesIn : Trees → (plan : List (List ℕ)) (m : ℕ) → Type 0
+SourcesIn l plan m = Sources l (sources plan) m
+
+-- The trees of a row, as far as there are levels and records.
+abbrev pub walk-in : (plan : List (List ℕ)) (m levels count slot : ℕ) → Part
+walk-in plan m = walk (kids-in (members plan)) m
+
+-- The full name of a slot.
+abbrev pub full-in : Trees → (plan index : List (List ℕ)) → ℕ → List ℕ
+full-in l plan index = full-at (names-in l plan) (ups-in index)
+
+abbrev pub SpeltIn : Trees → (plan : List (List ℕ)) (m : ℕ) (index : List (List ℕ)) → Type 0
+SpeltIn l plan m index = Spelt l (sources plan) m (ups-in index) (lens-in index)
+
+abbrev pub TaggedIn : Trees → (plan : List (List ℕ)) (m : ℕ) (index : List (List ℕ)) → Type 0
+TaggedIn l plan m index = Tagged l (sources plan) m (ups-in index) (tags-in index)
+
+abbrev pub NamesChained : Trees → (plan index : List (List ℕ)) (m : ℕ) → Type 0
+NamesChained l plan index m = Chained (name-bucket l (sources plan) (ups-in index)) (name-heads index) (name-next index) m
+
+-- What a walk over a row leaves: the three rows of the names, and no other, are written.
+pub record MarkedIn (name : ℕ → List ℕ) (p : Part) (slot up len hash : ℕ) (old new : List (List ℕ)) (r : ℕ) : Type 0 where
+  pub marked : Marked name p slot up len hash (ups-in old) (lens-in old) (tags-in old) (ups-in new) (lens-in new) (tags-in new) r
+  pub within : Within 2 5 old new
+
+-- The answer to 8: the two rows of the chains, and no other, are written.
+pub record UnequalIn (l : Trees) (plan : List (List ℕ)) (m list : ℕ) (r : Check) (old new : List (List ℕ)) : Type 0 where
+  pub unequal : Unequal l (sources plan) (ups-in old) m list r (name-heads new) (name-next new)
+  pub within : Within 5 7 old new

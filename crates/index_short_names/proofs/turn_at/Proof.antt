@@ -1,0 +1,19 @@
+-- What is asked of a record, from its kind and its name.
+use Rattle.index_short_names.proofs.Fitting.{turned}
+use borrow.Author.Needs.{needs}
+use Rattle.index_short_names.proofs.turn_at.Statement.{statement}
+use Rattle.index_short_names.proofs.turn_at.Tie as tie
+
+pub turn-at-spec : {M : Type 1} → statement M
+turn-at-spec =
+    tie.close
+    (tie.spec
+    (λ c κs. search needs)  -- kind-of-requires
+    (λ c κs. search needs)  -- name-of-requires
+    (λ c κs. search needs)  -- fit-requires
+    (λ c κs. search needs)  -- first-role-requires
+    (λ c κs. search needs)  -- skips-requires
+    (λ c κs. search needs)  -- deeper-requires
+    (λ c κs. search needs)  -- own-place-requires
+    (λ c. search (turned, needs))  -- returns
+    )
