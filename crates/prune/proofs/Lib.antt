@@ -1,1 +1,4 @@
-pub mod Entering
+pub mod Bridge
+pub mod Parts
+pub mod Keeping
+pub mod Steps

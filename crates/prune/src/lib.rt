@@ -1,28 +1,41 @@
 // Pruning, whole: from lent bytes to lent bytes.
-use index_base::index_base;
+use index::index_base;
+use index_ids::IndexRows;
+use paper::Role;
+use plan::PlanRows;
+use plan::write_plan;
+use prune_columns::check_direct;
+use prune_columns::project_fields;
 use prune_marks::mark_chosen;
-use prune_write::write_pruned;
 use record::Changed;
 use record::Check;
 use record::Refusal;
+use record::Sizes;
 use record_limits::room;
 use record_limits::sized_selected;
 use tree::Shaped;
+use tree::Walked;
 use tree::check_tree;
 ghost use mathlib.Core.Path.{_≡_};
+ghost use mathlib.Core.List.{[], _∷_};
 ghost use lib.ListN.{length};
+ghost use Rattle.paper.specs.Entries.{prune-entry};
+ghost use Rattle.paper.specs.Outcome.{Answers, for-records, for-names};
+ghost use Rattle.record.specs.Says.{changes};
 ghost use Rattle.tree.specs.Says.{decoded};
-ghost use Rattle.prune.specs.Pruning.{entered, Entered, Choosable, Chosen, Prunes};
+ghost use Rattle.prune_marks.specs.Marks.{Unmarked};
+ghost use Rattle.prune.specs.Steps.{opened, Tested, Decides};
 
 // Refusals 1 to 6, or the number of roots.
-fn enter(
+fn open(
     records: &[u8],
     pool: &[u8],
     selected: &[u8],
     room_records: usize,
     room_names: usize,
 ) -> Shaped
-    ensures { λ r. ⌜ r ≡ decoded (entered (now (records .entry)) (now (pool .entry)) (now (selected .entry)) «room_records» «room_names») ⌝ }
+    ensures { λ r. ⌜ r ≡ decoded (opened (now (records .entry)) (now (pool .entry))
+        (now (selected .entry)) «room_records» «room_names») ⌝ }
 {
     if !room(room_records, room_names) {
         return Shaped::Refused(Refusal {
@@ -41,103 +54,69 @@ fn enter(
     check_tree(records, pool, 0)
 }
 
-// Marks what is chosen and prunes to it: refusal 20, or the pruned tree. The base is its own plan, with the index of its ids.
-fn choose(
+// Marks the chosen slots of a base that passed 7 and 8: refusal 20, or none.
+fn decide(
     records: &[u8],
-    pool: &[u8],
     selected: &[u8],
     full: bool,
     count: u32,
-    slots: &mut [u16; 1024],
-    ids: &mut [u32; 1024],
-    kids: &mut [u16; 1024],
-    id_heads: &[u16; 1024],
-    id_next: &[u16; 1024],
-    out_records: &mut [u8],
-    out_names: &mut [u8],
-) -> Changed
-    requires { ⌜ Choosable (now records) (now pool) count (now slots) (now ids) (now kids) (now «id_heads») (now «id_next») (now «out_records») (now «out_names») ⌝ }
-    ensures { λ r. ⌜ Chosen (now (records .entry)) (now (pool .entry)) (now (selected .entry)) full (now («out_records» .entry)) (now («out_names» .entry)) r (now («out_records» .exit)) (now («out_names» .exit)) ⌝ }
+    plan: &PlanRows,
+    index: &IndexRows,
+    marks: &mut [u8; 1024],
+) -> Check
+    requires { ⌜ Tested (now records) count (now plan) (now index) × Unmarked (now marks) ⌝ }
+    ensures { λ r. ⌜ Decides (now (records .entry)) (now (selected .entry)) full count r
+        (now (marks .exit)) ⌝ }
 {
-    let n = records.len() / 24;
-    let mut marks = [0u8; 1024];
-    mark_chosen(selected, ids, id_heads, id_next, n, &mut marks);
-    write_pruned(
-        records,
-        pool,
-        &marks,
-        full,
-        count,
-        slots,
-        ids,
-        kids,
-        out_records,
-        out_names,
-    )
-}
-
-// Refusals 7, 8 and 20, or the pruned tree, of records that passed 1 to 6 and have `count` roots.
-fn carry_out(
-    records: &[u8],
-    pool: &[u8],
-    selected: &[u8],
-    full: bool,
-    count: u32,
-    out_records: &mut [u8],
-    out_names: &mut [u8],
-) -> Changed
-    requires { ⌜ Entered (now records) (now pool) (now selected) count (length (now «out_records»)) (length (now «out_names»)) ⌝ }
-    ensures { λ r. ⌜ Prunes (now (records .entry)) (now (pool .entry)) (now (selected .entry)) full (now («out_records» .entry)) (now («out_names» .entry)) r (now («out_records» .exit)) (now («out_names» .exit)) ⌝ }
-{
-    let mut slots = [0u16; 1024];
-    let mut ids = [0u32; 1024];
-    let mut kids = [0u16; 1024];
-    let mut heads = [0u16; 1024];
-    let mut next = [0u16; 1024];
-    let sound = index_base(
-        records,
-        pool,
-        b"",
-        &mut slots,
-        &mut ids,
-        &mut kids,
-        &mut heads,
-        &mut next,
-    );
-    if let Check::Refused(r) = sound {
-        return Changed::Refused(r);
+    mark_chosen(selected, plan, index, records.len() / 24, marks);
+    match check_direct(records, marks, full, 0, count, 16, Role::Member) {
+        Walked::Refused(r) => Check::Refused(r),
+        Walked::End(_) => Check::Fine,
     }
-    choose(
-        records,
-        pool,
-        selected,
-        full,
-        count,
-        &mut slots,
-        &mut ids,
-        &mut kids,
-        &heads,
-        &next,
-        out_records,
-        out_names,
-    )
 }
 
 // Prunes a tree of records to what is chosen.
-pub fn prune(
-    records: &[u8],
-    pool: &[u8],
+pub fn prune<'a>(
+    records: &'a [u8],
+    pool: &'a [u8],
     selected: &[u8],
     full: bool,
     out_records: &mut [u8],
     out_names: &mut [u8],
 ) -> Changed
-    ensures { λ r. ⌜ Prunes (now (records .entry)) (now (pool .entry)) (now (selected .entry)) full (now («out_records» .entry)) (now («out_names» .entry)) r (now («out_records» .exit)) (now («out_names» .exit)) ⌝ }
+    ensures { λ r. ⌜ Answers changes
+        (prune-entry (now (records .entry)) (now (pool .entry)) (now (selected .entry)) full
+        (length (now («out_records» .entry))) (length (now («out_names» .entry))))
+        (for-records (now («out_records» .entry)) ∷ for-names (now («out_names» .entry)) ∷ []) r
+        (now («out_records» .exit) ∷ now («out_names» .exit) ∷ []) ⌝ }
 {
-    match enter(records, pool, selected, out_records.len(), out_names.len()) {
-        Shaped::Roots(count) => {
-            carry_out(records, pool, selected, full, count, out_records, out_names)
-        }
+    // open: 1 to 6
+    match open(records, pool, selected, out_records.len(), out_names.len()) {
         Shaped::Refused(r) => Changed::Refused(r),
+        Shaped::Roots(count) => {
+            let trees = [records, pool, records, pool];
+            let mut plan = [[0u32; 1024]; 3];
+            let mut index = [[0u16; 1024]; 7];
+            let mut marks = [0u8; 1024];
+            // test: 7 and 8, with the base as its own plan
+            let tested = index_base(&trees, records.len() / 24, b"", &mut plan, &mut index);
+            if let Check::Refused(r) = tested {
+                return Changed::Refused(r);
+            }
+            // decide: what is chosen, and 20
+            let decided = decide(records, selected, full, count, &plan, &index, &mut marks);
+            if let Check::Refused(r) = decided {
+                return Changed::Refused(r);
+            }
+            // plan: what is kept, over the base's plan
+            let kept = project_fields(records, &marks, full, 0, count, 16, &mut plan, 0);
+            // write
+            let names = write_plan(&trees, &plan, kept.at, out_records, out_names);
+            Changed::Done(Sizes {
+                records: kept.at as u32,
+                names: names as u32,
+                last_id: 0,
+            })
+        }
     }
 }

@@ -6,8 +6,6 @@ use mathlib.Core.Option.{Option, some}
 use Prim.Native.Nat.{ℕ, suc, _+_, _-_, _<_, _≤_}
 use native.Mathlib.Numerals.{add-one}
 use native.Mathlib.Omega.{arith}
-use lib.Dec.{eqb}
-use lib.ListN.{getD}
 use Rattle.record.specs.declared.Refusal.{Refusal}
 use Rattle.record.specs.Says.{refusal-of}
 use Rattle.paper.specs.declared.Kind.{Kind}
@@ -88,9 +86,8 @@ module _ (s marks : List ℕ) (full : Bool) (lv c k : ℕ) (r : Role) where
       unfolding inside
       left-stops t d = record { says = walked-stops 20 0 _ _ t _ later w (ew .says) d ∙ whole }
 
-      module _ (j : ℕ) (d : w ≡ End j) (x : ℕ) (ex : x ≡ getD marks at 0) (kd : Kind) (ek : kd ≡ kind-at s at) (b : Bool) (eb : b ≡ direct full own (eqb x 1) kd) where
+      module _ (j : ℕ) (d : w ≡ End j) (x : Bool) (ex : x ≡ marked marks at) (kd : Kind) (ek : kd ≡ kind-at s at) (b : Bool) (eb : b ≡ direct full own x kd) where
         decided : b ≡ direct full own (marked marks at) (kind-at s at)
-        unfolding marked
         decided = eb ∙ rw (ex, ek)
 
         later-direct : b ≡ true → later ≡ some at

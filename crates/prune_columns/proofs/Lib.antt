@@ -1,4 +1,4 @@
 pub mod Directing
-pub mod Copying
+pub mod Tables
 pub mod Planning
 pub mod Projecting

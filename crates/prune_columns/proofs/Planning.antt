@@ -1,39 +1,36 @@
--- Trees planned one behind the other: `Laid` of what is kept. `search planning`.
-use mathlib.Core.Path.{_≡_, refl, _∙_}
-use mathlib.Core.List.{List, map}
+-- A record with all its inside, planned as it stands. `search planning`.
+use mathlib.Core.Path.{_≡_, refl, sym, _∙_}
+use mathlib.Core.List.{List}
 use Prim.Native.Nat.{ℕ, _+_, _-_, _*_, _<_, _≤_}
 use native.Mathlib.Omega.{arith}
-use lib.ListN.{length, set}
-use Rattle.paper.specs.Forest.{Forest, empty, node, size, siblings, mapped, counts, preorder}
+use lib.ListN.{length}
+use Rattle.paper.specs.Forest.{size}
 use Rattle.paper.specs.Bytes.{kids-at, slots}
 use Rattle.paper.specs.Layout.{Part, nothing, before}
-use Rattle.laws.proofs.Runs.{sets-before}
-use Rattle.tree.specs.Read.{itself, Rowed}
+use Rattle.tree.specs.Read.{Rowed}
 use Rattle.tree.proofs.Reading.{row-none, row-in}
 use Rattle.tree.proofs.Steps.{was-read}
 use Rattle.tree.proofs.Filled.{Full, full}
 use Rattle.laws.proofs.Basics.{rebind}
-use Rattle.plan.specs.Plan.{Source, slot-of, bits-of, Laid}
-use Rattle.plan.proofs.Laying.{laid-node, laid-row}
+use Rattle.plan.proofs.Laying.{copied-laid}
 use Rattle.tree_walk.specs.There.{row-of, There}
 use Rattle.tree_walk.proofs.Standing.{there-row, there-full, there-past}
-use Rattle.prune_columns.specs.Projected.{id-bits, own-source, Spot, tree-at, KeptWhole, Span, Copied}
-
--- A record stored after its inside.
-pub laid-last : (a : Source) (m : Forest Source) (i c : ℕ) (xs is ks x₁ i₁ k₁ : List ℕ) → c ≡ siblings m → Laid m (i + 1) xs is ks x₁ i₁ k₁ → Laid (node a m empty) i xs is ks (set x₁ i (a .slot)) (set i₁ i (a .id)) (set k₁ i c)
-laid-last a m i c xs is ks x₁ i₁ k₁ e h =
-    laid-node a m i c xs is ks (set x₁ i (a .slot)) (set i₁ i (a .id)) (set k₁ i c) e
-    (record {
-      slots = rw (h .slots) (sets-before (map slot-of (preorder m)) xs i (i + 1) (a .slot) (omega arith));
-      ids = rw (h .ids) (sets-before (map bits-of (preorder m)) is i (i + 1) (a .id) (omega arith));
-      kids = rw (h .kids) (sets-before (counts m) ks i (i + 1) c (omega arith));
-    })
+use Rattle.prune_columns.specs.declared.Step.{Step}
+use Rattle.prune_columns.specs.Projected.{Planned, Spot, KeptWhole, Span, Copied}
 
 -- Trees that stand in a row, copied.
-pub copied-laid : (s : List ℕ) (p : Part) (c k : ℕ) (xs is ks : List ℕ) (i : ℕ) (xs′ is′ ks′ : List ℕ) → Full (kids-at s) (slots s) c k p → Copied s k (p .next) xs is ks i xs′ is′ ks′ → Laid (mapped (own-source s) (p .trees)) i xs is ks xs′ is′ ks′
-copied-laid s p c k xs is ks i xs′ is′ ks′ f h =
-    let e : p .next - k ≡ size (p .trees) = omega (arith, f .next) in
-    laid-row p (kids-at s) itself (id-bits s) (slots s) c k i (p .next - k) xs is ks xs′ is′ ks′ f e (h .slots) (h .ids) (h .kids)
+pub copied-planned : (s : List ℕ) (p : Part) (c k e : ℕ) (plan : List (List ℕ)) (i : ℕ) (r : Step) (plan′ : List (List ℕ)) → i ≤ k → Full (kids-at s) (slots s) c k p → e ≡ p .next → Copied s k e c plan i r plan′ → Planned s (p .trees) (p .next) plan i r plan′
+copied-planned s p c k e plan i r plan′ l f q h =
+    let n = f .next in
+    let d : e - k ≡ size (p .trees) = omega arith in
+    rw (h .step)
+    (record {
+      next = q;
+      at = omega arith;
+      count = sym (f .trees);
+      room = omega arith;
+      laid = copied-laid s p (slots s) c k i (e - k) plan plan′ f d (h .copied);
+    })
 
 module _ (s : List ℕ) (lv k i : ℕ) (h : Spot s lv k i) where
   -- the record with its inside, as a row of one
@@ -48,11 +45,6 @@ module _ (s : List ℕ) (lv k i : ℕ) (h : Spot s lv k i) where
       full 0 (kids-at s) (slots s) (lv + 1) 1 k alone
       (row-in 0 (kids-at s) (slots s) (lv + 1) 1 k (λ z. omega arith) (λ z. omega arith) (h .record-in)
       ∙ rw q (rebind _ _ (was-read 0 (kids-at s) (slots s) lv (kids-at s k) (k + 1) (h .inside .read)) (rebind _ _ (row-none 0 (kids-at s) (slots s) (lv + 1) 0 j refl) refl)))
-
-  -- the record with its inside, copied
-  pub tree-laid : (xs is ks xs′ is′ ks′ : List ℕ) → Copied s k (row-of s lv (kids-at s k) (k + 1) .next) xs is ks i xs′ is′ ks′ → Laid (mapped (own-source s) (tree-at s lv k)) i xs is ks xs′ is′ ks′
-  unfolding alone
-  tree-laid xs is ks xs′ is′ ks′ c = copied-laid s alone 1 k xs is ks i xs′ is′ ks′ alone-full c
 
   pub spot-past : (k + 1 ≤ row-of s lv (kids-at s k) (k + 1) .next) × (row-of s lv (kids-at s k) (k + 1) .next ≤ 1024) × (row-of s lv (kids-at s k) (k + 1) .next * 24 ≤ length s)
   spot-past =
@@ -80,23 +72,8 @@ module _ (s : List ℕ) (lv k i : ℕ) (h : Spot s lv k i) where
       let r = h .room in
       record { ordered = omega arith; bytes = omega arith; few = omega arith; room = r }
 
-  pub whole-fits : (m past : ℕ) → m ≡ kids-at s k → past ≡ row-of s lv m (k + 1) .next → k ≤ past
-  whole-fits m past em ep = copy-asks m past em ep .ordered
+  pub whole-planned : (m past : ℕ) (plan : List (List ℕ)) (r : Step) (plan′ : List (List ℕ)) → m ≡ kids-at s k → past ≡ row-of s lv m (k + 1) .next → Copied s k past 1 plan i r plan′ → KeptWhole s lv k plan i r plan′
+  unfolding alone
+  whole-planned m past plan r plan′ em ep c = copied-planned s alone 1 k past plan i r plan′ (h .room) alone-full (ep ∙ rw em) c
 
-  pub whole-planned : (m past : ℕ) (xs is ks xs′ is′ ks′ : List ℕ) → m ≡ kids-at s k → past ≡ row-of s lv m (k + 1) .next → Copied s k past xs is ks i xs′ is′ ks′
-      → KeptWhole s lv k xs is ks i (record { next = past; at = i + (past - k); count = 1 }) xs′ is′ ks′
-  unfolding alone size siblings
-  whole-planned m past xs is ks xs′ is′ ks′ em ep c =
-      let q : past ≡ row-of s lv (kids-at s k) (k + 1) .next = ep ∙ rw em in
-      let a = alone-full .next in
-      let r = h .room in
-      let b = spot-past in
-      record {
-        next = q;
-        at = omega arith;
-        count = refl;
-        room = omega arith;
-        laid = tree-laid xs is ks xs′ is′ ks′ (rw q at c);
-      }
-
-pub ruleset planning = (spot-there, spot-row, spot-bytes, spot-place, copy-asks, whole-fits, whole-planned)
+pub ruleset planning = (spot-there, spot-row, spot-bytes, spot-place, copy-asks, whole-planned)

@@ -5,6 +5,9 @@ use paper::Role;
 use paper::is_key;
 use paper::is_struct;
 use paper::next_role;
+use plan::PlanRows;
+use plan::copy_records;
+use plan::put_planned;
 use record::Refusal;
 use record::id_bits_at;
 use record::kids_at;
@@ -17,10 +20,10 @@ ghost use mathlib.Core.Path.{_≡_};
 ghost use Prim.Native.Nat.{_+_, _*_, _≤_, _<_};
 ghost use lib.ListN.{length};
 ghost use Rattle.paper.specs.declared.Role.the-variants.{Member, Element, Key};
-ghost use Rattle.paper.specs.Bytes.{slots};
 ghost use Rattle.tree_walk.specs.There.{There};
 ghost use Rattle.prune_columns.specs.Split.{is-nested, direct};
 ghost use Rattle.prune_columns.specs.Projected.{
+  marked,
   Checked,
   Row,
   Spot,
@@ -53,6 +56,14 @@ fn is_nested(k: Kind) -> bool
     }
 }
 
+// Whether the slot is marked.
+fn is_chosen(marks: &[u8; 1024], slot: usize) -> bool
+    requires { ⌜ slot < 1024 ⌝ }
+    ensures { λ r. ⌜ r ≡ marked (now (marks .entry)) slot ⌝ }
+{
+    marks[slot] == 1
+}
+
 // Whether a record is a list or map chosen directly, not in full mode. A key is never tested.
 fn is_direct(full: bool, role: Role, chosen: bool, kind: Kind) -> bool
     ensures { λ r. ⌜ r ≡ direct full role chosen kind ⌝ }
@@ -65,7 +76,7 @@ fn is_direct(full: bool, role: Role, chosen: bool, kind: Kind) -> bool
 
 // Refusal 20 among `count` siblings and in their insides, which come first; or the slot after them.
 pub fn check_direct(
-    recs: &[u8],
+    records: &[u8],
     marks: &[u8; 1024],
     full: bool,
     slot: usize,
@@ -73,26 +84,26 @@ pub fn check_direct(
     levels: usize,
     role: Role,
 ) -> Walked
-    requires { ⌜ There (now recs) levels count slot ⌝ }
-    ensures { λ r. ⌜ Checked (now (recs .entry)) (now (marks .entry)) full levels count slot role r ⌝ }
+    requires { ⌜ There (now records) levels count slot ⌝ }
+    ensures { λ r. ⌜ Checked (now (records .entry)) (now (marks .entry)) full levels count slot
+        role r ⌝ }
 {
     let mut at = slot;
     let mut left = count;
     let mut own = role;
     while 0 < left {
-        let inside = inside_role(recs, at);
+        let inside = inside_role(records, at);
         match check_direct(
-            recs,
+            records,
             marks,
             full,
             at + 1,
-            kids_at(recs, at),
+            kids_at(records, at),
             levels - 1,
             inside,
         ) {
             Walked::End(next) => {
-                let mark = marks[at];
-                if is_direct(full, own, mark == 1, kind_at(recs, at)) {
+                if is_direct(full, own, is_chosen(marks, at), kind_at(records, at)) {
                     return Walked::Refused(Refusal {
                         number: 20, // refusal 20
                         list: 0,
@@ -111,46 +122,42 @@ pub fn check_direct(
     Walked::End(at)
 }
 
-// The records from slot `from` to slot `to` as they stand, planned from place `at` on.
-fn copy_records(
-    recs: &[u8],
-    from: usize,
-    to: usize,
-    slots: &mut [u16; 1024],
-    ids: &mut [u32; 1024],
-    kids: &mut [u16; 1024],
+// The records from `slot` to `past`, which are `count` trees, planned as they stand from place `at` on.
+fn copy_trees(
+    records: &[u8],
+    slot: usize,
+    past: usize,
+    count: u32,
+    plan: &mut PlanRows,
     at: usize,
-)
-    requires { ⌜ Span (now recs) from to at ⌝ }
-    ensures { λ r. ⌜ Copied (now (recs .entry)) from to (now (slots .entry)) (now (ids .entry)) (now (kids .entry)) at (now (slots .exit)) (now (ids .exit)) (now (kids .exit)) ⌝ }
+) -> Step
+    requires { ⌜ Span (now records) slot past at × (length (now plan) ≡ 3) ⌝ }
+    ensures { λ r. ⌜ Copied (now (records .entry)) slot past count (now (plan .entry)) at r
+        (now (plan .exit)) ⌝ }
 {
-    let mut i = from;
-    let mut p = at;
-    while i < to {
-        slots[p] = i as u16;
-        ids[p] = id_bits_at(recs, i);
-        kids[p] = kids_at(recs, i) as u16;
-        i += 1;
-        p += 1;
+    let size = past - slot;
+    copy_records(records, slot, size, plan, at);
+    Step {
+        next: past,
+        at: at + size,
+        count,
     }
 }
 
 // The record at `slot`, planned at place `at` with what its type yielded, which stands behind that place.
-fn put_record(
-    recs: &[u8],
-    slot: usize,
-    inside: Step,
-    slots: &mut [u16; 1024],
-    ids: &mut [u32; 1024],
-    kids: &mut [u16; 1024],
-    at: usize,
-) -> Step
-    requires { ⌜ (slot * 24 + 24 ≤ length (now recs)) × (slot < 1024) × (at ≤ slot) × (inside .count < 65536) ⌝ }
-    ensures { λ r. ⌜ Stored (now (recs .entry)) slot inside (now (slots .entry)) (now (ids .entry)) (now (kids .entry)) at r (now (slots .exit)) (now (ids .exit)) (now (kids .exit)) ⌝ }
+fn put_record(records: &[u8], slot: usize, inside: Step, plan: &mut PlanRows, at: usize) -> Step
+    requires { ⌜ (slot * 24 + 24 ≤ length (now records)) × (slot < 1024) × (at ≤ slot)
+        × (length (now plan) ≡ 3) ⌝ }
+    ensures { λ r. ⌜ Stored (now (records .entry)) slot inside (now (plan .entry)) at r
+        (now (plan .exit)) ⌝ }
 {
-    slots[at] = slot as u16;
-    ids[at] = id_bits_at(recs, slot);
-    kids[at] = inside.count as u16;
+    put_planned(
+        plan,
+        at,
+        slot as u32,
+        id_bits_at(records, slot),
+        inside.count,
+    );
     Step {
         next: inside.next,
         at: inside.at,
@@ -159,50 +166,37 @@ fn put_record(
 }
 
 // The record at `slot` with all its inside.
-fn project_whole(
-    recs: &[u8],
-    slot: usize,
-    levels: usize,
-    slots: &mut [u16; 1024],
-    ids: &mut [u32; 1024],
-    kids: &mut [u16; 1024],
-    at: usize,
-) -> Step
-    requires { ⌜ Spot (now recs) levels slot at ⌝ }
-    ensures { λ r. ⌜ KeptWhole (now (recs .entry)) levels slot (now (slots .entry)) (now (ids .entry)) (now (kids .entry)) at r (now (slots .exit)) (now (ids .exit)) (now (kids .exit)) ⌝ }
+fn project_whole(records: &[u8], slot: usize, levels: usize, plan: &mut PlanRows, at: usize) -> Step
+    requires { ⌜ Spot (now records) levels slot at × (length (now plan) ≡ 3) ⌝ }
+    ensures { λ r. ⌜ KeptWhole (now (records .entry)) levels slot (now (plan .entry)) at r
+        (now (plan .exit)) ⌝ }
 {
-    let n = recs.len() / 24;
-    let past = row_past(recs, n, slot + 1, kids_at(recs, slot), levels, 0);
-    copy_records(recs, slot, past, slots, ids, kids, at);
-    Step {
-        next: past,
-        at: at + (past - slot),
-        count: 1,
-    }
+    let n = records.len() / 24;
+    let past = row_past(records, n, slot + 1, kids_at(records, slot), levels, 0);
+    copy_trees(records, slot, past, 1, plan, at)
 }
 
 // What is kept of the roots, or of the members of a struct: what each keeps, in order.
 pub fn project_fields(
-    recs: &[u8],
+    records: &[u8],
     marks: &[u8; 1024],
     full: bool,
     slot: usize,
     count: u32,
     levels: usize,
-    slots: &mut [u16; 1024],
-    ids: &mut [u32; 1024],
-    kids: &mut [u16; 1024],
+    plan: &mut PlanRows,
     at: usize,
 ) -> Step
-    requires { ⌜ Row (now recs) levels count slot at ⌝ }
-    ensures { λ r. ⌜ Kept (now (recs .entry)) (now (marks .entry)) full Member levels count slot (now (slots .entry)) (now (ids .entry)) (now (kids .entry)) at r (now (slots .exit)) (now (ids .exit)) (now (kids .exit)) ⌝ }
+    requires { ⌜ Row (now records) levels count slot at × (length (now plan) ≡ 3) ⌝ }
+    ensures { λ r. ⌜ Kept (now (records .entry)) (now (marks .entry)) full Member levels count slot
+        (now (plan .entry)) at r (now (plan .exit)) ⌝ }
 {
     let mut next = slot;
     let mut left = count;
     let mut place = at;
     let mut kept: u32 = 0;
     while 0 < left {
-        let one = project_field(recs, marks, full, next, levels - 1, slots, ids, kids, place);
+        let one = project_field(records, marks, full, next, levels - 1, plan, place);
         next = one.next;
         place = one.at;
         kept += one.count;
@@ -218,27 +212,25 @@ pub fn project_fields(
 // What is kept of one record that is no key: chosen, all of it or, of a struct, what it yields; not chosen, what its type
 // yields. (A list or map that is chosen directly was refused with 20.)
 fn project_field(
-    recs: &[u8],
+    records: &[u8],
     marks: &[u8; 1024],
     full: bool,
     slot: usize,
     levels: usize,
-    slots: &mut [u16; 1024],
-    ids: &mut [u32; 1024],
-    kids: &mut [u16; 1024],
+    plan: &mut PlanRows,
     at: usize,
 ) -> Step
-    requires { ⌜ Spot (now recs) levels slot at ⌝ }
-    ensures { λ r. ⌜ KeptOne (now (recs .entry)) (now (marks .entry)) full levels slot (now (slots .entry)) (now (ids .entry)) (now (kids .entry)) at r (now (slots .exit)) (now (ids .exit)) (now (kids .exit)) ⌝ }
+    requires { ⌜ Spot (now records) levels slot at × (length (now plan) ≡ 3) ⌝ }
+    ensures { λ r. ⌜ KeptOne (now (records .entry)) (now (marks .entry)) full levels slot
+        (now (plan .entry)) at r (now (plan .exit)) ⌝ }
 {
-    let mark = marks[slot];
-    if mark == 1 {
-        if full | !is_struct(kind_at(recs, slot)) {
-            return project_whole(recs, slot, levels, slots, ids, kids, at);
+    if is_chosen(marks, slot) {
+        if full | !is_struct(kind_at(records, slot)) {
+            return project_whole(records, slot, levels, plan, at);
         }
-        return project_selected_struct(recs, marks, full, slot, levels, slots, ids, kids, at);
+        return project_selected_struct(records, marks, full, slot, levels, plan, at);
     }
-    let inside = project_type(recs, marks, full, slot, levels, slots, ids, kids, at + 1);
+    let inside = project_type(records, marks, full, slot, levels, plan, at + 1);
     if inside.count == 0 {
         return Step {
             next: inside.next,
@@ -246,44 +238,42 @@ fn project_field(
             count: 0,
         };
     }
-    put_record(recs, slot, inside, slots, ids, kids, at)
+    put_record(records, slot, inside, plan, at)
 }
 
 // A chosen struct: what it yields, or an empty struct.
 fn project_selected_struct(
-    recs: &[u8],
+    records: &[u8],
     marks: &[u8; 1024],
     full: bool,
     slot: usize,
     levels: usize,
-    slots: &mut [u16; 1024],
-    ids: &mut [u32; 1024],
-    kids: &mut [u16; 1024],
+    plan: &mut PlanRows,
     at: usize,
 ) -> Step
-    requires { ⌜ Spot (now recs) levels slot at ⌝ }
-    ensures { λ r. ⌜ KeptYield (now (recs .entry)) (now (marks .entry)) full levels slot (now (slots .entry)) (now (ids .entry)) (now (kids .entry)) at r (now (slots .exit)) (now (ids .exit)) (now (kids .exit)) ⌝ }
+    requires { ⌜ Spot (now records) levels slot at × (length (now plan) ≡ 3) ⌝ }
+    ensures { λ r. ⌜ KeptYield (now (records .entry)) (now (marks .entry)) full levels slot
+        (now (plan .entry)) at r (now (plan .exit)) ⌝ }
 {
-    let inside = project_type(recs, marks, full, slot, levels, slots, ids, kids, at + 1);
-    put_record(recs, slot, inside, slots, ids, kids, at)
+    let inside = project_type(records, marks, full, slot, levels, plan, at + 1);
+    put_record(records, slot, inside, plan, at)
 }
 
 // What the type of the record at `slot` yields.
 fn project_type(
-    recs: &[u8],
+    records: &[u8],
     marks: &[u8; 1024],
     full: bool,
     slot: usize,
     levels: usize,
-    slots: &mut [u16; 1024],
-    ids: &mut [u32; 1024],
-    kids: &mut [u16; 1024],
+    plan: &mut PlanRows,
     at: usize,
 ) -> Step
-    requires { ⌜ Behind (now recs) levels slot at ⌝ }
-    ensures { λ r. ⌜ KeptInside (now (recs .entry)) (now (marks .entry)) full levels slot (now (slots .entry)) (now (ids .entry)) (now (kids .entry)) at r (now (slots .exit)) (now (ids .exit)) (now (kids .exit)) ⌝ }
+    requires { ⌜ Behind (now records) levels slot at × (length (now plan) ≡ 3) ⌝ }
+    ensures { λ r. ⌜ KeptInside (now (records .entry)) (now (marks .entry)) full levels slot
+        (now (plan .entry)) at r (now (plan .exit)) ⌝ }
 {
-    let members = kids_at(recs, slot);
+    let members = kids_at(records, slot);
     if members == 0 {
         return Step {
             next: slot + 1,
@@ -291,116 +281,64 @@ fn project_type(
             count: 0,
         };
     }
-    let kind = kind_at(recs, slot);
+    let kind = kind_at(records, slot);
     if is_map(kind) {
-        return project_map(
-            recs,
-            marks,
-            full,
-            slot + 1,
-            members,
-            levels,
-            slots,
-            ids,
-            kids,
-            at,
-        );
+        return project_map(records, marks, full, slot + 1, members, levels, plan, at);
     }
     if is_nested(kind) {
-        return project_list(
-            recs,
-            marks,
-            full,
-            slot + 1,
-            members,
-            levels,
-            slots,
-            ids,
-            kids,
-            at,
-        );
+        return project_list(records, marks, full, slot + 1, members, levels, plan, at);
     }
-    project_fields(
-        recs,
-        marks,
-        full,
-        slot + 1,
-        members,
-        levels,
-        slots,
-        ids,
-        kids,
-        at,
-    )
+    project_fields(records, marks, full, slot + 1, members, levels, plan, at)
 }
 
 // A list: the same tests on its element.
 fn project_list(
-    recs: &[u8],
+    records: &[u8],
     marks: &[u8; 1024],
     full: bool,
     slot: usize,
     count: u32,
     levels: usize,
-    slots: &mut [u16; 1024],
-    ids: &mut [u32; 1024],
-    kids: &mut [u16; 1024],
+    plan: &mut PlanRows,
     at: usize,
 ) -> Step
-    requires { ⌜ Row (now recs) levels count slot at ⌝ }
-    ensures { λ r. ⌜ Kept (now (recs .entry)) (now (marks .entry)) full Element levels count slot (now (slots .entry)) (now (ids .entry)) (now (kids .entry)) at r (now (slots .exit)) (now (ids .exit)) (now (kids .exit)) ⌝ }
+    requires { ⌜ Row (now records) levels count slot at × (length (now plan) ≡ 3) ⌝ }
+    ensures { λ r. ⌜ Kept (now (records .entry)) (now (marks .entry)) full Element levels count
+        slot (now (plan .entry)) at r (now (plan .exit)) ⌝ }
 {
-    project_fields(recs, marks, full, slot, count, levels, slots, ids, kids, at)
+    project_fields(records, marks, full, slot, count, levels, plan, at)
 }
 
 // A map, from its key's slot on: the key whole if the value keeps something; else all of it for a chosen key; else nothing.
 fn project_map(
-    recs: &[u8],
+    records: &[u8],
     marks: &[u8; 1024],
     full: bool,
     slot: usize,
     count: u32,
     levels: usize,
-    slots: &mut [u16; 1024],
-    ids: &mut [u32; 1024],
-    kids: &mut [u16; 1024],
+    plan: &mut PlanRows,
     at: usize,
 ) -> Step
-    requires { ⌜ (0 < count) × Row (now recs) levels count slot at ⌝ }
-    ensures { λ r. ⌜ Kept (now (recs .entry)) (now (marks .entry)) full Key levels count slot (now (slots .entry)) (now (ids .entry)) (now (kids .entry)) at r (now (slots .exit)) (now (ids .exit)) (now (kids .exit)) ⌝ }
+    requires { ⌜ (0 < count) × Row (now records) levels count slot at × (length (now plan) ≡ 3) ⌝ }
+    ensures { λ r. ⌜ Kept (now (records .entry)) (now (marks .entry)) full Key levels count slot
+        (now (plan .entry)) at r (now (plan .exit)) ⌝ }
 {
-    let n = recs.len() / 24;
-    let value = row_past(recs, n, slot + 1, kids_at(recs, slot), levels - 1, 0);
+    let n = records.len() / 24;
+    let value = row_past(records, n, slot + 1, kids_at(records, slot), levels - 1, 0);
     let behind = at + (value - slot);
-    let rest = project_fields(
-        recs,
-        marks,
-        full,
-        value,
-        count - 1,
-        levels,
-        slots,
-        ids,
-        kids,
-        behind,
-    );
+    let rest = project_fields(records, marks, full, value, count - 1, levels, plan, behind);
     let past = rest.next;
     if 0 < rest.count {
-        copy_records(recs, slot, value, slots, ids, kids, at);
+        project_whole(records, slot, levels - 1, plan, at);
         return Step {
             next: past,
             at: rest.at,
             count: rest.count + 1,
         };
     }
-    let mark = marks[slot];
-    if mark == 1 {
-        copy_records(recs, slot, past, slots, ids, kids, at);
-        return Step {
-            next: past,
-            at: at + (past - slot),
-            count,
-        };
+    if is_chosen(marks, slot) {
+        return copy_trees(records, slot, past, count, plan, at);
     }
     Step {
         next: past,

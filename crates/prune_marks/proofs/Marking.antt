@@ -1,7 +1,7 @@
 -- A chosen id marks the one slot that has it, and an unknown one none. `search marking`.
 use Prim.Native.Nat.{ℕ, zero, suc, _+_, _/_, _≤_, _<_}
 use mathlib.Core.Path.{_≡_, refl, sym, ap, _∙_}
-use mathlib.Core.Bool.{Bool, true, false, _||_}
+use mathlib.Core.Bool.{Bool, true, false, _||_, or-true, or-false}
 use mathlib.Core.List.{List}
 use native.Mathlib.Nat.{zero-add}
 use native.Mathlib.Omega.{arith}
@@ -22,7 +22,7 @@ use Rattle.index_ids.proofs.Chains.{found-below-room}
 use Rattle.index_ids.specs.Ids.{id-in, is-id}
 use Rattle.index_ids.proofs.Repeats.{slot-at, found-below}
 use Rattle.prune_columns.specs.Projected.{marked}
-use Rattle.prune_marks.specs.Marks.{mark-at, Unmarked, Distinct-ids, Marks}
+use Rattle.prune_marks.specs.Marks.{mark-at, Unmarked, DistinctIds, Marks}
 
 module _ (w : FoundSlot) (l : List ℕ) where
   pub mark-none : w ≡ Nothing → l ≡ mark-at w l
@@ -36,15 +36,15 @@ pub record Marking (sel is : List ℕ) (m : ℕ) (marks : List ℕ) (i : ℕ) : 
   pub room : length marks ≡ 1024
   pub so-far : (k : ℕ) → k < m → marked marks k ≡ any (eqb (id-in is k)) (from (id-at sel) 0 i)
 
-pub marking-starts : (sel is : List ℕ) (m : ℕ) (marks : List ℕ) → Unmarked marks → Marking sel is m marks 0
+pub marking-starts : (sel is : List ℕ) (m : ℕ) (marks : List ℕ) → m ≤ 1024 → Unmarked marks → Marking sel is m marks 0
 unfolding from marked
-marking-starts sel is m marks h = record { room = h .room; so-far = λ k l. rw (h .none-marked k) }
+marking-starts sel is m marks few h = record { room = h .room; so-far = λ k l. rw (h .none-marked k (omega arith)) }
 
 pub marking-done : (sel is : List ℕ) (m : ℕ) (marks : List ℕ) (n i : ℕ) → Marking sel is m marks i → n ≡ length sel / 4 → n ≤ i → i ≤ n → Marks sel is m marks
 unfolding id-list
 marking-done sel is m marks n i h e l g = let q : i ≡ length sel / 4 = omega arith in record { exactly = λ k b. h .so-far k b ∙ ap (λ (z : ℕ). any (eqb (id-in is k)) (from (id-at sel) 0 z)) q }
 
-module _ (sel is : List ℕ) (m : ℕ) (marks : List ℕ) (i : ℕ) (h : Marking sel is m marks i) (few : m ≤ 1024) (d : Distinct-ids is m) (v : ℕ) (ev : id-at sel i ≡ turned v) (w : FoundSlot) (ew : w ≡ slot-before (lowest-below (is-id is (turned v)) 0 m)) where
+module _ (sel is : List ℕ) (m : ℕ) (marks : List ℕ) (i : ℕ) (h : Marking sel is m marks i) (few : m ≤ 1024) (d : DistinctIds is m) (v : ℕ) (ev : id-at sel i ≡ turned v) (w : FoundSlot) (ew : w ≡ slot-before (lowest-below (is-id is (turned v)) 0 m)) where
   found : slot-at (lowest-below (is-id is (turned v)) 0 m) ≡ place-of (eqb (turned v)) 0 (from (id-in is) 0 m)
   found = found-below (eqb (turned v)) (id-in is) m
 
@@ -52,10 +52,6 @@ module _ (sel is : List ℕ) (m : ℕ) (marks : List ℕ) (i : ℕ) (h : Marking
   by-place : (r : ℕ) → slot-at r ≡ place-of (eqb (turned v)) 0 (from (id-in is) 0 m) → (k : ℕ) → k < m → marked (mark-at (slot-before r) marks) k ≡ (marked marks k || eqb (id-in is k) (turned v))
   unfolding marked slot-before
   by-place zero q k l = rw (eqb-flip (id-in is k) (turned v), place-none (eqb (turned v)) (id-in is) 0 m (sym q) k (omega arith) (omega arith)) (sym (or-false (eqb (getD marks k 0) 1)))
-    where
-      or-false : (b : Bool) → (b || false) ≡ b
-      or-false true = refl
-      or-false false = refl
   by-place (suc j) q k l =
       let p = place-some (eqb (turned v)) (id-in is) 0 m j (sym q) in
       let w = h .room in
@@ -63,14 +59,6 @@ module _ (sel is : List ℕ) (m : ℕ) (marks : List ℕ) (i : ℕ) (h : Marking
       let e : turned v ≡ id-in is j = eqb-true (turned v) (id-in is j) (p .0) in
       go (eqb k j) refl e b
     where
-      or-true : (b : Bool) → (b || true) ≡ true
-      or-true true = refl
-      or-true false = refl
-
-      or-false : (b : Bool) → (b || false) ≡ b
-      or-false true = refl
-      or-false false = refl
-
       go : (b : Bool) → eqb k j ≡ b → turned v ≡ id-in is j → j < 0 + m → eqb (getD (set marks j 1) k 0) 1 ≡ (eqb (getD marks k 0) 1 || eqb (id-in is k) (turned v))
       go true z e b =
           let y : k ≡ j = eqb-true k j z in

@@ -20,12 +20,12 @@ mark-at (At s) l = set l (s .0) 1
 -- No slot is marked yet.
 pub record Unmarked (marks : List ℕ) : Type 0 where
   pub room : length marks ≡ 1024
-  pub none-marked : (k : ℕ) → getD marks k 0 ≡ 0
+  pub none-marked : (k : ℕ) → k < 1024 → getD marks k 0 ≡ 0
 
 -- Refusal 7 was tested.
-pub record Distinct-ids (is : List ℕ) (m : ℕ) : Type 0 where
-  pub tested : repeated eqb [] 0 (ids-in is m) ≡ none
+pub record DistinctIds (ids : List ℕ) (m : ℕ) : Type 0 where
+  pub tested : repeated eqb [] 0 (ids-in ids m) ≡ none
 
 -- A slot is marked exactly where its id is chosen.
-pub record Marks (sel is : List ℕ) (m : ℕ) (marks : List ℕ) : Type 0 where
-  pub exactly : (k : ℕ) → k < m → marked marks k ≡ among (id-in is k) (id-list sel)
+pub record Marks (selected ids : List ℕ) (m : ℕ) (marks : List ℕ) : Type 0 where
+  pub exactly : (k : ℕ) → k < m → marked marks k ≡ among (id-in ids k) (id-list selected)

@@ -1,12 +1,15 @@
 // The chosen ids of prune_columns.rs, as marks on slots: expected linear time, by the index of ids.
+use index_ids::IndexRows;
 use index_ids::find_id;
+use plan::PlanRows;
 use record::FoundSlot;
 use record_entries::id_at;
 ghost use mathlib.Core.Path.{_≡_};
 ghost use Prim.Native.Nat.{_≤_};
-ghost use Rattle.index_ids.specs.Chain.{Below, Chained};
-ghost use Rattle.index_ids.specs.Ids.{id-bucket};
-ghost use Rattle.prune_marks.specs.Marks.{mark-at, Unmarked, Distinct-ids, Marks};
+ghost use Rattle.plan.specs.Table.{numbers};
+ghost use Rattle.index_ids.specs.Chain.{Below};
+ghost use Rattle.index_ids.specs.Table.{IdsChained};
+ghost use Rattle.prune_marks.specs.Marks.{mark-at, Unmarked, DistinctIds, Marks};
 
 // Marks a slot that was found.
 fn mark(marks: &mut [u8; 1024], found: FoundSlot)
@@ -23,19 +26,20 @@ fn mark(marks: &mut [u8; 1024], found: FoundSlot)
 // Marks those of m slots whose ids are chosen. An unknown id marks none.
 pub fn mark_chosen(
     selected: &[u8],
-    ids: &[u32; 1024],
-    heads: &[u16; 1024],
-    next: &[u16; 1024],
+    plan: &PlanRows,
+    index: &IndexRows,
     m: usize,
     marks: &mut [u8; 1024],
 )
-    requires { ⌜ (m ≤ 1024) × (Chained (id-bucket (now ids)) (now heads) (now next) m × (Distinct-ids (now ids) m × Unmarked (now marks))) ⌝ }
-    ensures { λ r. ⌜ Marks (now (selected .entry)) (now (ids .entry)) m (now (marks .exit)) ⌝ }
+    requires { ⌜ (m ≤ 1024) × (IdsChained (numbers (now plan)) (now index) m
+        × (DistinctIds (numbers (now plan)) m × Unmarked (now marks))) ⌝ }
+    ensures { λ r. ⌜ Marks (now (selected .entry)) (numbers (now (plan .entry))) m
+        (now (marks .exit)) ⌝ }
 {
     let n = selected.len() / 4;
     let mut i = 0;
     while i < n {
-        mark(marks, find_id(ids, heads, next, m, id_at(selected, i)));
+        mark(marks, find_id(plan, index, m, id_at(selected, i)));
         i += 1;
     }
 }

@@ -9,6 +9,7 @@ use Rattle.prune_columns.proofs.check_direct.Reads as check-direct
 use Rattle.prune_columns.proofs.check_direct.Kinds as check-direct-kinds
 use Rattle.prune_columns.proofs.+check_direct.Lts-check_direct as check-direct-lts
 use Rattle.paper.proofs.next_role.Reads as next-role-reads
+use Rattle.prune_columns.proofs.is_chosen.Reads as is-chosen-reads
 use Rattle.prune_columns.proofs.is_direct.Reads as is-direct-reads
 use Rattle.record.proofs.kids_at.Reads as kids-at-reads
 use Rattle.record.proofs.kind_at.Reads as kind-at-reads
@@ -32,10 +33,11 @@ check-direct-below t =
     check-direct.Pre
 
 abbrev check-direct-Inv-loop : check-direct-lts.InvT-loop
-check-direct-Inv-loop recs marks full slot count levels at₀ left₀ own₀ at left own = Left recs marks full levels count slot own₀ left at own
+check-direct-Inv-loop records marks full slot count levels at₀ left₀ own₀ at left own =
+    Left records marks full levels count slot own₀ left at own
 
 abbrev check-direct-μ-loop : check-direct-lts.MeasureT-loop
-check-direct-μ-loop recs marks full slot count levels at₀ left₀ own₀ at left own = left
+check-direct-μ-loop records marks full slot count levels at₀ left₀ own₀ at left own = left
 
 pub +check-direct-spec : {M : Type 1} → statement M
 +check-direct-spec = close μ-check-direct λ t. check-direct-lts.spec (
@@ -45,6 +47,8 @@ pub +check-direct-spec : {M : Type 1} → statement M
   kids-at-reads.Learnt,
   check-direct-below t,
   check-direct.Post,
+  is-chosen-reads.Asked,
+  is-chosen-reads.Learnt,
   kind-at-reads.Asked,
   kind-at-reads.Learnt,
   is-direct-reads.Asked,
@@ -63,10 +67,10 @@ pub +check-direct-spec : {M : Type 1} → statement M
     (λ c. search (standing, directing, needs))  -- check-direct-sub-check-direct
     (λ c κs. search (standing, directing, needs))  -- check-direct-check-direct-requires
     (λ c. search (standing, directing, needs))  -- check-direct-enum-known-next
-    (λ c. search (standing, directing, needs))  -- check-direct-element-copy-out-mark
+    (λ c κs. search (standing, directing, needs))  -- check-direct-is-chosen-requires
     (λ c κs. search (standing, directing, needs))  -- check-direct-kind-at-requires
     (λ c κs. search (standing, directing, needs))  -- check-direct-is-direct-requires
-    (λ c. search (standing, directing, needs))  -- check-direct-cast-t26
+    (λ c. search (standing, directing, needs))  -- check-direct-cast-t22
     (λ c. search (standing, directing, needs))  -- check-direct-returns
     (λ c. search (standing, directing, needs))  -- check-direct-enum-known-r
     (λ c. search (standing, directing, needs))  -- check-direct-returns-2

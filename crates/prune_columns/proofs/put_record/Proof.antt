@@ -1,23 +1,13 @@
--- Three stores. Assumes nothing.
-use mathlib.Core.Path.{refl}
+-- One store. Assumes nothing.
 use borrow.Author.Needs.{needs}
 use Rattle.prune_columns.proofs.put_record.Statement.{statement}
 use Rattle.prune_columns.proofs.put_record.Tie as tie
-use Rattle.prune_columns.proofs.put_record.Reads as reads
-use Rattle.prune_columns.proofs.put_record.Lts as lts
 
 pub put-record-spec : {M : Type 1} → statement M
 put-record-spec =
-    tie.close
-    (tie.spec
-    (λ c. search needs)  -- cast-slots
-    (λ c. search needs)  -- mul-slots
-    (λ c. search needs)  -- element-write-slots
+    tie.close (tie.spec
+    (λ c. search needs)  -- cast-put-planned
     (λ c κs. search needs)  -- id-bits-at-requires
-    (λ c. search needs)  -- mul-ids
-    (λ c. search needs)  -- element-write-ids
-    (λ c. search needs)  -- cast-kids
-    (λ c. search needs)  -- mul-kids
-    (λ c. search needs)  -- element-write-kids
-    (λ c. record { step = search needs; slots = refl; ids = cc; kids = refl })  -- returns
+    (λ c κs. search needs)  -- put-planned-requires
+    (λ c. record { step = search needs; planned = cc })  -- returns
     )

@@ -1,20 +1,16 @@
 -- Each chosen id marks the one slot that has it. Assumes nothing.
 use Prim.Native.Nat.{_-_, _≤_}
 use borrow.Author.Needs.{needs}
+use Rattle.plan.specs.Table.{numbers}
 use Rattle.prune_marks.proofs.Marking.{Marking, marking}
 use Rattle.prune_marks.proofs.mark_chosen.Statement.{statement}
 use Rattle.prune_marks.proofs.mark_chosen.Tie as tie
-use Rattle.prune_marks.proofs.mark_chosen.Reads as reads
-use Rattle.prune_marks.proofs.mark_chosen.Lts as lts
-use Rattle.index_ids.proofs.find_id.Reads as find-id-reads
-use Rattle.prune_marks.proofs.mark.Reads as mark-reads
-use Rattle.record_entries.proofs.id_at.Reads as id-at-reads
 
 abbrev Inv-loop : tie.InvT-loop
-Inv-loop selected ids heads next m marks₀ n i₀ marks i = Marking selected ids m marks i × (i ≤ n)
+Inv-loop selected plan index m marks₀ n i₀ marks i = Marking selected (numbers plan) m marks i × (i ≤ n)
 
 abbrev μ-loop : tie.MeasureT-loop
-μ-loop selected ids heads next m marks₀ n i₀ marks i = n - i
+μ-loop selected plan index m marks₀ n i₀ marks i = n - i
 
 pub mark-chosen-spec : {M : Type 1} → statement M
 mark-chosen-spec =

@@ -8,7 +8,7 @@ use Rattle.paper.specs.declared.Kind.{Kind}
 use Rattle.paper.specs.declared.Kind.the-variants.{Primitive, Structure, Listing, Mapping}
 use Rattle.paper.specs.declared.Role.{Role}
 use Rattle.paper.specs.declared.Role.the-variants.{Member, Element, Key, Value}
-use Rattle.paper.specs.Answer.{Answer, ok, refused, _>>=_, or-else}
+use Rattle.paper.specs.Answer.{Answer, ok, _>>=_, fault, or-else}
 use Rattle.paper.specs.Forest.{Forest, empty, node, size, mapped}
 use Rattle.paper.specs.Field.{Field, kind-of, first, after}
 use Rattle.paper.specs.Bytes.{field-at, kind-at}
@@ -20,11 +20,14 @@ use Rattle.prune_columns.specs.Split.{direct, first-direct, held, projected}
 
 -- An answer by its refusal 20, if any.
 abbrev pub unless : {A : Type 0} → Option ℕ → A → Answer A
-unless none a = ok a
-unless (some p) a = refused 20 0 p
+unless o a = fault 20 0 o >>= λ _. ok a
 
 pub record Splits {A : Type 0} (x : Answer A) (o : Option ℕ) (a : A) : Type 0 where
   pub split : x ≡ unless o a
+
+ok-splits : {A : Type 0} (a : A) → Splits (ok a) none a
+unfolding _>>=_
+ok-splits a = record { split = refl }
 
 bind-splits : {A B : Type 0} (x : Answer A) (f : A → Answer B) {o p : Option ℕ} {a : A} {b : B} → Splits x o a → Splits (f a) p b → Splits (x >>= f) (or-else o p) b
 unfolding _>>=_
@@ -33,6 +36,7 @@ bind-splits x f {o = some q} h k = record { split = rw (h .split) }
 
 module _ {A : Type 0} where
   plain-splits : (slot : ℕ) (full b : Bool) (k : Kind) (m y : Forest A) → Splits (kept slot full b k m y) (cond (direct full Member b k) (some slot) none) (held full b k m y)
+  unfolding _>>=_
   plain-splits slot full false k m y = record { split = refl }
   plain-splits slot true true k m y = record { split = refl }
   plain-splits slot false true Primitive m y = record { split = refl }
@@ -48,7 +52,7 @@ module _ {A : Type 0} where
   kept-as Key full b k m y = yielding y
 
   kept-splits : (r : Role) (slot : ℕ) (full b : Bool) (k : Kind) (m y : Forest A) → Splits (kept slot full (tested r b) k m y) (cond (direct full r b k) (some slot) none) (kept-as r full b k m y)
-  unfolding kept-as
+  unfolding kept-as _>>=_
   kept-splits Member slot full b k m y = plain-splits slot full b k m y
   kept-splits Element slot full b k m y = plain-splits slot full b k m y
   kept-splits Value slot full b k m y = plain-splits slot full b k m y
@@ -69,13 +73,13 @@ module _ {A : Type 0} where
 
     pub pruned-splits : (r : Role) (slot : ℕ) (t : Forest A) → Splits (pruned picks kind full r slot t) (first-direct picks kind full r slot t) (projected picks kind full r t)
     unfolding first-direct projected
-    pruned-splits r slot empty = record { split = refl }
+    pruned-splits r slot empty = ok-splits empty
     pruned-splits r slot (node a m n) =
         let y = projected picks kind full (first (kind a)) m in
         rw (← (or-cond (direct full r (picks a) (kind a)) slot (first-direct picks kind full (after r) (suc (slot + size m)) n)), ← (kept-same r full (picks a) a (kind a) m n y (projected picks kind full (after r) n)))
         (bind-splits _ _ (pruned-splits (first (kind a)) (suc slot) m)
         (bind-splits _ _ (kept-splits r slot full (picks a) (kind a) m y)
-        (bind-splits _ _ {p = none} (pruned-splits (after r) (suc (slot + size m)) n) (record { split = refl }))))
+        (bind-splits _ _ {p = none} (pruned-splits (after r) (suc (slot + size m)) n) (ok-splits _))))
 
 -- ---- only what is asked of the slots counts
 
@@ -93,6 +97,7 @@ module _ (picks picks′ : ℕ → Bool) (kind : ℕ → Kind) (full : Bool) (ki
       rw (l .0, same k (l .1), projected-agrees (first (kind k)) (suc k) m (l .3), projected-agrees (after r) (suc (k + size m)) u (l .4))
 
 on-unless : {A B : Type 0} (h : A → B) (o : Option ℕ) (a : A) → on-answer h (unless o a) ≡ unless o (h a)
+unfolding _>>=_
 on-unless h none a = refl
 on-unless h (some p) a = refl
 
