@@ -119,7 +119,7 @@ fn least(a: usize, b: usize) -> usize
 }
 
 // Writes the listing, a buffer at a time.
-fn write_listing(records: &[u8], names: &[u8], text: &mut [u8])
+fn write_listing<'a>(records: &'a [u8], names: &'a [u8], text: &mut [u8])
     requires { ⌜ 0 < length (now text) ⌝ }
 {
     let mut at = 0;

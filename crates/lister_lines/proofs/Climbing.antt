@@ -1,14 +1,14 @@
--- A full name is put from its end: what is left to put is the full name of the record that was reached.
+-- A full name is put from its end: what is left to put is the full name of the record that was reached. `search climbing`.
 use mathlib.Core.Path.{_≡_, refl, sym, ap, _∙_}
-use mathlib.Core.List.{List, [], _∷_}
+use mathlib.Core.List.{List, [], _∷_, _++_}
 use Prim.Native.Nat.{ℕ, zero, suc, _+_, _-_, _<_, _≤_}
 use native.Mathlib.Omega.{arith}
 use lib.ListN.{length, set, getD, length-append, length-set}
 use lib.Seq.{sets, length-sets}
 use Rattle.laws.proofs.Runs.{sets-append, sets-before}
-use Rattle.plan.specs.Plan.{Lent}
-use Rattle.index_names.specs.Full.{full-at}
-use Rattle.index_names.specs.Told.{name-in, Spelt}
+use Rattle.record.specs.Trees.{Trees}
+use Rattle.index_ids.specs.Table.{ups-in, lens-in}
+use Rattle.index_names.specs.Table.{names-in, full-in, SpeltIn}
 use Rattle.index_names.proofs.Telling.{full-root, full-under}
 use Rattle.lister_lines.specs.Digits.{Put}
 
@@ -17,88 +17,91 @@ sets-apart : (F G l : List ℕ) (i j : ℕ) → i + length F ≤ j → sets (set
 sets-apart [] G l i j h = refl
 sets-apart (x ∷ F) G l i j h = sets-apart F G (set l i x) (suc i) j (omega arith) ∙ ap (λ (z : List ℕ). sets z (suc i) F) (sym (sets-before G l i j x (omega arith)))
 
-pub record Climbing (name : ℕ → List ℕ) (us : List ℕ) (m slot start : ℕ) (out₀ : List ℕ) (here end : ℕ) (out : List ℕ) : Type 0 where
+pub record Climbing (l : Trees) (plan : List (List ℕ)) (m : ℕ) (index : List (List ℕ)) (slot start : ℕ) (out₀ : List ℕ) (stop here end : ℕ) (out : List ℕ) : Type 0 where
+  pub spelt : SpeltIn l plan m index
+  pub stops : stop ≡ start + length (full-in l plan index slot)
+  pub most : stop ≤ start + 65535
   pub small : here < m
-  pub ends : end ≡ start + length (full-at name us here)
+  pub ends : end ≡ start + length (full-in l plan index here)
   pub room : end ≤ length out
-  pub whole : sets out₀ start (full-at name us slot) ≡ sets out start (full-at name us here)
+  pub whole : sets out₀ start (full-in l plan index slot) ≡ sets out start (full-in l plan index here)
   pub long : length out ≡ length out₀
 
-module _ (l : Lent) (xs : List ℕ) (m : ℕ) (us ls : List ℕ) (slot start : ℕ) (out₀ : List ℕ) (q : slot < m) (sp : Spelt l xs m us ls) where
-  pub climb-starts : (len : ℕ) → len ≡ getD ls slot 0 → len < 65536 → start + 65535 ≤ length out₀ → Climbing (name-in l xs) us m slot start out₀ slot (start + len) out₀
-  climb-starts len e b h = let g = sp .len slot q in record { small = q; ends = omega arith; room = omega arith; whole = refl; long = refl }
+module _ (l : Trees) (plan : List (List ℕ)) (m : ℕ) (index : List (List ℕ)) (slot start : ℕ) (out₀ : List ℕ) where
+  pub climb-starts : (len : ℕ) → slot < m → SpeltIn l plan m index → (len ≡ getD (lens-in index) slot 0) × (len < 65536) → start + 65535 ≤ length out₀ → Climbing l plan m index slot start out₀ (start + len) slot (start + len) out₀
+  climb-starts len q sp e h =
+      let g = sp .len slot q in
+      let e₀ = e .0 in
+      let e₁ = e .1 in
+      record { spelt = sp; stops = omega arith; most = omega arith; small = q; ends = omega arith; room = omega arith; whole = refl; long = refl }
 
-  module _ (here end : ℕ) (out nm : List ℕ) (h : Climbing (name-in l xs) us m slot start out₀ here end out) (en : nm ≡ name-in l xs here) where
-    N : ℕ → List ℕ
-    N = name-in l xs
+  module _ (stop here end : ℕ) (out : List ℕ) (h : Climbing l plan m index slot start out₀ stop here end out) where
+    module _ (name : List ℕ) (en : name ≡ names-in l plan here) where
+      -- What stands before the own name of the record that was reached: nothing at a root, else the name above it and a dot.
+      at-root : getD (ups-in index) here 0 ≡ 0 → (full-in l plan index here ≡ names-in l plan here) × (end ≡ start + length name)
+      at-root e =
+          let z = full-root (names-in l plan) (ups-in index) m (h .spelt .falls) here (h .small) e in
+          (z, omega (arith, h .ends, ap length z, ap length en))
 
-    -- What stands before the own name of the record that was reached.
-    split : (u : ℕ) → getD us here 0 ≡ u → start + length nm ≤ end
-    unfolding N
-    split zero e =
-        let z = full-root N us m (sp .falls) here (h .small) e in
-        omega (arith, h .ends, ap length z, ap length en)
-    split (suc p) e =
-        let z = full-under N us m (sp .falls) here p (h .small) e .1 in
-        omega (arith, h .ends, ap length z, ap length en, length-append (full-at N us p) (46 ∷ N here))
+      under : (p : ℕ) → getD (ups-in index) here 0 ≡ suc p → (full-in l plan index here ≡ full-in l plan index p ++ (46 ∷ names-in l plan here)) × (end ≡ suc (start + length (full-in l plan index p)) + length name)
+      under p e =
+          let z = full-under (names-in l plan) (ups-in index) m (h .spelt .falls) here p (h .small) e .1 in
+          (z, omega (arith, h .ends, ap length z, ap length en, length-append (full-in l plan index p) (46 ∷ names-in l plan here)))
 
-    pub climb-room : start + length nm ≤ end
-    climb-room = split (getD us here 0) refl
+      pub climb-back : length name ≤ end
+      climb-back = go (getD (ups-in index) here 0) refl
+        where
+          go : (u : ℕ) → getD (ups-in index) here 0 ≡ u → length name ≤ end
+          go zero e = let z = at-root e .1 in omega arith
+          go (suc p) e = let z = under p e .1 in omega arith
 
-    pub climb-fits : (end - length nm) + length nm ≤ length out
-    climb-fits = let r = climb-room in let o = h .room in omega arith
+      pub climb-fits : (end - length name) + length name ≤ length out
+      climb-fits = let r = climb-back in let o = h .room in omega arith
 
-    module _ (up : ℕ) (eu : up ≡ getD us here 0) where
-      pub climb-ends : (len : ℕ) (out′ : List ℕ) → len ≡ getD ls slot 0 → out′ ≡ sets out (end - length nm) nm → up ≡ 0 → Put (full-at (name-in l xs) us slot) start out₀ (start + len) out′
-      unfolding N
-      climb-ends len out′ el eo z =
-          let r = full-root N us m (sp .falls) here (h .small) (sym eu ∙ z) in
-          let i : end - length nm ≡ start = omega (arith, h .ends, ap length r, ap length en) in
-          let g = sp .len slot q in
-          record { bytes = eo ∙ rw (i, en) (sym (h .whole ∙ rw r refl)); end = omega arith }
+      module _ (up : ℕ) (eu : up ≡ getD (ups-in index) here 0) where
+        pub climb-ends : (out′ : List ℕ) → out′ ≡ sets out (end - length name) name → up ≡ 0 → Put (full-in l plan index slot) start out₀ stop out′
+        climb-ends out′ eo z =
+            let r = at-root (sym eu ∙ z) in
+            let r₁ = r .1 in
+            let i : end - length name ≡ start = omega arith in
+            record { bytes = eo ∙ rw (i, en) (sym (h .whole ∙ rw (r .0) refl)); end = h .stops }
 
-      module _ (z : up ≡ 0 → ⊥) where
-        goes : (p : ℕ) → getD us here 0 ≡ suc p → (out′ : List ℕ) → out′ ≡ sets out (end - length nm) nm
-            → (0 < end - length nm) × Climbing (name-in l xs) us m slot start out₀ p (end - length nm - 1) (set out′ (end - length nm - 1) 46)
-        unfolding N
-        goes p e out′ eo =
-            let y = full-under N us m (sp .falls) here p (h .small) e in
-            let k = length-append (full-at N us p) (46 ∷ N here) in
-            let n = ap length (y .1) in
-            let en′ = ap length en in
-            let d = h .ends in
-            let i : end - length nm ≡ suc (start + length (full-at N us p)) = omega arith in
-            let j : end - length nm - 1 ≡ start + length (full-at N us p) = omega arith in
-            let o = h .room in
-            let s = h .small in
-            let w = sym (sets-append (full-at N us p) (46 ∷ nm) out start) in
-            let a = sets-apart (full-at N us p) (46 ∷ nm) out start (start + length (full-at N us p)) (omega arith) in
-            let b = sets-before nm out (start + length (full-at N us p)) (suc (start + length (full-at N us p))) 46 (omega arith) in (
-              omega arith,
-              record {
-                small = omega (arith, y .0);
-                ends = j;
-                room = rw eo (simp (length-set, length-sets) (omega arith));
-                whole = h .whole ∙ rw (y .1, ← en, j, eo, i) (w ∙ a ∙ ap (λ (v : List ℕ). sets v start (full-at N us p)) (sym b));
-                long = rw eo (simp (length-set, length-sets) (h .long));
-              },
-            )
+        module _ (z : up ≡ 0 → ⊥) where
+          above : getD (ups-in index) here 0 ≡ suc (up - 1)
+          above = let e : up ≡ suc (up - 1) = omega arith in sym eu ∙ e
 
-        step : (u : ℕ) → getD us here 0 ≡ u → (out′ : List ℕ) → out′ ≡ sets out (end - length nm) nm
-            → (0 < end - length nm) × Climbing (name-in l xs) us m slot start out₀ (u - 1) (end - length nm - 1) (set out′ (end - length nm - 1) 46)
-        step zero e out′ eo = absurd (z (eu ∙ e))
-        step (suc p) e out′ eo = let d : suc p - 1 ≡ p = omega arith in rw d (goes p e out′ eo)
+          pub climb-dot : 1 ≤ end - length name
+          climb-dot = let e = under (up - 1) above .1 in omega arith
 
-        pub climb-dot : (out′ : List ℕ) → out′ ≡ sets out (end - length nm) nm → 0 < end - length nm
-        climb-dot out′ eo = step up (sym eu) out′ eo .0
+          pub climb-falls : up - 1 < here
+          climb-falls = let f = h .spelt .falls here (h .small) in omega arith
 
-        pub climb-write : (out′ : List ℕ) → out′ ≡ sets out (end - length nm) nm → end - length nm - 1 < length out′
-        climb-write out′ eo = let d = climb-dot out′ eo in let o = h .room in rw eo (simp length-sets (omega arith))
+          module _ (out′ : List ℕ) (eo : out′ ≡ sets out (end - length name) name) where
+            pub climb-write : end - length name - 1 < length out′
+            climb-write = let d = climb-dot in let o = h .room in rw eo (simp length-sets (omega arith))
 
-        pub climb-falls : up - 1 < here
-        climb-falls = let f = sp .falls here (h .small) in omega arith
+            pub climb-goes : Climbing l plan m index slot start out₀ stop (up - 1) (end - length name - 1) (set out′ (end - length name - 1) 46)
+            climb-goes =
+                let F = full-in l plan index (up - 1) in
+                let y = under (up - 1) above in
+                let y₁ = y .1 in
+                let i : end - length name ≡ suc (start + length F) = omega arith in
+                let j : end - length name - 1 ≡ start + length F = omega arith in
+                let o = h .room in
+                let s = h .small in
+                let f = climb-falls in
+                let w = sym (sets-append F (46 ∷ name) out start) in
+                let a = sets-apart F (46 ∷ name) out start (start + length F) (omega arith) in
+                let b = sets-before name out (start + length F) (suc (start + length F)) 46 (omega arith) in
+                record {
+                  spelt = h .spelt;
+                  stops = h .stops;
+                  most = h .most;
+                  small = omega arith;
+                  ends = j;
+                  room = rw eo (simp (length-set, length-sets) (omega arith));
+                  whole = h .whole ∙ rw (y .0, ← en, j, eo, i) (w ∙ a ∙ ap (λ (v : List ℕ). sets v start F) (sym b));
+                  long = rw eo (simp (length-set, length-sets) (h .long));
+                }
 
-        pub climb-goes : (out′ : List ℕ) → out′ ≡ sets out (end - length nm) nm → Climbing (name-in l xs) us m slot start out₀ (up - 1) (end - length nm - 1) (set out′ (end - length nm - 1) 46)
-        climb-goes out′ eo = step up (sym eu) out′ eo .1
-
-pub ruleset climbing = (climb-starts, climb-ends, climb-write, climb-falls, climb-goes)
+pub ruleset climbing = (climb-starts, climb-back, climb-fits, climb-ends, climb-dot, climb-write, climb-falls, climb-goes)

@@ -15,18 +15,22 @@ use Rattle.laws.proofs.Preorder.{size-mapped}
 use Rattle.record.specs.declared.Refusal.{Refusal}
 use Rattle.record.specs.declared.Check.{Check}
 use Rattle.record.specs.declared.Check.the-variants as check
-use Rattle.plan.specs.Plan.{Lent, lent, kids-in, plan-fields, Plan}
+use Rattle.record.specs.Trees.{Trees, alone}
+use Rattle.plan.specs.Plan.{kids-in}
+use Rattle.plan.specs.Table.{sources, numbers, members, PlanIn, fields-in}
 use Rattle.plan.proofs.Standing.{field-in}
 use Rattle.index_ids.specs.Ids.{id-in}
+use Rattle.index_ids.specs.Table.{ups-in}
 use Rattle.index_names.specs.Walk.{trees-of}
-use Rattle.index_names.specs.Full.{fulls, ups, full-at}
+use Rattle.index_names.specs.Full.{fulls, ups}
 use Rattle.index_names.specs.Told.{name-in}
+use Rattle.index_names.specs.Table.{names-in, full-in}
 use Rattle.index_names.proofs.Walks.{Numbered, all-there, all-numbered}
 use Rattle.index_names.proofs.Marking.{length-fulls, length-ups}
 use Rattle.index_names.proofs.Telling.{fulls-are}
 use Rattle.index.specs.Index.{Raised, Opened}
 use Rattle.index.proofs.Rows.{field-id, field-name, plan-is}
-use Rattle.lister_lines.specs.Text.{above, numbers, line-at, joined, refusal-text, Shown}
+use Rattle.lister_lines.specs.Text.{above, line-start, line-at, joined, refusal-text, Shown}
 
 lines-append : (a b : List Row) → lines (a ++ b) ≡ lines a ++ lines b
 unfolding lines
@@ -52,7 +56,7 @@ all-joined g n = joined-after g 0 n ∙ ap (joined g) (zero-add n)
 
 module _ (is : List ℕ) where
   abbrev text-of : (k u : ℕ) → List ℕ → List ℕ
-  text-of k u x = numbers is k u ++ (x ++ (10 ∷ []))
+  text-of k u x = line-start is k u ++ (x ++ (10 ∷ []))
 
   -- Places above and full names from a slot on, a line for each.
   unfoldable told : ℕ → List ℕ → List (List ℕ) → List ℕ
@@ -79,13 +83,13 @@ module _ (is : List ℕ) where
       let b = told-from f g us (suc k) n (omega arith) (λ i l. let z : suc k + i ≡ k + suc i = omega arith in rw z (h (suc i) (omega arith))) in
       rw (a, b)
 
-module _ (l : Lent) (xs is : List ℕ) where
+module _ (l : Trees) (xs is : List ℕ) where
   abbrev fld : ℕ → Field
   fld k = field-in l xs is k
 
   -- A line of the paper.
   line-is : (s : Start) (j u : ℕ) (t : Forest Field) → j ≡ s .slot → s .parent ≡ above is u → line (row s (fld j) t) ≡ text-of is (s .slot) u (s .full ++ name-in l xs j)
-  unfolding numbers
+  unfolding line-start
   line-is s j u t e p =
       rw (field-id l xs is j, field-name l xs is j, e, p)
       (sym (append-assoc (decimal (s .slot)) _ _
@@ -115,25 +119,25 @@ module _ (l : Lent) (xs is : List ℕ) where
 
 -- ---- a planned tree
 
-module _ (l : Lent) (xs is ks : List ℕ) (m : ℕ) (p : Plan l xs is ks m) (us : List ℕ) (rs : Raised ks m us) where
-  pub plan-listed : lines (rows top (plan-fields l xs is ks m)) ≡ joined (line-at l xs is us) m
-  unfolding line-at
-  plan-listed =
-      let T = trees-of (kids-in ks) m in
-      let n : length (ups 0 T) ≡ m = length-ups 0 T ∙ all-there (kids-in ks) m in
-      rw (plan-is l xs is ks m p)
-      (rows-told l xs is T top 0 (all-numbered (kids-in ks) m) refl
-      ∙ rw (← (fulls-are (name-in l xs) (kids-in ks) m us (rs .above)))
-      (told-from is (λ k. getD us k 0) (full-at (name-in l xs) us) (ups 0 T) 0 m n (λ i q. ap (λ (k : ℕ). getD us k 0) (zero-add i) ∙ rs .above i q)
-      ∙ all-joined (line-at l xs is us) m))
+plan-listed : (l : Trees) (plan : List (List ℕ)) (m : ℕ) (index : List (List ℕ)) → PlanIn l plan m → Raised (members plan) m (ups-in index) → lines (rows top (fields-in l plan m)) ≡ joined (line-at l plan index) m
+unfolding line-at
+plan-listed l plan m index p rs =
+    let T = trees-of (kids-in (members plan)) m in
+    let us = ups-in index in
+    let n : length (ups 0 T) ≡ m = length-ups 0 T ∙ all-there (kids-in (members plan)) m in
+    rw (plan-is l (sources plan) (numbers plan) (members plan) m p)
+    (rows-told l (sources plan) (numbers plan) T top 0 (all-numbered (kids-in (members plan)) m) refl
+    ∙ rw (← (fulls-are (names-in l plan) (kids-in (members plan)) m us (rs .above)))
+    (told-from (numbers plan) (λ k. getD us k 0) (full-in l plan index) (ups 0 T) 0 m n (λ i q. ap (λ (k : ℕ). getD us k 0) (zero-add i) ∙ rs .above i q)
+    ∙ all-joined (line-at l plan index) m))
 
 -- ---- the lister
 
-module _ (s pool xs is ks : List ℕ) (m : ℕ) (a b us d e f g : List ℕ) (r : Check) (o : Opened s pool r xs is ks m a b us d e f g) (at : ℕ) (out : List ℕ) (n : ℕ) (out′ : List ℕ) where
-  pub refusal-listed : (x : Refusal) → r ≡ check.Refused x → Shown (refusal-text x) at out n out′ → Shown (lister s pool) at out n out′
+module _ (records pool : List ℕ) (r : Check) (plan : List (List ℕ)) (m : ℕ) (index : List (List ℕ)) (o : Opened records pool r plan m index) (at : ℕ) (out : List ℕ) (n : ℕ) (out′ : List ℕ) where
+  pub refusal-listed : (x : Refusal) → r ≡ check.Refused x → Shown (refusal-text x) at out n out′ → Shown (lister records pool) at out n out′
   unfolding lister
   refusal-listed x q h = rw (o .refusal x q) h
 
-  pub tree-listed : r ≡ check.Fine → Shown (joined (line-at (lent pool s pool s) xs is us) m) at out n out′ → Shown (lister s pool) at out n out′
+  pub tree-listed : r ≡ check.Fine → Shown (joined (line-at (alone records pool) plan index) m) at out n out′ → Shown (lister records pool) at out n out′
   unfolding lister listing
-  tree-listed q h = rw (o .tree q, plan-listed (lent pool s pool s) xs is ks m (o .plan q) us (o .index q .raised)) h
+  tree-listed q h = rw (o .tree q, plan-listed (alone records pool) plan m index (o .planned q) (o .indexed q .raised)) h

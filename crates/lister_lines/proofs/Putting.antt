@@ -12,13 +12,14 @@ use Rattle.paper.specs.Lister.{decimal, signed, parent-text, listing}
 use Rattle.paper.specs.Sound.{text}
 use Rattle.record.specs.declared.Refusal.{Refusal}
 use Rattle.laws.proofs.Runs.{sets-append}
-use Rattle.plan.specs.Plan.{Lent}
+use Rattle.record.specs.Trees.{Trees}
+use Rattle.plan.specs.Table.{numbers}
 use Rattle.index_ids.specs.Ids.{id-in}
-use Rattle.index_names.specs.Full.{full-at}
-use Rattle.index_names.specs.Told.{name-in}
+use Rattle.index_ids.specs.Table.{ups-in}
+use Rattle.index_names.specs.Table.{full-in}
 use Rattle.lister_lines.specs.declared.Digits.{Digits}
 use Rattle.lister_lines.specs.Digits.{Ends, Put}
-use Rattle.lister_lines.specs.Text.{above, numbers, line-at, refusal-text}
+use Rattle.lister_lines.specs.Text.{above, line-start, line-at, refusal-text}
 
 pub put-whole : (text : List ℕ) (d : Digits) (at : ℕ) (out out′ : List ℕ) → Ends text d → out′ ≡ sets out at (take (10 - d .start) (drop (d .start) (d .bytes))) → Put text at out (at + (10 - d .start)) out′
 put-whole text d at out out′ h e =
@@ -73,16 +74,16 @@ module _ (is out : List ℕ) (at : ℕ) where
 
 pub put-numbers : (is : List ℕ) (k u : ℕ) (out : List ℕ) (a : ℕ) (o₁ : List ℕ) (b : ℕ) (o₂ : List ℕ) (c : ℕ) (o₃ : List ℕ)
     → Put (decimal k) 0 out a o₁ → Put (signed (id-in is k)) (a + 1) (set o₁ a 32) b o₂ → Put (parent-text (above is u)) (b + 1) (set o₂ b 32) c o₃
-    → Put (numbers is k u) 0 out (c + 1) (set o₃ c 32)
-unfolding numbers
+    → Put (line-start is k u) 0 out (c + 1) (set o₃ c 32)
+unfolding line-start
 put-numbers is k u out a o₁ b o₂ c o₃ f g h =
     put-then _ _ _ _ _ _ _ _ f (put-cons _ _ _ _ _ _ (put-then _ _ _ _ _ _ _ _ g (put-cons _ _ _ _ _ _ (put-then _ _ _ _ _ _ _ _ h (put-byte _ _ 32)))))
 
-pub put-line : (l : Lent) (xs is us : List ℕ) (k u : ℕ) (out : List ℕ) (a : ℕ) (o₁ : List ℕ) (b : ℕ) (o₂ : List ℕ)
-    → u ≡ getD us k 0 → Put (numbers is k u) 0 out a o₁ → Put (full-at (name-in l xs) us k) a o₁ b o₂
-    → Put (line-at l xs is us k) 0 out (b + 1) (set o₂ b 10)
+pub put-line : (l : Trees) (plan index : List (List ℕ)) (k u : ℕ) (out : List ℕ) (a : ℕ) (o₁ : List ℕ) (b : ℕ) (o₂ : List ℕ)
+    → u ≡ getD (ups-in index) k 0 → Put (line-start (numbers plan) k u) 0 out a o₁ → Put (full-in l plan index k) a o₁ b o₂
+    → Put (line-at l plan index k) 0 out (b + 1) (set o₂ b 10)
 unfolding line-at
-put-line l xs is us k u out a o₁ b o₂ e f g = rw (← e) (put-then _ _ _ _ _ _ _ _ f (put-then _ _ _ _ _ _ _ _ g (put-byte _ _ 10)))
+put-line l plan index k u out a o₁ b o₂ e f g = rw (← e) (put-then _ _ _ _ _ _ _ _ f (put-then _ _ _ _ _ _ _ _ g (put-byte _ _ 10)))
 
 pub put-refusal : (x : Refusal) (out o₁ : List ℕ) (a : ℕ) (o₂ o₃ : List ℕ) (b : ℕ) (o₄ : List ℕ) (c : ℕ) (o₅ : List ℕ)
     → o₁ ≡ sets out 0 (text "refused ") → Put (decimal (x .number)) 8 o₁ a o₂ → o₃ ≡ sets o₂ a (text " at ")

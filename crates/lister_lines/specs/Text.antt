@@ -1,4 +1,4 @@
--- The lister's text by the arrays of an index, and the part of a text that a buffer shows.
+-- The lister's text by the tables of a plan and its index, and the part of a text that a buffer shows.
 use Prim.Native.Nat.{ℕ, zero, suc}
 use mathlib.Core.Path.{_≡_}
 use mathlib.Core.List.{List, [], _∷_, _++_}
@@ -7,22 +7,25 @@ use lib.ListN.{length, getD, take, drop}
 use Rattle.paper.specs.Answer.{refused}
 use Rattle.paper.specs.Lister.{decimal, signed, parent-text, listing}
 use Rattle.record.specs.declared.Refusal.{Refusal}
-use Rattle.plan.specs.Plan.{Lent}
+use Rattle.record.specs.Trees.{Trees}
+use Rattle.plan.specs.Table.{numbers}
 use Rattle.index_ids.specs.Ids.{id-in}
-use Rattle.index_names.specs.Full.{full-at}
-use Rattle.index_names.specs.Told.{name-in}
+use Rattle.index_ids.specs.Table.{ups-in}
+use Rattle.index_names.specs.Table.{full-in}
 
 -- The id of the record before a place; none at place 0.
-abbrev pub above : List ℕ → ℕ → Option ℕ
-above is zero = none
-above is (suc p) = some (id-in is p)
+abbrev pub above : (ids : List ℕ) → ℕ → Option ℕ
+above ids zero = none
+above ids (suc k) = some (id-in ids k)
 
 -- A line up to its name.
-unfoldable pub numbers : List ℕ → (slot up : ℕ) → List ℕ
-numbers is k u = decimal k ++ (32 ∷ (signed (id-in is k) ++ (32 ∷ (parent-text (above is u) ++ (32 ∷ [])))))
+unfoldable pub line-start : (ids : List ℕ) (slot up : ℕ) → List ℕ
+line-start ids slot up =
+    decimal slot ++ (32 ∷ (signed (id-in ids slot) ++ (32 ∷ (parent-text (above ids up) ++ (32 ∷ [])))))
 
-unfoldable pub line-at : Lent → (xs is us : List ℕ) → ℕ → List ℕ
-line-at l xs is us k = numbers is k (getD us k 0) ++ (full-at (name-in l xs) us k ++ (10 ∷ []))
+unfoldable pub line-at : Trees → (plan index : List (List ℕ)) (slot : ℕ) → List ℕ
+line-at trees plan index slot =
+    line-start (numbers plan) slot (getD (ups-in index) slot 0) ++ (full-in trees plan index slot ++ (10 ∷ []))
 
 -- The lines of the slots below k.
 unfoldable pub joined : (ℕ → List ℕ) → ℕ → List ℕ

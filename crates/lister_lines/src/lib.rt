@@ -1,9 +1,15 @@
 // The lister: from lent bytes to its text.
 use index::open_base;
+use index_ids::IndexRows;
+use index_ids::LENS;
+use index_ids::UPS;
 use index_names::name_of;
+use plan::NUMBERS;
+use plan::PlanRows;
 use plan::put_bytes;
 use record::Check;
 use record::Refusal;
+use record::Trees;
 use record::place;
 ghost use mathlib.Core.Path.{_≡_};
 ghost use Prim.Native.Nat.{_+_, _-_, _<_, _≤_};
@@ -11,11 +17,11 @@ ghost use lib.ListN.{length, take, drop};
 ghost use lib.Seq.{sets};
 ghost use Rattle.paper.specs.Bytes.{turned};
 ghost use Rattle.paper.specs.Lister.{decimal, signed, parent-text, lister};
-ghost use Rattle.plan.specs.Plan.{lent};
-ghost use Rattle.index_names.specs.Full.{full-at};
-ghost use Rattle.index_names.specs.Told.{name-in, Spelt};
+ghost use Rattle.record.specs.Trees.{trees-in};
+ghost use Rattle.plan.specs.Table.{numbers};
+ghost use Rattle.index_names.specs.Table.{full-in, SpeltIn};
 ghost use Rattle.lister_lines.specs.Digits.{Ends, Put};
-ghost use Rattle.lister_lines.specs.Text.{above, numbers, line-at, joined, refusal-text, Shown};
+ghost use Rattle.lister_lines.specs.Text.{above, line-start, line-at, joined, refusal-text, Shown};
 
 // Decimal digits, at the end of ten bytes.
 struct Digits {
@@ -45,7 +51,8 @@ fn digits_of(number: u32) -> Digits
 // A number in decimal from `at` on, and the place behind it.
 fn put_decimal(out: &mut [u8], at: usize, number: u32) -> usize
     requires { ⌜ at + 10 ≤ length (now out) ⌝ }
-    ensures { λ r. ⌜ Put (decimal number) at (now (out .entry)) r (now (out .exit)) × (r ≤ at + 10) ⌝ }
+    ensures { λ r. ⌜ Put (decimal number) at (now (out .entry)) r (now (out .exit))
+        × (r ≤ at + 10) ⌝ }
 {
     let digits = digits_of(number);
     let bytes = digits.bytes;
@@ -57,7 +64,8 @@ fn put_decimal(out: &mut [u8], at: usize, number: u32) -> usize
 // An id as the signed number that it is.
 fn put_signed(out: &mut [u8], at: usize, id: u32) -> usize
     requires { ⌜ at + 11 ≤ length (now out) ⌝ }
-    ensures { λ r. ⌜ Put (signed (turned id)) at (now (out .entry)) r (now (out .exit)) × (r ≤ at + 11) ⌝ }
+    ensures { λ r. ⌜ Put (signed (turned id)) at (now (out .entry)) r (now (out .exit))
+        × (r ≤ at + 11) ⌝ }
 {
     if id < 2147483648 {
         return put_decimal(out, at, id);
@@ -75,93 +83,80 @@ fn span(x: u16) -> usize
 
 // The full name of a slot from `at` on: its own name at the end, then the names above it, each before a dot.
 fn put_full<'a>(
-    pool: &'a [u8],
-    base: &[u8],
-    request: &'a [u8],
-    added: &[u8],
-    slots: &[u16; 1024],
+    trees: &Trees<'a>,
+    plan: &PlanRows,
     m: usize,
-    ups: &[u16; 1024],
-    lens: &[u16; 1024],
+    index: &IndexRows,
     slot: usize,
     out: &mut [u8],
     at: usize,
 ) -> usize
-    requires { ⌜ (slot < m) × (Spelt (lent (now pool) (now base) (now request) (now added)) (now slots) m (now ups) (now lens) × (at + 65535 ≤ length (now out))) ⌝ }
-    ensures { λ r. ⌜ Put (full-at (name-in (lent (now (pool .entry)) (now (base .entry)) (now (request .entry)) (now (added .entry))) (now (slots .entry))) (now (ups .entry)) slot) at (now (out .entry)) r (now (out .exit)) × (r ≤ at + 65535) ⌝ }
+    requires { ⌜ (slot < m) × (SpeltIn (trees-in (now trees)) (now plan) m (now index)
+        × (at + 65535 ≤ length (now out))) ⌝ }
+    ensures { λ r. ⌜ Put (full-in (trees-in (now (trees .entry))) (now (plan .entry))
+        (now (index .entry)) slot) at (now (out .entry)) r (now (out .exit)) × (r ≤ at + 65535) ⌝ }
 {
-    let stop = at + span(lens[slot]);
+    let stop = at + span(index[LENS][slot]);
     let mut end = stop;
     let mut here = slot;
     loop {
-        let name = name_of(pool, base, request, added, slots, m, here);
+        let name = name_of(trees, plan, m, here);
         let from = end - name.len();
         put_bytes(out, from, name);
-        let up = place(ups[here]);
+        let up = place(index[UPS][here]);
         if up == 0 {
             return stop;
         }
-        out[from - 1] = 46;
         end = from - 1;
+        out[end] = 46;
         here = up - 1;
     }
 }
 
 // The id above, or a dash at a root.
-fn put_parent(out: &mut [u8], at: usize, ids: &[u32; 1024], up: usize) -> usize
+fn put_parent(out: &mut [u8], at: usize, plan: &PlanRows, up: usize) -> usize
     requires { ⌜ (up ≤ 1024) × (at + 11 ≤ length (now out)) ⌝ }
-    ensures { λ r. ⌜ Put (parent-text (above (now (ids .entry)) up)) at (now (out .entry)) r (now (out .exit)) × (r ≤ at + 11) ⌝ }
+    ensures { λ r. ⌜ Put (parent-text (above (numbers (now (plan .entry))) up)) at
+        (now (out .entry)) r (now (out .exit)) × (r ≤ at + 11) ⌝ }
 {
     if up == 0 {
         out[at] = 45;
         return at + 1;
     }
-    put_signed(out, at, ids[up - 1])
+    put_signed(out, at, plan[NUMBERS][up - 1])
 }
 
 // Slot, id and the id above, each before a blank.
-fn put_numbers(out: &mut [u8], ids: &[u32; 1024], slot: usize, up: usize) -> usize
+fn put_numbers(out: &mut [u8], plan: &PlanRows, slot: usize, up: usize) -> usize
     requires { ⌜ (slot < 1024) × ((up ≤ 1024) × (35 ≤ length (now out))) ⌝ }
-    ensures { λ r. ⌜ Put (numbers (now (ids .entry)) slot up) 0 (now (out .entry)) r (now (out .exit)) × (r ≤ 35) ⌝ }
+    ensures { λ r. ⌜ Put (line-start (numbers (now (plan .entry))) slot up) 0 (now (out .entry)) r
+        (now (out .exit)) × (r ≤ 35) ⌝ }
 {
     let a = put_decimal(out, 0, slot as u32);
     out[a] = 32;
-    let b = put_signed(out, a + 1, ids[slot]);
+    let b = put_signed(out, a + 1, plan[NUMBERS][slot]);
     out[b] = 32;
-    let c = put_parent(out, b + 1, ids, up);
+    let c = put_parent(out, b + 1, plan, up);
     out[c] = 32;
     c + 1
 }
 
 // The line of a slot at the start of the buffer, and its length.
-fn put_line(
-    records: &[u8],
-    pool: &[u8],
-    slots: &[u16; 1024],
-    ids: &[u32; 1024],
+fn put_line<'a>(
+    trees: &Trees<'a>,
+    plan: &PlanRows,
     m: usize,
-    ups: &[u16; 1024],
-    lens: &[u16; 1024],
+    index: &IndexRows,
     slot: usize,
     out: &mut [u8],
 ) -> usize
-    requires { ⌜ (slot < m) × (Spelt (lent (now pool) (now records) (now pool) (now records)) (now slots) m (now ups) (now lens) × (65571 ≤ length (now out))) ⌝ }
-    ensures { λ r. ⌜ Put (line-at (lent (now (pool .entry)) (now (records .entry)) (now (pool .entry)) (now (records .entry))) (now (slots .entry)) (now (ids .entry)) (now (ups .entry)) slot) 0 (now (out .entry)) r (now (out .exit)) × (r ≤ 65571) ⌝ }
+    requires { ⌜ (slot < m) × (SpeltIn (trees-in (now trees)) (now plan) m (now index)
+        × (65571 ≤ length (now out))) ⌝ }
+    ensures { λ r. ⌜ Put (line-at (trees-in (now (trees .entry))) (now (plan .entry))
+        (now (index .entry)) slot) 0 (now (out .entry)) r (now (out .exit)) × (r ≤ 65571) ⌝ }
 {
-    let named = put_numbers(out, ids, slot, place(ups[slot]));
-    let end = put_full(
-        pool,
-        records,
-        pool,
-        records,
-        slots,
-        m,
-        ups,
-        lens,
-        slot,
-        out,
-        named,
-    );
+    let named = put_numbers(out, plan, slot, place(index[UPS][slot]));
+    let end = put_full(trees, plan, m, index, slot, out, named);
     out[end] = 10;
     end + 1
 }
@@ -178,7 +173,8 @@ fn beyond(a: usize, b: usize) -> usize
 
 // A text that stands at `at` in a longer one, into a buffer that shows the longer one from `from` on: what falls into the buffer.
 fn put_shown(out: &mut [u8], from: usize, at: usize, text: &[u8])
-    ensures { λ r. ⌜ now (out .exit) ≡ sets (now (out .entry)) (at - from) (take (length (now (out .entry)) - (at - from)) (drop (from - at) (now (text .entry)))) ⌝ }
+    ensures { λ r. ⌜ now (out .exit) ≡ sets (now (out .entry)) (at - from)
+        (take (length (now (out .entry)) - (at - from)) (drop (from - at) (now (text .entry)))) ⌝ }
 {
     let skip = beyond(from, at);
     let to = beyond(at, from);
@@ -195,7 +191,8 @@ fn put_shown(out: &mut [u8], from: usize, at: usize, text: &[u8])
 // The line of a refusal at the start of the buffer, and its length.
 fn put_refusal(refusal: Refusal, out: &mut [u8]) -> usize
     requires { ⌜ 44 ≤ length (now out) ⌝ }
-    ensures { λ r. ⌜ Put (refusal-text refusal) 0 (now (out .entry)) r (now (out .exit)) × (r ≤ 44) ⌝ }
+    ensures { λ r. ⌜ Put (refusal-text refusal) 0 (now (out .entry)) r (now (out .exit))
+        × (r ≤ 44) ⌝ }
 {
     put_bytes(out, 0, b"refused ");
     let a = put_decimal(out, 8, refusal.number);
@@ -218,25 +215,24 @@ fn list_refusal(refusal: Refusal, from: usize, out: &mut [u8]) -> usize
 }
 
 // The listing of a tree, line after line.
-fn list_rows(
-    records: &[u8],
-    pool: &[u8],
-    slots: &[u16; 1024],
-    ids: &[u32; 1024],
+fn list_rows<'a>(
+    trees: &Trees<'a>,
+    plan: &PlanRows,
     m: usize,
-    ups: &[u16; 1024],
-    lens: &[u16; 1024],
+    index: &IndexRows,
     from: usize,
     line: &mut [u8],
     out: &mut [u8],
 ) -> usize
-    requires { ⌜ Spelt (lent (now pool) (now records) (now pool) (now records)) (now slots) m (now ups) (now lens) × (65571 ≤ length (now line)) ⌝ }
-    ensures { λ r. ⌜ Shown (joined (line-at (lent (now (pool .entry)) (now (records .entry)) (now (pool .entry)) (now (records .entry))) (now (slots .entry)) (now (ids .entry)) (now (ups .entry))) m) from (now (out .entry)) r (now (out .exit)) ⌝ }
+    requires { ⌜ SpeltIn (trees-in (now trees)) (now plan) m (now index)
+        × (65571 ≤ length (now line)) ⌝ }
+    ensures { λ r. ⌜ Shown (joined (line-at (trees-in (now (trees .entry))) (now (plan .entry))
+        (now (index .entry))) m) from (now (out .entry)) r (now (out .exit)) ⌝ }
 {
     let mut at = 0;
     let mut slot = 0;
     while slot < m {
-        let n = put_line(records, pool, slots, ids, m, ups, lens, slot, line);
+        let n = put_line(trees, plan, m, index, slot, line);
         put_shown(out, from, at, &line[..n]);
         at += n;
         slot += 1;
@@ -246,48 +242,18 @@ fn list_rows(
 
 // 2 to 8, then the listing, of any bytes: its bytes from `from` on, as many as the buffer holds. Answers the length of the whole listing. The
 // buffer for a line has room for the longest name that a u16 can count, and for what stands around it.
-pub fn listing(records: &[u8], pool: &[u8], from: usize, out: &mut [u8]) -> usize
-    ensures { λ r. ⌜ Shown (lister (now (records .entry)) (now (pool .entry))) from (now (out .entry)) r (now (out .exit)) ⌝ }
+pub fn listing<'a>(records: &'a [u8], pool: &'a [u8], from: usize, out: &mut [u8]) -> usize
+    ensures { λ r. ⌜ Shown (lister (now (records .entry)) (now (pool .entry))) from
+        (now (out .entry)) r (now (out .exit)) ⌝ }
 {
-    let mut slots = [0u16; 1024];
-    let mut ids = [0u32; 1024];
-    let mut kids = [0u16; 1024];
-    let mut id_heads = [0u16; 1024];
-    let mut id_next = [0u16; 1024];
-    let mut ups = [0u16; 1024];
-    let mut lens = [0u16; 1024];
-    let mut hashes = [0u32; 1024];
-    let mut name_heads = [0u16; 1024];
-    let mut name_next = [0u16; 1024];
-    let opened = open_base(
-        records,
-        pool,
-        &mut slots,
-        &mut ids,
-        &mut kids,
-        &mut id_heads,
-        &mut id_next,
-        &mut ups,
-        &mut lens,
-        &mut hashes,
-        &mut name_heads,
-        &mut name_next,
-    );
+    let mut plan = [[0u32; 1024]; 3];
+    let mut index = [[0u16; 1024]; 7];
+    let opened = open_base(records, pool, &mut plan, &mut index);
     if let Check::Refused(refusal) = opened {
         return list_refusal(refusal, from, out);
     }
+    let trees = [records, pool, records, pool];
     let m = records.len() / 24;
     let mut line = [0u8; 65571];
-    list_rows(
-        records,
-        pool,
-        &slots,
-        &ids,
-        m,
-        &ups,
-        &lens,
-        from,
-        &mut line,
-        out,
-    )
+    list_rows(&trees, &plan, m, &index, from, &mut line, out)
 }

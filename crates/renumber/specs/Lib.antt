@@ -1,1 +1,1 @@
-pub mod Renumbering
+pub mod Opening

@@ -31,7 +31,7 @@ module _ (kind : ℕ → Kind) where
   unfolding new-ids level preorder
   new-none m? own next = refl
 
-  new-node : (m? : Bool) (own next k : ℕ) (m n : Forest ℕ) → new-ids kind m? own next (node k m n)
+  pub new-node : (m? : Bool) (own next k : ℕ) (m n : Forest ℕ) → new-ids kind m? own next (node k m n)
       ≡ turned own ∷ (new-ids kind (is-map (kind k)) next (inside-first (is-map (kind k)) next m) m ++ new-ids kind m? (cond m? (next + size m) (suc own)) (cond m? (suc (next + size m)) (next + size m)) n)
   unfolding new-ids level preorder
   new-node m? own next k m n =

@@ -21,12 +21,12 @@ unfoldable pub new-ids : (ℕ → Kind) → Bool → (own next : ℕ) → Forest
 new-ids kind m? own next t = map bits-of (preorder (level numbered-source kind m? own next t))
 
 -- The trees stand there, and there are numbers for their records.
-pub record Room (s : List ℕ) (lv c k : ℕ) (ids : List ℕ) (first : ℕ) : Type 0 where
-  pub there : There s lv c k
-  pub numbers : first + size (row-of s lv c k .trees) < 4294967296
+pub record Room (records : List ℕ) (lv c k : ℕ) (ids : List ℕ) (first : ℕ) : Type 0 where
+  pub there : There records lv c k
+  pub numbers : first + size (row-of records lv c k .trees) < 4294967296
 
 -- The trees, siblings of a map or not, got the numbers from `first` on, and no other place changed.
-pub record Given (s : List ℕ) (m? : Bool) (lv c k : ℕ) (ids : List ℕ) (first : ℕ) (r : Reassigned) (ids′ : List ℕ) : Type 0 where
-  pub next : r .next ≡ row-of s lv c k .next
-  pub counter : r .«next_field_id» ≡ first + size (row-of s lv c k .trees)
-  pub given : ids′ ≡ sets ids k (new-ids (kind-at s) m? first (inside-first m? first (row-of s lv c k .trees)) (row-of s lv c k .trees))
+pub record Given (records : List ℕ) (m? : Bool) (lv c k : ℕ) (ids : List ℕ) (first : ℕ) (r : Reassigned) (ids′ : List ℕ) : Type 0 where
+  pub next : r .next ≡ row-of records lv c k .next
+  pub counter : r .«next_field_id» ≡ first + size (row-of records lv c k .trees)
+  pub given : ids′ ≡ sets ids k (new-ids (kind-at records) m? first (inside-first m? first (row-of records lv c k .trees)) (row-of records lv c k .trees))

@@ -27,7 +27,8 @@ pub fn reassign_field_ids(
     first: u32,
 ) -> Reassigned
     requires { ⌜ Room (now recs) levels count slot (now ids) first ⌝ }
-    ensures { λ r. ⌜ Given (now (recs .entry)) false levels count slot (now (ids .entry)) first r (now (ids .exit)) ⌝ }
+    ensures { λ r. ⌜ Given (now (recs .entry)) false levels count slot (now (ids .entry)) first r
+        (now (ids .exit)) ⌝ }
 {
     let mut at = slot;
     let mut left = count;
@@ -57,7 +58,8 @@ fn reassign_key_and_value(
     first: u32,
 ) -> Reassigned
     requires { ⌜ Room (now recs) levels count slot (now ids) first ⌝ }
-    ensures { λ r. ⌜ Given (now (recs .entry)) true levels count slot (now (ids .entry)) first r (now (ids .exit)) ⌝ }
+    ensures { λ r. ⌜ Given (now (recs .entry)) true levels count slot (now (ids .entry)) first r
+        (now (ids .exit)) ⌝ }
 {
     let mut at = slot;
     let mut left = count;
@@ -83,8 +85,11 @@ pub fn reassign_ids_visit_type(
     ids: &mut [u32; 1024],
     first: u32,
 ) -> Reassigned
-    requires { ⌜ (slot < slots (now recs)) × Room (now recs) levels (kids-at (now recs) slot) (slot + 1) (now ids) first ⌝ }
-    ensures { λ r. ⌜ Given (now (recs .entry)) (is-map (kind-at (now (recs .entry)) slot)) levels (kids-at (now (recs .entry)) slot) (slot + 1) (now (ids .entry)) first r (now (ids .exit)) ⌝ }
+    requires { ⌜ (slot < slots (now recs)) × Room (now recs) levels (kids-at (now recs) slot)
+        (slot + 1) (now ids) first ⌝ }
+    ensures { λ r. ⌜ Given (now (recs .entry)) (is-map (kind-at (now (recs .entry)) slot)) levels
+        (kids-at (now (recs .entry)) slot) (slot + 1) (now (ids .entry)) first r (now (ids .exit))
+        ⌝ }
 {
     let members = kids_at(recs, slot);
     if members == 0 {

@@ -14,7 +14,7 @@ use Rattle.paper.specs.Bytes.{turned, from}
 use Rattle.paper.specs.Lists.{id-at, id-list}
 use Rattle.paper.specs.Encode.{bytes32, id-bytes}
 use Rattle.paper.specs.Renumber.{renamed}
-use Rattle.laws.proofs.Runs.{sets-append, map-from, from-append}
+use Rattle.laws.proofs.Runs.{sets-append, sets-front, map-from, from-append}
 use Rattle.laws.proofs.Words.{turned-twice}
 use Rattle.laws.proofs.Finding.{place-none, renamed-at}
 use Rattle.record.specs.declared.Slot.{Slot}
@@ -26,7 +26,7 @@ use Rattle.index_ids.specs.Chain.{lowest-below}
 use Rattle.index_ids.proofs.Chains.{found-within}
 use Rattle.index_ids.specs.Ids.{id-in, ids-in, is-id}
 use Rattle.index_ids.proofs.Repeats.{slot-at, found-below, any-found}
-use Rattle.renumber_identifiers.specs.Mapped.{Mappable, Mapped}
+use Rattle.renumber_identifiers.specs.Mapped.{Mappable, mapped-bytes, Mapped}
 
 -- ---- bytes of ids
 
@@ -45,24 +45,28 @@ abbrev new-of : (s is new : List ℕ) (m : ℕ) → ℕ → ℕ
 new-of s is new m i = renamed (ids-in is m) (ids-in new m) (id-at s i)
 
 -- The first i were mapped.
-pub record Mapping (s is new : List ℕ) (m : ℕ) (out : List ℕ) (i : ℕ) (out′ : List ℕ) : Type 0 where
+pub record Mapping (s is new : List ℕ) (m : ℕ) (out : List ℕ) (n i : ℕ) (out′ : List ℕ) : Type 0 where
+  pub within : i ≤ n
   pub so-far : out′ ≡ sets out 0 (id-bytes (from (new-of s is new m) 0 i))
 
 module _ (s is new : List ℕ) (m : ℕ) (out : List ℕ) where
-  pub mapping-starts : Mapping s is new m out 0 out
+  pub mapping-starts : (n : ℕ) → Mapping s is new m out n 0 out
   unfolding from id-bytes
-  mapping-starts = record { so-far = refl }
+  mapping-starts n = record { within = omega arith; so-far = refl }
 
-  pub mapping-length : (i : ℕ) (out′ : List ℕ) → Mapping s is new m out i out′ → length out′ ≡ length out
-  mapping-length i out′ h = ap length (h .so-far) ∙ simp length-sets
+  pub mapping-length : (n i : ℕ) (out′ : List ℕ) → Mapping s is new m out n i out′ → length out′ ≡ length out
+  mapping-length n i out′ h = ap length (h .so-far) ∙ simp length-sets
 
-  pub mapping-done : (n i : ℕ) (out′ : List ℕ) → Mapping s is new m out i out′ → n ≡ length s / 4 → n ≤ i → i ≤ n → Mapped s is new m out out′
-  unfolding id-list
-  mapping-done n i out′ h e l g =
-      let q : i ≡ length s / 4 = omega arith in
-      record { bytes = h .so-far ∙ rw q (ap (λ (z : List ℕ). sets out 0 (id-bytes z)) (sym (map-from (renamed (ids-in is m) (ids-in new m)) (id-at s) 0 (length s / 4)))) }
+  pub mapping-done : (index : List (List ℕ)) (n i : ℕ) (out′ : List ℕ) → Mappable s is index m out → Mapping s is new m out n i out′ → n ≡ length s / 4 → n ≤ i → Mapped s is new m out out′
+  unfolding id-list mapped-bytes
+  mapping-done index n i out′ q h e l =
+      let g = h .within in
+      let r = q .room in
+      let z : i ≡ length s / 4 = omega arith in
+      let y = bytes-length (new-of s is new m) 0 i in
+      record { bytes = rw (map-from (renamed (ids-in is m) (ids-in new m)) (id-at s) 0 (length s / 4), ← z) (h .so-far ∙ sets-front (id-bytes (from (new-of s is new m) 0 i)) out (omega arith)) }
 
-  module _ (heads next : List ℕ) (h : Mappable s is heads next m out) (n i : ℕ) (en : n ≡ length s / 4) (l : i < n) (out′ : List ℕ) (k : Mapping s is new m out i out′) where
+  module _ (index : List (List ℕ)) (h : Mappable s is index m out) (n i : ℕ) (en : n ≡ length s / 4) (l : i < n) (out′ : List ℕ) (k : Mapping s is new m out n i out′) where
     pub bytes-room : (b : List ℕ) → length b ≡ 4 → i * 4 + length b ≤ length out′
     bytes-room b e =
         let a = h .room in
@@ -78,8 +82,8 @@ module _ (s is new : List ℕ) (m : ℕ) (out : List ℕ) where
           not-false-of true e = refl
           not-false-of false e = sym e
 
-      pub never-missing : (P : Type 0) → w ≡ Nothing → P
-      never-missing P q = absurd (let z : _≡_ {A = ℕ} 0 1 = bad in omega arith)
+      pub never-missing : w ≡ Nothing → Mapped s is new m out out′
+      never-missing q = absurd (let z : _≡_ {A = ℕ} 0 1 = bad in omega arith)
         where
           bad : _≡_ {A = ℕ} 0 1
           bad =
@@ -92,10 +96,13 @@ module _ (s is new : List ℕ) (m : ℕ) (out : List ℕ) where
         pub slot-few : j .0 < 1024
         slot-few = let a = found-within (is-id is (turned v)) m w ew j q in let d = h .few in omega arith
 
+        pub slot-scaled : j .0 * 4 < 18446744073709551616
+        slot-scaled = let a = slot-few in omega arith
+
         stands-at : place-of (eqb (turned v)) 0 (from (id-in is) 0 m) ≡ some (j .0)
         stands-at = sym (found-below (eqb (turned v)) (id-in is) m) ∙ ap slot-at (the-slot (lowest-below (is-id is (turned v)) 0 m) w j ew q)
 
-        pub mapping-goes : (x : ℕ) (b out″ : List ℕ) → x ≡ getD new (j .0) 0 → x < 4294967296 → b ≡ bytes32 x [] → out″ ≡ sets out′ (i * 4) b → Mapping s is new m out (i + 1) out″
+        pub mapping-goes : (x : ℕ) (b out″ : List ℕ) → x ≡ getD new (j .0) 0 → x < 4294967296 → b ≡ bytes32 x [] → out″ ≡ sets out′ (i * 4) b → Mapping s is new m out n (i + 1) out″
         unfolding id-bytes from
         mapping-goes x b out″ ex lx eb eo =
             let g = new-of s is new m in
@@ -103,6 +110,6 @@ module _ (s is new : List ℕ) (m : ℕ) (out : List ℕ) where
             let e₂ : turned (g i) ≡ x = ap turned (e₁ ∙ ap turned (sym ex)) ∙ turned-twice x lx in
             let n₁ : i * 4 ≡ 0 + length (id-bytes (from g 0 i)) = sym (zero-add _ ∙ bytes-length g 0 i) in
             let f : from g 0 (i + 1) ≡ from g 0 i ++ (g i ∷ []) = from-append g 0 i 1 ∙ rw (zero-add i) in
-            record { so-far = eo ∙ rw (eb, k .so-far, n₁, f, bytes-append (from g 0 i) (g i ∷ []), e₂) (sets-append (id-bytes (from g 0 i)) (bytes32 x []) out 0) }
+            record { within = omega arith; so-far = eo ∙ rw (eb, k .so-far, n₁, f, bytes-append (from g 0 i) (g i ∷ []), e₂) (sets-append (id-bytes (from g 0 i)) (bytes32 x []) out 0) }
 
-pub ruleset mapping = (mapping-starts, mapping-done, bytes-room, slot-few, mapping-goes)
+pub ruleset mapping = (mapping-starts, mapping-length, mapping-done, bytes-room, never-missing, slot-few, slot-scaled, mapping-goes)

@@ -2,24 +2,26 @@
 use Prim.Native.Nat.{ℕ, _≤_}
 use mathlib.Core.Path.{_≡_}
 use mathlib.Core.Bool.{not}
-use mathlib.Core.List.{List, map}
+use mathlib.Core.List.{List, map, _++_}
 use mathlib.Core.Option.{none}
-use lib.ListN.{length}
-use lib.Seq.{sets}
+use lib.ListN.{length, drop}
 use Rattle.paper.specs.Answer.{among, place-of}
 use Rattle.paper.specs.Lists.{id-list}
 use Rattle.paper.specs.Encode.{id-bytes}
 use Rattle.paper.specs.Renumber.{renamed}
-use Rattle.index_ids.specs.Chain.{Chained}
-use Rattle.index_ids.specs.Ids.{id-bucket, ids-in}
+use Rattle.index_ids.specs.Ids.{ids-in}
+use Rattle.index_ids.specs.Table.{IdsChained}
 
 -- 9 was tested, the old ids are indexed, and there is room.
-pub record Mappable (identifiers is heads next : List ℕ) (m : ℕ) (out : List ℕ) : Type 0 where
+pub record Mappable (identifiers ids : List ℕ) (index : List (List ℕ)) (m : ℕ) (out : List ℕ) : Type 0 where
   pub few : m ≤ 1024
-  pub chained : Chained (id-bucket is) heads next m
-  pub known : place-of (λ i. not (among i (ids-in is m))) 0 (id-list identifiers) ≡ none
+  pub chained : IdsChained ids index m
+  pub known : place-of (λ i. not (among i (ids-in ids m))) 0 (id-list identifiers) ≡ none
   pub room : length identifiers ≤ length out
 
+unfoldable pub mapped-bytes : (identifiers ids new-ids : List ℕ) (m : ℕ) → List ℕ
+mapped-bytes identifiers ids new-ids m = id-bytes (map (renamed (ids-in ids m) (ids-in new-ids m)) (id-list identifiers))
+
 -- The bytes of the mapped ids, then the old ones.
-pub record Mapped (identifiers is new : List ℕ) (m : ℕ) (out out′ : List ℕ) : Type 0 where
-  pub bytes : out′ ≡ sets out 0 (id-bytes (map (renamed (ids-in is m) (ids-in new m)) (id-list identifiers)))
+pub record Mapped (identifiers ids new-ids : List ℕ) (m : ℕ) (out out′ : List ℕ) : Type 0 where
+  pub bytes : out′ ≡ mapped-bytes identifiers ids new-ids m ++ drop (length (mapped-bytes identifiers ids new-ids m)) out

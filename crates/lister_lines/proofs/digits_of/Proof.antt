@@ -1,5 +1,4 @@
 -- Each turn writes the last digit of what is left before those that are written.
--- Assumes nothing.
 use Rattle.lister_lines.proofs.Counting.{Counting, counting}
 use borrow.Author.Needs.{needs}
 use Rattle.lister_lines.proofs.digits_of.Statement.{statement}

@@ -1,5 +1,4 @@
 -- The line is shown whole, or a part of it.
--- Assumes nothing.
 use Rattle.lister_lines.proofs.Showing.{shown-line}
 use native.Mathlib.Omega.{arith}
 use lib.ListN.{length-take}

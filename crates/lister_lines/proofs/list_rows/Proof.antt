@@ -1,20 +1,19 @@
 -- Each turn shows one line more: `Listing`.
--- Assumes nothing.
 use Prim.Native.Nat.{_-_}
 use native.Mathlib.Omega.{arith}
-use Rattle.plan.specs.Plan.{lent}
+use lib.ListN.{length-take}
+use Rattle.record.specs.Trees.{trees-in}
 use Rattle.lister_lines.specs.Text.{line-at}
 use Rattle.lister_lines.proofs.Showing.{Listing, rowing}
-use lib.ListN.{length-take}
 use borrow.Author.Needs.{needs}
 use Rattle.lister_lines.proofs.list_rows.Statement.{statement}
 use Rattle.lister_lines.proofs.list_rows.Tie as tie
 
 abbrev Inv-loop : tie.InvT-loop
-Inv-loop records pool slots ids m ups lens from line₀ out₀ at₀ slot₀ line out at slot = Listing (line-at (lent pool records pool records) slots ids ups) m from line₀ out₀ line out at slot
+Inv-loop trees plan m index from line₀ out₀ at₀ slot₀ line out at slot = Listing (line-at (trees-in trees) plan index) m from line₀ out₀ line out at slot
 
 abbrev μ-loop : tie.MeasureT-loop
-μ-loop records pool slots ids m ups lens from line₀ out₀ at₀ slot₀ line out at slot = m - slot
+μ-loop trees plan m index from line₀ out₀ at₀ slot₀ line out at slot = m - slot
 
 pub list-rows-spec : {M : Type 1} → statement M
 list-rows-spec =

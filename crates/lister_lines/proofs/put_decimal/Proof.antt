@@ -1,5 +1,4 @@
 -- The digits are the last bytes of ten.
--- Assumes nothing.
 use Rattle.lister_lines.proofs.Putting.{put-whole}
 use native.Mathlib.Omega.{arith}
 use borrow.Author.Needs.{needs}

@@ -1,9 +1,8 @@
 -- The numbers, then the name behind them.
--- Assumes nothing.
 use mathlib.Core.Path.{_∙_}
+use native.Mathlib.Omega.{arith}
 use lib.ListN.{length-set}
 use Rattle.lister_lines.proofs.Putting.{put-line}
-use native.Mathlib.Omega.{arith}
 use borrow.Author.Needs.{needs}
 use Rattle.lister_lines.proofs.put_line.Statement.{statement}
 use Rattle.lister_lines.proofs.put_line.Tie as tie
@@ -13,12 +12,13 @@ put-line-spec =
     tie.close
     (tie.spec
     (λ c. search needs)  -- mul-place
-    (λ c. search needs)  -- element-copy-out-place
+    (λ c. search needs)  -- index-1-place
+    (λ c. search needs)  -- index-2-place
     (λ c κs. search needs)  -- place-requires
-    (λ c κs. let p = c .before .before .before .before .before .before .pre in (omega (arith, p .1 .0 .sources .few), (omega (arith, p .1 .0 .sources .few, p .1 .0 .falls _ (p .0), c .place .ensures), omega arith)))  -- put-numbers-requires
-    (λ c κs. let p = c .before .before .before .before .before .before .before .before .before .before .pre in (p .0, (p .1 .0, omega arith)))  -- put-full-requires
+    (λ c κs. let p = c .before .before .before .before .pre in (omega (arith, p .1 .0 .sources .few), (omega (arith, p .1 .0 .sources .few, p .1 .0 .falls _ (p .0), c .place .ensures), omega arith)))  -- put-numbers-requires
+    (λ c κs. let p = c .before .before .before .before .before .before .before .before .pre in (p .0, (p .1 .0, omega arith)))  -- put-full-requires
     (λ c. search needs)  -- slice-write-out
     (λ c. search needs)  -- add-result
-    (λ c. simp length-set (c .before .before .put-full .kept .1 .1 .1 .1 .1 .1 .1 .1 .1 .0 ∙ c .before .before .before .before .before .before .put-numbers .kept .0))  -- same-length
+    (λ c. simp length-set (c .before .before .put-full .kept .1 .1 .1 .1 .1 .0 ∙ c .before .before .before .before .before .before .put-numbers .kept .0))  -- same-length
     (λ c. (search (put-line, needs), omega arith))  -- returns
     )

@@ -1,9 +1,8 @@
 -- Each number is put behind the last blank.
--- Assumes nothing.
 use mathlib.Core.Path.{_∙_}
+use native.Mathlib.Omega.{arith}
 use lib.ListN.{length-set}
 use Rattle.lister_lines.proofs.Putting.{put-numbers}
-use native.Mathlib.Omega.{arith}
 use borrow.Author.Needs.{needs}
 use Rattle.lister_lines.proofs.put_numbers.Statement.{statement}
 use Rattle.lister_lines.proofs.put_numbers.Tie as tie
@@ -17,7 +16,8 @@ put-numbers-spec =
     (λ c. search needs)  -- slice-write-out
     (λ c. search needs)  -- add-put-signed
     (λ c. search needs)  -- mul-put-signed
-    (λ c. search needs)  -- element-copy-out-put-signed
+    (λ c. search needs)  -- index-1-put-signed
+    (λ c. search needs)  -- index-2-put-signed
     (λ c κs. simp length-set (omega arith))  -- put-signed-requires
     (λ c. omega (arith, (simp length-set at (c .before .before .put-signed .kept .0))))  -- slice-write-out-2
     (λ c. search needs)  -- add-put-parent

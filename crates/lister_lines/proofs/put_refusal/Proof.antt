@@ -1,5 +1,4 @@
 -- Each part is put behind the last one.
--- Assumes nothing.
 use mathlib.Core.Path.{_∙_}
 use lib.ListN.{length-set}
 use Rattle.lister_lines.proofs.Putting.{put-refusal}

@@ -1,5 +1,4 @@
 -- The text stands before what is shown, behind it, or falls into it.
--- Assumes nothing.
 use Rattle.lister_lines.proofs.Showing.{falling}
 use borrow.Author.Needs.{needs}
 use Rattle.lister_lines.proofs.put_shown.Statement.{statement}

@@ -1,5 +1,4 @@
 -- From 2^31 on the bits are those of a negative number.
--- Assumes nothing.
 use mathlib.Core.Path.{ap, _∙_}
 use native.Mathlib.Omega.{arith}
 use lib.ListN.{length, length-set}

@@ -1,59 +1,39 @@
--- 1 to 6, then the rest of the entry. Assumes nothing.
-use Rattle.renumber.proofs.Entering.{entering}
+-- What each step asks is known by then, and what it answers is the entry's. Where `search` breaks off, t is what was known once 7 to 9
+-- were passed.
+use mathlib.Core.Path.{refl}
+use Prim.Native.Nat.{ℕ}
+use lib.ListN.{length-replicate}
+use Rattle.plan.proofs.Rooms.{roomy-fresh}
+use Rattle.index_ids.proofs.Tables.{rooms-fresh}
+use Rattle.renumber.proofs.Entry.{stop-6, readable, few-identifiers, few-records, numbers-left, stop-9, stop-18, mappable, writable, few-names, done}
 use borrow.Author.Needs.{needs}
 use Rattle.renumber.proofs.renumber.Statement.{statement}
 use Rattle.renumber.proofs.renumber.Tie as tie
-use Rattle.renumber.proofs.renumber.Reads as reads
-use Rattle.renumber.proofs.renumber.Lts as lts
-use Rattle.renumber.proofs.carry_out.Reads as carry-out-reads
-use Rattle.renumber.proofs.enter.Reads as enter-reads
-
--- src/lib.rt:157:11
-enter-requires : tie.Need-enter-requires
-enter-requires c κs = search needs
-
--- src/lib.rt:165:23
-enum-known-count : tie.Need-enum-known-count
-enum-known-count c = search needs
-
--- src/lib.rt:165:33
-carry-out-requires : tie.Need-carry-out-requires
-carry-out-requires c κs = search (entering, needs)
-
--- src/lib.rt:175:25
-enum-known-r : tie.Need-enum-known-r
-enum-known-r c = search needs
-
--- src/lib.rt:146:1
-same-length : tie.Need-same-length
-same-length c = search needs
-
--- src/lib.rt:146:1
-same-length-2 : tie.Need-same-length-2
-same-length-2 c = search needs
-
--- src/lib.rt:146:1
-same-length-3 : tie.Need-same-length-3
-same-length-3 c = search needs
-
--- src/lib.rt:146:1
-returns : tie.Need-returns
-returns c = search needs
-
--- src/lib.rt:146:1
-returns-2 : tie.Need-returns-2
-returns-2 c = search (entering, needs)
 
 pub renumber-spec : {M : Type 1} → statement M
 renumber-spec =
     tie.close
     (tie.spec
-    enter-requires
-    enum-known-count
-    carry-out-requires
-    enum-known-r
-    same-length
-    same-length-2
-    same-length-3
-    returns
-    returns-2)
+    (λ c κs. search needs)  -- open-requires
+    (λ c. search needs)  -- enum-known-r
+    (λ c. search needs)  -- enum-known-count
+    (λ c κs. (search (readable, needs), (search (few-identifiers, needs), (roomy-fresh, rooms-fresh))))  -- index-base-requires
+    (λ c. search needs)  -- enum-known-tested
+    (λ c. search (stop-9, needs))  -- returns
+    (λ c. search needs)  -- enum-told
+    (λ c κs. search needs)  -- turn-requires
+    (λ c. search needs)  -- sub-if1
+    (λ c. search needs)  -- cast-if1
+    (λ c. search (stop-18, needs))  -- returns-2
+    (λ c κs. search (numbers-left, needs))  -- reassign-field-ids-requires
+    (λ c κs. let t = c .before .before .before .before .before .before .before .before in mappable _ _ _ _ _ _ _ (t .before .before .before .before .before .before .before .before .before .«open» .ensures) _ (t .before .before .before .before .before .before .before .count .given .1) _ _ _ _ (t .before .before .index-base .ensures) (t .enum-told .given .1) _ refl)  -- apply-to-identifier-fields-requires
+    (λ c. search needs)  -- array-set-from-plan
+    (λ c κs. let t = c .before .before .before .before .before .before .before .before .before .before .before .before .before .before .before in writable _ _ _ _ _ _ _ (t .before .before .before .before .before .before .before .before .before .«open» .ensures) _ (t .before .before .before .before .before .before .before .count .given .1) _ _ _ _ (t .before .before .index-base .ensures) (t .enum-told .given .1) _)  -- write-plan-requires
+    (λ c. let t = c .before .before .before .before .before .before .before .before .before .before .before .before .before .before .before .before .before .before .before .before in record { fits = few-records _ _ _ _ _ _ _ (t .before .before .before .before .before .before .before .before .before .«open» .ensures) _ (t .before .before .before .before .before .before .before .count .given .1) })  -- cast-t49
+    (λ c. let t = c .before .before .before .before .before .before .before .before .before .before .before .before .before .before .before .before .before .before .before .before in record { fits = few-names _ _ _ _ _ _ _ (t .before .before .before .before .before .before .before .before .before .«open» .ensures) _ (t .before .before .before .before .before .before .before .count .given .1) _ _ _ _ (t .before .before .index-base .ensures) (t .enum-told .given .1) _ _ _ _ _ _ (c .before .before .before .before .write-plan .ensures) })  -- cast-t50
+    (λ c. search (stop-6, needs))  -- returns-3
+    (λ c. search needs)  -- same-length
+    (λ c. search needs)  -- same-length-2
+    (λ c. search needs)  -- same-length-3
+    (λ c. let t = c .before .before .before .before .before .before .before .before .before .before .before .before .before .before .before .before .before .before .before .before in done _ _ _ _ _ _ _ (t .before .before .before .before .before .before .before .before .before .«open» .ensures) _ (t .before .before .before .before .before .before .before .count .given .1) _ _ _ _ (t .before .before .index-base .ensures) (t .enum-told .given .1) _ _ _ _ _ _ (c .before .before .before .before .write-plan .ensures) _ (c .before .before .before .before .before .before .before .before .before .before .before .before .before .before .before .before .before .before .if1 .left) _ _ (length-replicate {A = ℕ} 1024 0) (c .before .before .before .before .before .before .before .before .before .before .before .before .before .before .before .before .reassign-field-ids .ensures) _ _ _ (c .before .before .before .before .before .before .before .before .before .before .before .before .before .before .before .before .before .before .before .turn .ensures) (c .before .before .before .before .before .before .before .before .before .before .before .apply-to-identifier-fields .ensures))  -- returns-4
+    )

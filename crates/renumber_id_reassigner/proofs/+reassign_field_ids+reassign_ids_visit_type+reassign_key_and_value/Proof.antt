@@ -1,4 +1,4 @@
--- Siblings are a loop whose rest gives the whole; levels left, then records left, fall. Assumes nothing.
+-- Siblings are a loop whose rest gives the whole; levels left, then records left, fall.
 use mathlib.Core.Bool.{true, false}
 use native.Mathlib.Omega.{arith}
 use borrow.Author.Needs.{needs}
