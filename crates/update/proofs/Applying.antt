@@ -1,12 +1,12 @@
--- The entry is 1 to 6, the paper's plan, and its rebuild: each step's answer is the paper's.
+-- The entry is 1 to 6, the base's 7 to 9, the paper's plan, and its rebuild: each step's answer is the paper's.
 use mathlib.Core.Path.{_≡_, refl, sym, ap, _∙_}
 use mathlib.Core.Bool.{true}
-use mathlib.Core.List.{List, []}
+use mathlib.Core.List.{List, [], _∷_}
 use mathlib.Core.Option.{none}
 use Prim.Native.Nat.{ℕ, _≤_, _<_}
 use native.Mathlib.Omega.{arith}
 use borrow.Author.Tests.{not-false}
-use lib.ListN.{length}
+use lib.ListN.{length, replicate, length-replicate}
 use Rattle.paper.specs.Answer.{Answer, ok, refused, _>>=_}
 use Rattle.paper.specs.Refusals.{roomy, limited, rebuilt-within}
 use Rattle.paper.specs.Forest.{Forest, siblings}
@@ -16,40 +16,43 @@ use Rattle.paper.specs.Decode.{decode}
 use Rattle.paper.specs.Lists.{ok-deletion, ok-addition, entries, entries-ok, id-list}
 use Rattle.paper.specs.Limits.{room, sized-update}
 use Rattle.paper.specs.Sound.{sound, within}
-use Rattle.paper.specs.Update.{Schema, planned}
+use Rattle.paper.specs.Update.{Schema, schema, planned}
 use Rattle.paper.specs.Rebuild.{arrivals, rebuilt, carried-out, update}
-use Rattle.paper.specs.Entries.{Result, update-entry}
+use Rattle.paper.specs.Entries.{Result, request-in, update-entry}
+use Rattle.paper.specs.Outcome.{Buffer, for-records, for-names, Answers}
+use Rattle.record.specs.declared.Check.{Check}
+use Rattle.record.specs.declared.Check.the-variants as check
 use Rattle.record.specs.declared.Refusal.{Refusal}
 use Rattle.record.specs.declared.Changed.{Changed}
 use Rattle.record.specs.declared.Changed.the-variants as changed
-use Rattle.laws.proofs.Basics.{unbind, fault-if-ok}
-use Rattle.laws.proofs.Fitting.{sized-slots, rooms-of}
-use Rattle.laws.proofs.RoundTrip.{both}
+use Rattle.record.specs.Says.{changes}
+use Rattle.record.specs.Trees.{Trees, Lists, stored-in, lent-in}
+use Rattle.record.proofs.Testing.{checked-ok, checked-refused, refuses}
+use Rattle.laws.proofs.Basics.{unbind, ok-is, fault-if-ok}
+use Rattle.laws.proofs.Fitting.{rooms-of}
 use Rattle.record_limits.proofs.Within.{update-sized, identifiers-most, deletions-most}
-use Rattle.plan.specs.Plan.{lent}
-use Rattle.update_dropped.specs.declared.Dropped.{Dropped}
-use Rattle.update_dropped.specs.Set.{dropped-ids}
-use Rattle.update_rebuild.specs.Sources.{additions}
-use Rattle.update_rebuild.proofs.Paper.{rebuilt-fields}
+use Rattle.plan.specs.Table.{Roomy}
+use Rattle.index_ids.specs.Table.{Rooms}
+use Rattle.index.specs.Index.{Readable, BaseIndexed}
+use Rattle.update_rebuild.specs.declared.Given.{Given}
+use Rattle.update_rebuild.specs.Planned.{gone-in, unders-in}
 use Rattle.update_request.specs.declared.Opened.{Opened}
 use Rattle.update_request.specs.declared.Opened.the-variants as it
-use Rattle.update_request.specs.Opened.{Trees, both-trees, readable, opening, opened}
+use Rattle.update_request.specs.Opened.{Forests, both-trees, readable, opening, opened, Opens}
 use Rattle.update_request.proofs.Opening.{open-refused}
-use Rattle.update_write.specs.Ending.{sounded, limited-sounded, Answers, Rebuildable, rebuilt-tree}
-use Rattle.update_write.proofs.Sounding.{refuses}
 use Rattle.update_schema.specs.declared.Decided.{Decided}
 use Rattle.update_schema.specs.declared.Decided.the-variants as decided
-use Rattle.update_schema.specs.Deletions.{gone-ids, Gathered}
+use Rattle.update_schema.specs.Base.{DecisionsRoom}
+use Rattle.update_schema.specs.Deletions.{gone-ids}
 use Rattle.update_schema.specs.Additions.{parents-in}
-use Rattle.update.specs.Updating.{schema-of, request-of, Opens, Decidable, Settled, Settles}
-use Rattle.update.proofs.Settling.{decode-parts, Contents, contents}
-
--- ---- the entry behind 6
+use Rattle.update_write.specs.Ending.{sounded, limited-sounded, Rebuildable, rebuilt-tree, Ends}
+use Rattle.update.specs.Updating.{given-in, Passed, Decidable, Settled, Settles}
+use Rattle.update.proofs.Settling.{Contents, contents}
 
 abbrev result-of : Schema → Result
 result-of u = record { tree = u .tree; identifiers = []; last = turned (u .last) }
 
-open-ok : (P : Type 0) (x : Answer Trees) (c k : ℕ) → it.Roots c k ≡ opened x → ((t n : Forest Field) → x ≡ ok (both-trees t n) → c ≡ siblings t → k ≡ siblings n → P) → P
+open-ok : (P : Type 0) (x : Answer Forests) (c k : ℕ) → it.Roots c k ≡ opened x → ((base added : Forest Field) → x ≡ ok (both-trees base added) → c ≡ siblings base → k ≡ siblings added → P) → P
 unfolding opened
 open-ok P (ok v) c k e f = f (v .base) (v .added) refl (let z : c ≡ siblings (v .base) = cc in z) (let z : k ≡ siblings (v .added) = cc in z)
 open-ok P (refused n l q) c k e f = let z : _≡_ {A = ℕ} 0 1 = cc in absurd (omega arith)
@@ -61,14 +64,79 @@ end-joined (ok e) (ok g) u f = refl
 end-joined (ok e) (refused n l k) u f = refl
 end-joined (refused n l k) y u f = refl
 
-module _ (s p i : List ℕ) (last : ℕ) (d a b r : List ℕ) (out text : List ℕ) where
-  after-6 : Trees → Answer Result
-  after-6 v = update (schema-of (v .base) (turned last)) (request-of i r d a (v .added)) >>= λ u. ok (result-of u)
+-- ---- what passed 1 to 6
 
-  entry-is : update-entry s p i last d a b r (length out) (length text) ≡ (opening s p i d a b r (length out) (length text) >>= after-6)
-  unfolding update-entry opening readable after-6 _>>=_
-  entry-is = go (roomy (room (length out) (length text))) (limited (sized-update s p i d a b r)) (decode 0 s p) (decode 1 b r) (entries-ok 2 ok-deletion d r) (entries-ok 3 ok-addition a r)
-      (λ t n. update (schema-of t (turned last)) (request-of i r d a n) >>= λ u. ok (result-of u))
+module _ (l : Trees) (lists : Lists) (rr rn : ℕ) (w : Opened) (o : Opens l lists rr rn w) (roots columns : ℕ) (q : w ≡ it.Roots roots columns) where
+  record Through : Type 0 where
+    pub passed : Passed l lists
+    pub rooms : room rr rn ≡ true
+    pub root-count : roots ≡ siblings (passed .base)
+    pub column-count : columns ≡ siblings (passed .added)
+    pub opens : (last : ℕ) → opening l lists last rr rn ≡ ok (both-trees (passed .base) (passed .added))
+
+  through : Through
+  unfolding opening sized-update _>>=_
+  through = open-ok _ (opening l lists 0 rr rn) roots columns (sym q ∙ o .says 0) λ base added e er ec.
+      unbind _ _ e λ _ e₁ a₁. unbind _ _ a₁ λ _ e₂ a₂.
+      record {
+        passed = record { base = base; added = added; limits = λ _ _ _. not-false _ (fault-if-ok 2 0 0 _ e₂); read = a₂ };
+        rooms = not-false _ (fault-if-ok 1 0 0 _ e₁);
+        root-count = er;
+        column-count = ec;
+        opens = λ last. e;
+      }
+
+  limits : sized-update (stored-in l 0) (lent-in l lists 0 0) ≡ true
+  limits = through .passed .limits 0 0 0
+
+  own : Contents l lists (through .passed .base) (through .passed .added)
+  own = contents l lists (through .passed .base) (through .passed .added) (through .passed .read)
+
+  pub test-asks : (plan index : List (List ℕ)) → Roomy plan → Rooms index → Readable l (slots (l .records)) × ((length (lists .identifiers) ≤ 256) × (Roomy plan × Rooms index))
+  test-asks plan index p i = (
+    record { limits = update-sized _ _ true (sym limits) refl; count = refl; decodes = rw (own .base-read) },
+    (identifiers-most _ _ true (sym limits) refl, (p, i)),
+  )
+
+  pub decide-asks : (x : Check) (plan plan′ index : List (List ℕ)) → BaseIndexed l (slots (l .records)) (lists .identifiers) x plan plan′ index → x ≡ check.Fine
+      → (g last : ℕ) → (g ≡ turned last) × (g < 4294967296) → (decisions : List (List ℕ)) → DecisionsRoom decisions → Decidable l lists g columns plan′ index decisions
+  decide-asks x plan plan′ index b d g last eg decisions r =
+      record {
+        passed = through .passed;
+        count = through .column-count;
+        low = eg .1;
+        is-plan = b .planned;
+        tree = b .tree;
+        is-sound = checked-ok (sound 0 _ (id-list (lists .identifiers))) x (b .answer) d;
+        has-index = b .indexed d;
+        room = r;
+      }
+
+-- ---- the entry
+
+module _ (l : Trees) (lists : Lists) (last : ℕ) (out text : List ℕ) where
+  abbrev entry : Answer Result
+  entry = update-entry (stored-in l last) (lent-in l lists (length out) (length text))
+
+  abbrev open-first : Answer Forests
+  open-first = opening l lists last (length out) (length text)
+
+  abbrev buffers : List Buffer
+  buffers = for-records out ∷ for-names text ∷ []
+
+  abbrev Ends-so : Changed → List ℕ → List ℕ → Type 0
+  Ends-so r out′ text′ = Answers changes entry buffers r (out′ ∷ text′ ∷ [])
+
+  -- what follows 6
+  abbrev carried : ℕ → Forest Field → Forest Field → Answer Result
+  carried g base added = update (schema base g) (request-in (lent-in l lists 0 0) added) >>= λ u. ok (result-of u)
+
+  entry-is : entry ≡ (open-first >>= λ v. carried (turned last) (v .base) (v .added))
+  unfolding update-entry opening readable _>>=_
+  entry-is =
+      go (roomy (room (length out) (length text))) (limited (sized-update (stored-in l last) (lent-in l lists (length out) (length text))))
+      (decode 0 (l .records) (l .pool)) (decode 1 (l .added-records) (l .request-pool))
+      (entries-ok 2 ok-deletion (lists .deletions) (l .request-pool)) (entries-ok 3 ok-addition (lists .additions) (l .request-pool)) (carried (turned last))
     where
       go : (w z : Answer (Unit {0})) (x y : Answer (Forest Field)) (u v : Answer (Unit {0})) (f : Forest Field → Forest Field → Answer Result)
           → (w >>= λ _. z >>= λ _. x >>= λ t. y >>= λ n. u >>= λ _. v >>= λ _. f t n) ≡ ((w >>= λ _. z >>= λ _. x >>= λ t. y >>= λ n. u >>= λ _. v >>= λ _. ok (both-trees t n)) >>= λ t. f (t .base) (t .added))
@@ -80,100 +148,93 @@ module _ (s p i : List ℕ) (last : ℕ) (d a b r : List ℕ) (out text : List �
       go (ok e) (ok g) (ok t) (ok m) (ok j) (refused n l k) f = refl
       go (ok e) (ok g) (ok t) (ok m) (ok j) (ok q) f = refl
 
-  goes : (t n : Forest Field) → opening s p i d a b r (length out) (length text) ≡ ok (both-trees t n) → update-entry s p i last d a b r (length out) (length text) ≡ (update (schema-of t (turned last)) (request-of i r d a n) >>= λ u. ok (result-of u))
-  unfolding after-6 _>>=_
-  goes t n e = entry-is ∙ rw e
-
-  module _ (w : Opened) (ew : w ≡ opened (opening s p i d a b r (length out) (length text))) where
-    pub front-stops : (y : Refusal) → w ≡ it.Refused y → Answers (update-entry s p i last d a b r (length out) (length text)) out text (changed.Refused y) out text
+  module _ (w : Opened) (o : Opens l lists (length out) (length text) w) where
+    pub open-stops : (y : Refusal) → w ≡ it.Refused y → Ends-so (changed.Refused y) out text
     unfolding _>>=_
-    front-stops y q = refuses _ y out text (entry-is ∙ rw (open-refused (opening s p i d a b r (length out) (length text)) w y ew q))
+    open-stops y q = refuses _ y buffers (entry-is ∙ rw (open-refused open-first w y (o .says last) q))
 
-    pub front-goes : (c k : ℕ) → w ≡ it.Roots c k → Opens s p i d a b r c k out text
-    front-goes c k q = record { both = sym q ∙ ew }
+    module _ (roots columns : ℕ) (q : w ≡ it.Roots roots columns) where
+      abbrev opened-as : Through l lists (length out) (length text) w o roots columns q
+      opened-as = through l lists (length out) (length text) w o roots columns q
 
-  module _ (c k : ℕ) (h : Opens s p i d a b r c k out text) where
-    record Passed : Type 0 where
-      pub base : Forest Field
-      pub added : Forest Field
-      pub rooms : room (length out) (length text) ≡ true
-      pub limits : sized-update s p i d a b r ≡ true
-      pub read : readable s p d a b r ≡ ok (both-trees base added)
-      pub roots : c ≡ siblings base
-      pub columns : k ≡ siblings added
-      pub entry : update-entry s p i last d a b r (length out) (length text) ≡ (update (schema-of base (turned last)) (request-of i r d a added) >>= λ u. ok (result-of u))
+      abbrev base : Forest Field
+      base = opened-as .passed .base
 
-    passed : Passed
-    unfolding opening
-    passed = open-ok _ (opening s p i d a b r (length out) (length text)) c k (h .both) λ t n e et en.
-        unbind _ _ e λ _ e₁ a₁. unbind _ _ a₁ λ _ e₂ a₂.
-        record {
-          base = t;
-          added = n;
-          rooms = not-false _ (fault-if-ok 1 0 0 _ e₁);
-          limits = not-false _ (fault-if-ok 2 0 0 _ e₂);
-          read = a₂;
-          roots = et;
-          columns = en;
-          entry = goes t n e;
-        }
+      abbrev added : Forest Field
+      added = opened-as .passed .added
 
-    module _ (g : ℕ) (eg : (g ≡ turned last) × (g < 4294967296)) where
-      pub settle-asks : (gone us fs st : List ℕ) → length gone ≡ 64 → length us ≡ 64 → length fs ≡ 64 → length st ≡ 64 → Decidable s p i d a b r k g gone us fs st
-      settle-asks gone us fs st lg lu lf ls =
-          record { base = passed .base; added = passed .added; limits = passed .limits; read = passed .read; count = passed .columns; low = eg .1; gone-room = lg; under-room = lu; first-room = lf; start-room = ls }
+      read-as : Contents l lists base added
+      read-as = contents l lists base added (opened-as .passed .read)
 
-      entry-at : update-entry s p i last d a b r (length out) (length text) ≡ (update (schema-of (passed .base) g) (request-of i r d a (passed .added)) >>= λ u. ok (result-of u))
-      entry-at = passed .entry ∙ ap (λ (z : ℕ). update (schema-of (passed .base) z) (request-of i r d a (passed .added)) >>= λ u. ok (result-of u)) (sym (eg .0))
+      goes : entry ≡ carried (turned last) base added
+      unfolding _>>=_
+      goes = entry-is ∙ rw (opened-as .opens last)
 
-      module _ (y : Decided) (gone us fs st : List ℕ) (v : Settles s p i g d a b r y gone us fs st) where
-        pub settled-stops : (x : Refusal) → y ≡ decided.Refused x → Answers (update-entry s p i last d a b r (length out) (length text)) out text (changed.Refused x) out text
-        unfolding update _>>=_
-        settled-stops x q = refuses _ x out text (entry-at ∙ rw (v .refusal (passed .base) (passed .added) (passed .read) x q))
+      module _ (x : Check) (plan plan′ index : List (List ℕ)) (b : BaseIndexed l (slots (l .records)) (lists .identifiers) x plan plan′ index) where
+        pub test-stops : (y : Refusal) → x ≡ check.Refused y → Ends-so (changed.Refused y) out text
+        unfolding update planned _>>=_
+        test-stops y d =
+            refuses _ y buffers
+            (goes ∙ rw (ok-is (sym (read-as .base-read) ∙ b .tree), checked-refused (sound 0 _ (id-list (lists .identifiers))) x y (b .answer) d))
 
-        pub gather-asks : entries d ≤ 64
-        gather-asks = let w = deletions-most s p i d a b r true (sym (passed .limits)) refl in omega arith
+        module _ (g : ℕ) (eg : (g ≡ turned last) × (g < 4294967296)) where
+          goes-at : entry ≡ carried g base added
+          goes-at = goes ∙ ap (λ (z : ℕ). carried z base added) (sym (eg .0))
 
-        module _ (e : ℕ) (q : y ≡ decided.Last e) where
-          the-plan : Settled (planned (schema-of (passed .base) g) (request-of i r d a (passed .added))) r b g (passed .added) gone (entries d) us fs st (entries a) e
-          the-plan = v .accepted (passed .base) (passed .added) (passed .read) e q
+          module _ (y : Decided) (decisions′ : List (List ℕ)) (v : Settles l lists g y decisions′) where
+            pub decide-stops : (f : Refusal) → y ≡ decided.Refused f → Ends-so (changed.Refused f) out text
+            unfolding update _>>=_
+            decide-stops f z = refuses _ f buffers (goes-at ∙ rw (v .refusal base added (opened-as .passed .read) f z))
 
-          read-parts : Contents s p d a b r (passed .base) (passed .added)
-          read-parts = contents s p d a b r (passed .base) (passed .added) (passed .read)
+            module _ (consumed : ℕ) (z : y ≡ decided.Last consumed) (given : Given) (eg′ : given ≡ given-in l lists consumed) where
+              the-plan : Settled l lists g base added decisions′ consumed
+              the-plan = v .accepted base added (opened-as .passed .read) consumed z
 
-          module _ (set : Dropped) (f : Gathered gone (entries d) set) where
-            pub write-asks : Rebuildable s p i b r c set us fs (entries a) out text
-            write-asks =
-                let w = rooms-of (length out) (length text) (passed .rooms) in
-                record {
-                  base = passed .base;
-                  added = passed .added;
-                  base-limits = update-sized s p i d a b r true (sym (passed .limits)) refl;
-                  base-read = read-parts .base;
-                  added-read = read-parts .added;
-                  count = passed .roots;
-                  few = identifiers-most s p i d a b r true (sym (passed .limits)) refl;
-                  good = f .good;
-                  resolved = the-plan .resolved;
-                  records-room = w .0;
-                  names-room = w .1;
-                }
+              pub write-asks : Rebuildable l (lists .identifiers) given roots decisions′ plan′ index out text
+              write-asks =
+                  let w = rooms-of (length out) (length text) (opened-as .rooms) in
+                  let f = deletions-most _ _ true (sym (opened-as .passed .limits 0 0 0)) refl in
+                  rw eg′
+                  record {
+                    base = base;
+                    added = added;
+                    base-limits = update-sized _ _ true (sym (opened-as .passed .limits 0 0 0)) refl;
+                    base-read = read-as .base-read;
+                    added-read = read-as .added-read;
+                    base-count = refl;
+                    added-count = refl;
+                    root-count = opened-as .root-count;
+                    few = identifiers-most _ _ true (sym (opened-as .passed .limits 0 0 0)) refl;
+                    few-gone = omega arith;
+                    resolved = the-plan .resolved;
+                    plan-room = b .roomy;
+                    index-room = b .rooms;
+                    records-room = w .0;
+                    names-room = w .1;
+                  }
 
-            abbrev paper-tree : Forest Field
-            paper-tree = rebuilt id-of kind-of (gone-ids gone (entries d)) (arrivals with-id g (parents-in us (entries a)) (passed .added)) none true (passed .base)
+              abbrev paper-tree : Forest Field
+              paper-tree =
+                  rebuilt id-of kind-of (gone-ids (gone-in decisions′) (entries (lists .deletions)))
+                  (arrivals with-id g (parents-in (unders-in decisions′) (entries (lists .additions))) added) none true base
 
-            tree-is : rebuilt-tree s p b r set us fs st (entries a) ≡ paper-tree
-            unfolding rebuilt-tree
-            tree-is =
-                let o = decode-parts 0 s p (passed .base) (read-parts .base) in
-                let few = sized-slots s p (update-sized s p i d a b r true (sym (passed .limits)) refl) .0 in
-                rebuilt-fields (lent p s r b) (slots s) (o .trees) (dropped-ids set) (gone-ids gone (entries d)) (additions b (slots b) us fs st (entries a)) few (o .read) (f .holds)
-                ∙ rw (the-plan .arrive p s, o .tree)
+              tree-is : rebuilt-tree l (given-in l lists consumed) decisions′ base ≡ paper-tree
+              unfolding rebuilt-tree
+              tree-is = rw (the-plan .arrive)
 
-            carried-is : (update (schema-of (passed .base) g) (request-of i r d a (passed .added)) >>= λ u. ok (result-of u)) ≡ limited-sounded paper-tree (id-list i) (turned e)
-            unfolding update carried-out limited-sounded sounded _>>=_
-            carried-is = rw (the-plan .is) (end-joined (rebuilt-within (within paper-tree)) (sound 4 paper-tree (id-list i)) (record { tree = paper-tree; last = e }) (λ u. ok (result-of u)))
+              carried-is : carried g base added
+                  ≡ limited-sounded paper-tree (id-list (lists .identifiers)) (turned consumed)
+              unfolding update carried-out limited-sounded sounded _>>=_
+              carried-is =
+                  rw (the-plan .is)
+                  (end-joined (rebuilt-within (within paper-tree)) (sound 4 paper-tree (id-list (lists .identifiers))) (record { tree = paper-tree; last = consumed }) (λ u. ok (result-of u)))
 
-            pub all-written : (bits : ℕ) (x : Changed) (out′ text′ : List ℕ) → bits ≡ turned e → Answers (limited-sounded (rebuilt-tree s p b r set us fs st (entries a)) (id-list i) bits) out text x out′ text′
-                → Answers (update-entry s p i last d a b r (length out) (length text)) out text x out′ text′
-            all-written bits x out′ text′ eb n = rw (entry-at ∙ carried-is) (rw (tree-is, eb) at n)
+              pub all-written : (r : Changed) (out′ text′ : List ℕ) → Ends l (lists .identifiers) given decisions′ out text r out′ text′ → Ends-so r out′ text′
+              all-written r out′ text′ n =
+                  rw (goes-at ∙ carried-is) (rw tree-is at ((rw eg′ at n) .ends base (read-as .base-read)))
+
+-- The table of decisions, fresh.
+pub fresh-decisions : DecisionsRoom (replicate 4 (replicate 64 0))
+fresh-decisions =
+    let wide : length (replicate {A = ℕ} 64 0) ≡ 64 = length-replicate {A = ℕ} 64 0 in
+    record { rows = refl; gone-room = wide; unders-room = wide; firsts-room = wide; starts-room = wide }

@@ -3,7 +3,7 @@ use mathlib.Core.Path.{_≡_, refl, sym, ap, _∙_}
 use mathlib.Core.Bool.{Bool, true, false}
 use mathlib.Core.List.{List}
 use mathlib.Core.Option.{none}
-use Prim.Native.Nat.{ℕ, _*_, _≤_, _<_}
+use Prim.Native.Nat.{ℕ, _≤_, _<_}
 use native.Mathlib.Omega.{arith}
 use borrow.Author.Tests.{eq-eqb, ne-eqb}
 use lib.Dec.{eqb}
@@ -15,36 +15,30 @@ use Rattle.paper.specs.Bytes.{kids-at, ok-bytes, in-pool, slots, from}
 use Rattle.paper.specs.Layout.{Part, roots}
 use Rattle.paper.specs.Decode.{fields, decode}
 use Rattle.paper.specs.Lists.{ok-deletion, ok-addition, path-in, entries, entries-ok, path-of, parent-path, deletion-paths, addition-paths, id-list}
-use Rattle.paper.specs.Sound.{sound}
+use Rattle.paper.specs.Limits.{sized-update}
 use Rattle.paper.specs.Update.{Plan, deleted, Placed, planned}
 use Rattle.record.specs.declared.Refusal.{Refusal}
-use Rattle.record.specs.declared.Check.{Check}
-use Rattle.record.specs.declared.Check.the-variants as check
-use Rattle.record.specs.Says.{refusal-of, checked}
-use Rattle.record.proofs.Testing.{checked-ok}
+use Rattle.record.specs.Says.{refusal-of}
+use Rattle.record.specs.Trees.{Trees, Lists, stored-in, lent-in}
 use Rattle.laws.proofs.Basics.{unbind, ok-is, fault-ok}
 use Rattle.laws.proofs.Fitting.{sized-slots}
 use Rattle.laws.proofs.Preorder.{siblings-mapped}
 use Rattle.laws.proofs.Runs.{length-from}
-use Rattle.record_limits.proofs.Within.{update-sized, added-sized, identifiers-most, deletions-most, additions-most}
+use Rattle.record_limits.proofs.Within.{added-sized, identifiers-most, deletions-most, additions-most}
 use Rattle.tree.specs.Read.{part, reads}
 use Rattle.tree.proofs.Roots.{roots-row}
 use Rattle.tree.proofs.Steps.{part-is, reads-is}
-use Rattle.plan.specs.Plan as plan
-use Rattle.plan.specs.Plan.{Lent, lent, plan-fields}
-use Rattle.plan.specs.Sources.{Taken}
-use Rattle.plan.proofs.Taking as taking
-use Rattle.plan.proofs.Taking.{base-plan}
-use Rattle.index.specs.Index.{Indexing, Index}
-use Rattle.update_request.specs.Opened.{Trees, both-trees, readable}
-use Rattle.record.proofs.Testing.{checked-refused}
+use Rattle.plan.specs.Table.{fields-in}
+use Rattle.update_rebuild.specs.declared.Given.{Given}
+use Rattle.update_rebuild.specs.Planned.{gone-in, unders-in, firsts-in, starts-in}
+use Rattle.update_request.specs.Opened.{Forests, both-trees, readable}
 use Rattle.update_schema.specs.declared.Decided.{Decided}
 use Rattle.update_schema.specs.declared.Decided.the-variants as decided
-use Rattle.update_schema.specs.Base.{Based, Entries}
+use Rattle.update_schema.specs.Base.{BasedIn, Entries, DecisionsRoom}
 use Rattle.update_schema.specs.Deletions.{gone-ids}
-use Rattle.update_schema.specs.Additions.{Columns, parents-in, all-placed, Placings}
-use Rattle.update_schema.specs.Changes.{changes, Decides}
-use Rattle.update.specs.Updating.{schema-of, request-of, Decidable, Settled, Settles}
+use Rattle.update_schema.specs.Additions.{ColumnsIn, parents-in, all-placed, Placings}
+use Rattle.update_schema.specs.Changes.{changes, Asked, Decides, DecidesIn}
+use Rattle.update.specs.Updating.{given-in, Decidable, planned-in, Settled, Settles}
 
 -- ---- what was read
 
@@ -61,26 +55,26 @@ decode-parts list s pool t e =
     unbind _ _ e λ _ e₁ a₁. unbind _ _ a₁ λ _ e₂ a₂. unbind _ _ a₂ λ u e₃ a₃. unbind _ _ a₃ λ _ e₄ a₄.
     record { trees = u; read = e₃; tree = ok-is a₄; bytes = fault-ok 3 list _ e₁; named = fault-ok 4 list _ e₂ }
 
-pub record Contents (s p d a b r : List ℕ) (t n : Forest Field) : Type 0 where
-  pub base : decode 0 s p ≡ ok t
-  pub added : decode 1 b r ≡ ok n
-  pub deletions : lowest (path-in (length r) d) 0 (entries d) ≡ none
-  pub additions : lowest (path-in (length r) a) 0 (entries a) ≡ none
+pub record Contents (l : Trees) (lists : Lists) (base added : Forest Field) : Type 0 where
+  pub base-read : decode 0 (l .records) (l .pool) ≡ ok base
+  pub added-read : decode 1 (l .added-records) (l .request-pool) ≡ ok added
+  pub deletions : lowest (path-in (length (l .request-pool)) (lists .deletions)) 0 (entries (lists .deletions)) ≡ none
+  pub additions : lowest (path-in (length (l .request-pool)) (lists .additions)) 0 (entries (lists .additions)) ≡ none
 
 pathed : (list : ℕ) (rule : List ℕ → ℕ → Bool) (s pool : List ℕ) {u : Unit {0}} → entries-ok list rule s pool ≡ ok u → lowest (path-in (length pool) s) 0 (entries s) ≡ none
 unfolding entries-ok
 pathed list rule s pool e = unbind _ _ e λ _ e₁ a₁. fault-ok 4 list _ a₁
 
-pub contents : (s p d a b r : List ℕ) (t n : Forest Field) → readable s p d a b r ≡ ok (both-trees t n) → Contents s p d a b r t n
+pub contents : (l : Trees) (lists : Lists) (base added : Forest Field) → readable l lists ≡ ok (both-trees base added) → Contents l lists base added
 unfolding readable
-contents s p d a b r t n e =
+contents l lists base added e =
     unbind _ _ e λ t′ e₁ a₁. unbind _ _ a₁ λ n′ e₂ a₂. unbind _ _ a₂ λ _ e₃ a₃. unbind _ _ a₃ λ _ e₄ a₄.
-    let z : both-trees t′ n′ ≡ both-trees t n = ok-is a₄ in
+    let z : both-trees t′ n′ ≡ both-trees base added = ok-is a₄ in
     record {
-      base = e₁ ∙ ap (λ (x : Trees). ok (x .base)) z;
-      added = e₂ ∙ ap (λ (x : Trees). ok (x .added)) z;
-      deletions = pathed 2 ok-deletion d r e₃;
-      additions = pathed 3 ok-addition a r e₄;
+      base-read = e₁ ∙ ap (λ (x : Forests). ok (x .base)) z;
+      added-read = e₂ ∙ ap (λ (x : Forests). ok (x .added)) z;
+      deletions = pathed 2 ok-deletion (lists .deletions) (l .request-pool) e₃;
+      additions = pathed 3 ok-addition (lists .additions) (l .request-pool) e₄;
     }
 
 -- ---- chains
@@ -99,130 +93,152 @@ chain-ok x f g a b e q = let z : f a ≡ ok b = rw e at q in rw (e, z)
 abbrev plan-from : List ℕ → Placed → Plan
 plan-from ds a = record { dropped = ds; parents = a .parents; last = a .last }
 
-module _ (s p i d a b r : List ℕ) (columns given : ℕ) (gone us fs st : List ℕ) (h : Decidable s p i d a b r columns given gone us fs st) where
-  abbrev l : Lent
-  l = lent p s r b
+module _ (l : Trees) (lists : Lists) (last columns : ℕ) (plan index decisions : List (List ℕ)) (h : Decidable l lists last columns plan index decisions) where
+  abbrev n : ℕ
+  n = slots (l .records)
 
-  few : slots s ≤ 1024
-  few = sized-slots s p (update-sized s p i d a b r true (sym (h .limits)) refl) .0
+  abbrev m : ℕ
+  m = slots (l .added-records)
 
-  pub take-asks : (slots s * 24 ≤ length s) × (slots s ≤ 1024)
-  take-asks = (omega arith, few)
+  abbrev d : ℕ
+  d = entries (lists .deletions)
 
-  own : Contents s p d a b r (h .base) (h .added)
-  own = contents s p d a b r (h .base) (h .added) (h .read)
+  abbrev a : ℕ
+  a = entries (lists .additions)
 
-  module _ (xs is ks : List ℕ) (lx : length xs ≡ 1024) (li : length is ≡ 1024) (lk : length ks ≡ 1024) (xs′ is′ ks′ : List ℕ) (k : Taken s (slots s) xs is ks xs′ is′ ks′) where
-    based : (t : Forest Field) → decode 0 s p ≡ ok t → taking.Based l t xs′ is′ ks′ (slots s)
-    based t e = base-plan 0 p s r b t (slots s) xs is ks xs′ is′ ks′ (update-sized s p i d a b r true (sym (h .limits)) refl) e refl lx li lk k
+  limits : sized-update (stored-in l 0) (lent-in l lists 0 0) ≡ true
+  limits = h .passed .limits 0 0 0
 
-    pub index-asks : plan.Plan l xs′ is′ ks′ (slots s) × (length i ≤ 256)
-    index-asks = (based (h .base) (own .base) .plan, identifiers-most s p i d a b r true (sym (h .limits)) refl)
+  own : Contents l lists (h .passed .base) (h .passed .added)
+  own = contents l lists (h .passed .base) (h .passed .added) (h .passed .read)
 
-    module _ (c : Check) (ih ix up ls hs nh nn : List ℕ) (x : Indexing l xs′ is′ ks′ (slots s) 0 i c ih ix up ls hs nh nn) where
-      sound-says : (t : Forest Field) → decode 0 s p ≡ ok t → c ≡ checked (sound 0 t (id-list i))
-      sound-says t e = rw (based t e .tree) at (x .answer)
+  -- the base that is read is the plan's
+  base-is : (base : Forest Field) → decode 0 (l .records) (l .pool) ≡ ok base → fields-in l plan n ≡ base
+  base-is base e = ok-is (sym (h .tree) ∙ e)
 
-      pub base-stops : (y : Refusal) (gone′ us′ fs′ st′ : List ℕ) → c ≡ check.Refused y → Settles s p i given d a b r (decided.Refused y) gone′ us′ fs′ st′
-      unfolding planned _>>=_
-      base-stops y gone′ us′ fs′ st′ q =
+  roots-are : (base added : Forest Field) → readable l lists ≡ ok (both-trees base added) → siblings added ≡ columns
+  roots-are base added e =
+      let z : both-trees base added ≡ both-trees (h .passed .base) (h .passed .added) = ok-is (sym e ∙ h .passed .read) in
+      ap (λ (w : Forests). siblings (w .added)) z ∙ sym (h .count)
+
+  paths-are : length (addition-paths (l .request-pool) (lists .additions)) ≡ a
+  unfolding addition-paths
+  paths-are = length-from (parent-path (l .request-pool) (lists .additions)) 0 a
+
+  module _ (g : Given) (eg : g ≡ given-in l lists last) where
+    pub count-stops : (decisions′ : List (List ℕ)) → (columns ≡ g .additions → ⊥) → Settles l lists last (decided.Refused (refusal-of 10 3 0)) decisions′
+    unfolding planned _>>=_
+    count-stops decisions′ other =
+        record {
+          accepted = λ base added e j z. absurd (let w : _≡_ {A = ℕ} 0 1 = cc in omega arith);
+          refusal = λ base added e w z.
+              let f : refusal-of 10 3 0 ≡ w = cc in
+              let o = contents l lists base added e in
+              let k : eqb (siblings added) (length (addition-paths (l .request-pool) (lists .additions))) ≡ false =
+              rw (roots-are base added e, paths-are) (ne-eqb columns a (λ s. other (s ∙ sym (ap (λ (x : Given). x .additions) eg)))) in
+              rw (← f, ← (base-is base (o .base-read)), h .is-sound, k);
+        }
+
+    module _ (same : columns ≡ g .additions) where
+      all-there : columns ≡ a
+      all-there = same ∙ ap (λ (x : Given). x .additions) eg
+
+      the-base : BasedIn l plan n
+      the-base =
+          let p = decode-parts 0 (l .records) (l .pool) (fields-in l plan n) (h .tree) in
+          record { plan = h .is-plan; trees = p .trees; read = p .read; tree = sym (p .tree); whole = omega arith; bytes = p .bytes; named = p .named }
+
+      added-few : m ≤ 1024
+      added-few = sized-slots (l .added-records) (l .request-pool) (added-sized _ _ true (sym limits) refl) .0
+
+      deletion-entries : Entries (l .request-pool) (lists .deletions) d
+      deletion-entries = let w = deletions-most _ _ true (sym limits) refl in record { whole = omega arith; few = omega arith; pathed = own .deletions }
+
+      addition-entries : Entries (l .request-pool) (lists .additions) a
+      addition-entries = let w = additions-most _ _ true (sym limits) refl in record { whole = omega arith; few = omega arith; pathed = own .additions }
+
+      -- the roots of the additions tree are a row of as many trees as there are entries
+      row-is : (base added : Forest Field) → readable l lists ≡ ok (both-trees base added)
+          → (reads 1 (kids-at (l .added-records)) m 16 a 0 ≡ true) × (fields (l .request-pool) (l .added-records) (part 1 (kids-at (l .added-records)) m 16 a 0 .trees) ≡ added)
+      unfolding fields
+      row-is base added e =
+          let b = l .added-records in
+          let o = contents l lists base added e in
+          let p = decode-parts 1 b (l .request-pool) added (o .added-read) in
+          let w = roots-row 1 (kids-at b) m m 0 (p .trees) (omega arith) (omega arith) (p .read) in
+          let z : siblings (p .trees .trees) ≡ a = sym (siblings-mapped _ (p .trees .trees)) ∙ ap siblings (p .tree) ∙ roots-are base added e ∙ all-there in
+          let w₀ = rw z at (w .0) in
+          (reads-is 1 (kids-at b) m 16 a 0 (p .trees) w₀, rw (part-is 1 (kids-at b) m 16 a 0 (p .trees) w₀) (p .tree))
+
+      the-columns : ColumnsIn l (lists .additions) (given-in l lists last)
+      the-columns =
           record {
-            accepted = λ t n e j z. absurd (let w : _≡_ {A = ℕ} 0 1 = cc in omega arith);
-            refusal = λ t n e w z.
-                let f : y ≡ w = cc in
-                let o = contents s p d a b r t n e in
-                rw (← f, checked-refused (sound 0 t (id-list i)) c y (sound-says t (o .base)) q);
+            entries = addition-entries;
+            whole = omega arith;
+            small = added-few;
+            read = row-is (h .passed .base) (h .passed .added) (h .passed .read) .0;
+            named = decode-parts 1 (l .added-records) (l .request-pool) (h .passed .added) (own .added-read) .named;
           }
 
-      module _ (q : c ≡ check.Fine) where
-        roots-are : (t n : Forest Field) → readable s p d a b r ≡ ok (both-trees t n) → siblings n ≡ columns
-        roots-are t n e = let z : both-trees t n ≡ both-trees (h .base) (h .added) = ok-is (sym e ∙ h .read) in ap (λ (w : Trees). siblings (w .added)) z ∙ sym (h .count)
-
-        paths-are : length (addition-paths r a) ≡ entries a
-        unfolding addition-paths
-        paths-are = length-from (parent-path r a) 0 (entries a)
-
-        pub count-stops : (gone′ us′ fs′ st′ : List ℕ) → (columns ≡ entries a → ⊥) → Settles s p i given d a b r (decided.Refused (refusal-of 10 3 0)) gone′ us′ fs′ st′
-        unfolding planned _>>=_
-        count-stops gone′ us′ fs′ st′ other =
+      pub decide-asks : Asked l lists g plan index × DecisionsRoom decisions
+      decide-asks = (
+        rw eg
             record {
-              accepted = λ t n e j z. absurd (let w : _≡_ {A = ℕ} 0 1 = cc in omega arith);
-              refusal = λ t n e w z.
-                  let f : refusal-of 10 3 0 ≡ w = cc in
-                  let o = contents s p d a b r t n e in
-                  let g : eqb (siblings n) (length (addition-paths r a)) ≡ false = rw (roots-are t n e, paths-are) (ne-eqb columns (entries a) other) in
-                  rw (← f, checked-ok (sound 0 t (id-list i)) c (sound-says t (o .base)) q, g);
+              based = the-base;
+              indexed = h .has-index;
+              identifiers-few = identifiers-most _ _ true (sym limits) refl;
+              deletions-there = deletion-entries;
+              columns = the-columns;
+              low = h .low;
+            },
+        h .room,
+      )
+
+      -- the paper's plan is the decisions
+      abbrev decisions-of : Forest Field → Answer Plan
+      decisions-of base =
+          deleted base (id-list (lists .identifiers)) 0 (from (path-of (l .request-pool) (lists .deletions)) 0 d)
+          >>= λ ds. all-placed base ds (l .request-pool) (l .added-records) (lists .additions) a m last >>= λ v. ok (plan-from ds v)
+
+      planned-is : (base added : Forest Field) → readable l lists ≡ ok (both-trees base added) → planned-in l lists last base added ≡ decisions-of base
+      unfolding planned _>>=_ deletion-paths all-placed addition-paths
+      planned-is base added e =
+          let o = contents l lists base added e in
+          let k : eqb (siblings added) (length (from (parent-path (l .request-pool) (lists .additions)) 0 a)) ≡ true =
+          rw (roots-are base added e, length-from (parent-path (l .request-pool) (lists .additions)) 0 a) (eq-eqb columns a all-there) in
+          let s = rw (base-is base (o .base-read)) at (h .is-sound) in
+          rw (s, k, row-is base added e .1)
+
+      module _ (y : Decided) (decisions′ : List (List ℕ)) (v : DecidesIn l lists g plan y decisions′) where
+        at-tree : (base : Forest Field) → decode 0 (l .records) (l .pool) ≡ ok base
+            → Decides base (id-list (lists .identifiers)) (l .request-pool) (lists .deletions) d (l .added-records) (lists .additions) a m last y
+            (gone-in decisions′) (unders-in decisions′) (firsts-in decisions′) (starts-in decisions′)
+        at-tree base e = rw (base-is base e) at (rw eg at v)
+
+        settled : (base added : Forest Field) → readable l lists ≡ ok (both-trees base added) → (j : ℕ) → y ≡ decided.Last j → Settled l lists last base added decisions′ j
+        unfolding changes
+        settled base added e j z =
+            let o = contents l lists base added e in
+            let u = at-tree base (o .base-read) in
+            let p : Placings (changes base (id-list (lists .identifiers)) (l .request-pool) (lists .deletions) d (l .added-records) (lists .additions) a m last) (l .request-pool) (l .added-records) a m last j (unders-in decisions′) (firsts-in decisions′) (starts-in decisions′) = rw z at (u .by) in
+            let few-entries = addition-entries .few in
+            record {
+              is = planned-is base added e
+                  ∙ chain-ok (deleted base (id-list (lists .identifiers)) 0 (from (path-of (l .request-pool) (lists .deletions)) 0 d)) (λ ds. all-placed base ds (l .request-pool) (l .added-records) (lists .additions) a m last) plan-from
+                  (gone-ids (gone-in decisions′) d) (record { parents = parents-in (unders-in decisions′) a; last = j }) (u .dropped j z) (p .is);
+              most = p .most;
+              resolved = record { whole = omega arith; small = added-few; few = few-entries; under = p .under; first = p .first; tree = p .tree };
+              arrive = rw (row-is base added e .1) at (p .arrive (l .pool) (l .records));
             }
 
-        module _ (same : columns ≡ entries a) where
-          the-base : Based l xs′ is′ ks′ (slots s)
-          the-base =
-              let o = own in
-              let g = decode-parts 0 s p (h .base) (o .base) in
-              let v = based (h .base) (o .base) in
-              record { plan = v .plan; trees = g .trees; read = g .read; tree = v .tree ∙ sym (g .tree); whole = omega arith; bytes = g .bytes; named = g .named }
+        turned-away : (base added : Forest Field) → readable l lists ≡ ok (both-trees base added) → (w : Refusal) → y ≡ decided.Refused w → planned-in l lists last base added ≡ refused (w .number) (w .list) (w .place)
+        unfolding changes
+        turned-away base added e w z =
+            let o = contents l lists base added e in
+            let u = at-tree base (o .base-read) in
+            let p : changes base (id-list (lists .identifiers)) (l .request-pool) (lists .deletions) d (l .added-records) (lists .additions) a m last ≡ refused (w .number) (w .list) (w .place) = rw z at (u .by) in
+            planned-is base added e
+            ∙ chain-refused (deleted base (id-list (lists .identifiers)) 0 (from (path-of (l .request-pool) (lists .deletions)) 0 d)) (λ ds. all-placed base ds (l .request-pool) (l .added-records) (lists .additions) a m last) plan-from (w .number) (w .list) (w .place) p
 
-          added-few : slots b ≤ 1024
-          added-few = sized-slots b r (added-sized s p i d a b r true (sym (h .limits)) refl) .0
-
-          deletion-entries : Entries r d (entries d)
-          deletion-entries = let w = deletions-most s p i d a b r true (sym (h .limits)) refl in record { whole = omega arith; few = omega arith; pathed = own .deletions }
-
-          addition-entries : Entries r a (entries a)
-          addition-entries = let w = additions-most s p i d a b r true (sym (h .limits)) refl in record { whole = omega arith; few = omega arith; pathed = own .additions }
-
-          -- the roots of the additions tree are a row of as many trees as there are entries
-          row-is : (t n : Forest Field) → readable s p d a b r ≡ ok (both-trees t n) → (reads 1 (kids-at b) (slots b) 16 (entries a) 0 ≡ true) × (fields r b (part 1 (kids-at b) (slots b) 16 (entries a) 0 .trees) ≡ n)
-          unfolding fields
-          row-is t n e =
-              let o = contents s p d a b r t n e in
-              let g = decode-parts 1 b r n (o .added) in
-              let w = roots-row 1 (kids-at b) (slots b) (slots b) 0 (g .trees) (omega arith) (omega arith) (g .read) in
-              let z : siblings (g .trees .trees) ≡ entries a = sym (siblings-mapped _ (g .trees .trees)) ∙ ap siblings (g .tree) ∙ roots-are t n e ∙ same in
-              let w₀ = rw z at (w .0) in
-              (reads-is 1 (kids-at b) (slots b) 16 (entries a) 0 (g .trees) w₀, rw (part-is 1 (kids-at b) (slots b) 16 (entries a) 0 (g .trees) w₀) (g .tree))
-
-          the-columns : Columns r b a (entries a) (slots b)
-          the-columns = record { entries = addition-entries; whole = omega arith; small = added-few; read = row-is (h .base) (h .added) (h .read) .0; named = decode-parts 1 b r (h .added) (own .added) .named }
-
-          pub decide-asks : Based l xs′ is′ ks′ (slots s) × Index l xs′ is′ ks′ (slots s) ih ix up ls hs nh nn × (length i ≤ 256) × Entries r d (entries d) × (length gone ≡ 64)
-              × Columns r b a (entries a) (slots b) × (given < 4294967296) × (length us ≡ 64) × (length fs ≡ 64) × (length st ≡ 64)
-          decide-asks = (the-base, x .index q, index-asks .1, deletion-entries, h .gone-room, the-columns, h .low, h .under-room, h .first-room, h .start-room)
-
-          -- the paper's plan is the decisions
-          planned-is : (t n : Forest Field) → readable s p d a b r ≡ ok (both-trees t n)
-              → planned (schema-of t given) (request-of i r d a n) ≡ (deleted t (id-list i) 0 (from (path-of r d) 0 (entries d)) >>= λ ds. all-placed t ds r b a (entries a) (slots b) given >>= λ v. ok (plan-from ds v))
-          unfolding planned _>>=_ deletion-paths all-placed addition-paths
-          planned-is t n e =
-              let o = contents s p d a b r t n e in
-              let g : eqb (siblings n) (length (from (parent-path r a) 0 (entries a))) ≡ true = rw (roots-are t n e, length-from (parent-path r a) 0 (entries a)) (eq-eqb columns (entries a) same) in
-              rw (checked-ok (sound 0 t (id-list i)) c (sound-says t (o .base)) q, g, row-is t n e .1)
-
-          module _ (y : Decided) (gone′ us′ fs′ st′ : List ℕ) (v : Decides (plan-fields l xs′ is′ ks′ (slots s)) (id-list i) r d (entries d) b a (entries a) (slots b) given y gone′ us′ fs′ st′) where
-            at-tree : (t : Forest Field) → decode 0 s p ≡ ok t → Decides t (id-list i) r d (entries d) b a (entries a) (slots b) given y gone′ us′ fs′ st′
-            at-tree t e = rw (based t e .tree) at v
-
-            settled : (t n : Forest Field) → readable s p d a b r ≡ ok (both-trees t n) → (j : ℕ) → y ≡ decided.Last j → Settled (planned (schema-of t given) (request-of i r d a n)) r b given n gone′ (entries d) us′ fs′ st′ (entries a) j
-            unfolding changes
-            settled t n e j z =
-                let o = contents s p d a b r t n e in
-                let u = at-tree t (o .base) in
-                let g : Placings (changes t (id-list i) r d (entries d) b a (entries a) (slots b) given) r b (entries a) (slots b) given j us′ fs′ st′ = rw z at (u .by) in
-                let few-entries = addition-entries .few in
-                record {
-                  is = planned-is t n e ∙ chain-ok (deleted t (id-list i) 0 (from (path-of r d) 0 (entries d))) (λ ds. all-placed t ds r b a (entries a) (slots b) given) plan-from (gone-ids gone′ (entries d)) (record { parents = parents-in us′ (entries a); last = j }) (u .dropped j z) (g .is);
-                  most = g .most;
-                  resolved = record { whole = omega arith; small = added-few; few = few-entries; under = g .under; first = g .first; tree = g .tree };
-                  arrive = λ pool base. rw (row-is t n e .1) at (g .arrive pool base);
-                }
-
-            turned-away : (t n : Forest Field) → readable s p d a b r ≡ ok (both-trees t n) → (w : Refusal) → y ≡ decided.Refused w → planned (schema-of t given) (request-of i r d a n) ≡ refused (w .number) (w .list) (w .place)
-            unfolding changes
-            turned-away t n e w z =
-                let o = contents s p d a b r t n e in
-                let u = at-tree t (o .base) in
-                let g : changes t (id-list i) r d (entries d) b a (entries a) (slots b) given ≡ refused (w .number) (w .list) (w .place) = rw z at (u .by) in
-                planned-is t n e ∙ chain-refused (deleted t (id-list i) 0 (from (path-of r d) 0 (entries d))) (λ ds. all-placed t ds r b a (entries a) (slots b) given) plan-from (w .number) (w .list) (w .place) g
-
-            pub all-settled : Settles s p i given d a b r y gone′ us′ fs′ st′
-            all-settled = record { accepted = settled; refusal = turned-away }
+        pub all-settled : Settles l lists last y decisions′
+        all-settled = record { accepted = settled; refusal = turned-away }

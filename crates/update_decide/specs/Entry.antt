@@ -49,10 +49,10 @@ pub record Deleted (f : Found) (identifiers : List ℕ) (k : ℕ) (r : Dropping)
 -- ---- an addition
 
 -- 13 and 14 of the added column at a slot
-unfoldable pub unbarred : (pool s : List ℕ) (slot k : ℕ) → Answer (Unit {0})
-unbarred pool s slot k = do
-  dotless k (among 46 (name-of pool s slot))
-  fillable k (eqb (rec-at s slot .flags) 1)
+unfoldable pub unbarred : (pool records : List ℕ) (slot k : ℕ) → Answer (Unit {0})
+unbarred pool records slot k = do
+  dotless k (among 46 (name-of pool records slot))
+  fillable k (eqb (rec-at records slot .flags) 1)
 
 unfoldable pub goes : Answer (Option ℕ) → Going
 goes (ok none) = going.Under 0
@@ -60,39 +60,39 @@ goes (ok (some i)) = going.Under (suc (turned i))
 goes (refused n l p) = going.Refused (refusal-of n l p)
 
 -- 17 at the root
-unfoldable pub root-place : Option Row → (ds : List ℕ) → (k : ℕ) → Answer (Option ℕ)
-root-place o ds k = do
-  free-name k (root-taken o ds)
+unfoldable pub root-place : Option Row → (dropped : List ℕ) → (k : ℕ) → Answer (Option ℕ)
+root-place o dropped k = do
+  free-name k (root-taken o dropped)
   ok none
 
-pub record AtRoot (f : Found) (ds : List ℕ) (k : ℕ) (r : Going) : Type 0 where
-  pub says : (o : Option Row) → Known o → f ≡ found-row o → r ≡ goes (root-place o ds k)
+pub record AtRoot (f : Found) (dropped : List ℕ) (k : ℕ) (r : Going) : Type 0 where
+  pub says : (o : Option Row) → Known o → f ≡ found-row o → r ≡ goes (root-place o dropped k)
 
 -- 17 under the struct at a slot
-unfoldable pub under-place : (pool s : List ℕ) (n slot : ℕ) (ds : List ℕ) (k : ℕ) (x : List ℕ) → Answer (Option ℕ)
-under-place pool s n slot ds k x = do
-  free-name k (not (among (turned (rec-at s slot .id)) ds) && member-taken (members-at pool s n slot) x ds)
-  ok (some (turned (rec-at s slot .id)))
+unfoldable pub under-place : (pool records : List ℕ) (n slot : ℕ) (dropped : List ℕ) (k : ℕ) (x : List ℕ) → Answer (Option ℕ)
+under-place pool records n slot dropped k x = do
+  free-name k (not (among (turned (rec-at records slot .id)) dropped) && member-taken (members-at pool records n slot) x dropped)
+  ok (some (turned (rec-at records slot .id)))
 
 -- A record at a slot, in a list whose names are in their pool.
-pub record Sited (pool s : List ℕ) (n slot : ℕ) : Type 0 where
-  pub stands : Standing 0 s n 15 slot
-  pub named : lowest (in-pool (length pool) s) 0 n ≡ none
+pub record Sited (pool records : List ℕ) (n slot : ℕ) : Type 0 where
+  pub stands : Standing 0 records n 15 slot
+  pub named : lowest (in-pool (length pool) records) 0 n ≡ none
 
 -- 15 the path finds nothing, 16 leads to no struct, then 17
-unfoldable pub parent-place : Option Row → (ds : List ℕ) → (k : ℕ) → (x : List ℕ) → Answer (Option ℕ)
-parent-place o ds k x = do
+unfoldable pub parent-place : Option Row → (dropped : List ℕ) → (k : ℕ) → (x : List ℕ) → Answer (Option ℕ)
+parent-place o dropped k x = do
   r ← found-parent k o
-  s ← found-struct k (receiver (r .field) (r .inside) (r .field .kind))
-  free-name k (not (among (s .id) ds) && member-taken (s .members) x ds)
-  ok (some (s .id))
+  struct ← found-struct k (receiver (r .field) (r .inside) (r .field .kind))
+  free-name k (not (among (struct .id) dropped) && member-taken (struct .members) x dropped)
+  ok (some (struct .id))
 
 -- What was found is a record of the list, and its bytes are in order.
-pub record FoundSited (pool s : List ℕ) (n : ℕ) (f : Found) : Type 0 where
-  pub at : (x : FieldId) (p : Slot) → f ≡ found.At x p → Sited pool s n (p .0) × (ok-bytes s (p .0) ≡ true)
+pub record FoundSited (pool records : List ℕ) (n : ℕ) (f : Found) : Type 0 where
+  pub at : (x : FieldId) (p : Slot) → f ≡ found.At x p → Sited pool records n (p .0) × (ok-bytes records (p .0) ≡ true)
 
-pub record UnderParent (f : Found) (pool s : List ℕ) (n : ℕ) (ds : List ℕ) (k : ℕ) (x : List ℕ) (r : Going) : Type 0 where
-  pub says : (o : Option Row) → ((row : Row) → o ≡ some row → Stands pool s n row) → f ≡ found-row o → r ≡ goes (parent-place o ds k x)
+pub record UnderParent (f : Found) (pool records : List ℕ) (n : ℕ) (dropped : List ℕ) (k : ℕ) (x : List ℕ) (r : Going) : Type 0 where
+  pub says : (o : Option Row) → ((row : Row) → o ≡ some row → Stands pool records n row) → f ≡ found-row o → r ≡ goes (parent-place o dropped k x)
 
 -- 18; ids from last + 1 on
 unfoldable pub freshly : (last records k : ℕ) → Fresh

@@ -86,7 +86,8 @@ pub fn drop_one(found: Found, identifiers: &[u8], place: u32) -> Dropping
 
 // Refusals 13 and 14 of the added column at a slot: a dot in its own name; required, without initial default.
 pub fn check_added(recs: &[u8], pool: &[u8], slot: usize, place: u32) -> Check
-    requires { ⌜ (slot * 24 + 24 ≤ length (now recs)) × (in-pool (length (now pool)) (now recs) slot ≡ true) ⌝ }
+    requires { ⌜ (slot * 24 + 24 ≤ length (now recs))
+        × (in-pool (length (now pool)) (now recs) slot ≡ true) ⌝ }
     ensures { λ r. ⌜ r ≡ checked (unbarred (now (pool .entry)) (now (recs .entry)) slot place) ⌝ }
 {
     if has_dot(name_at(pool, recs, slot)) {
@@ -138,7 +139,8 @@ fn join(
     dropped: Dropped,
 ) -> Going
     requires { ⌜ Sited (now pool) (now recs) n slot × Good dropped ⌝ }
-    ensures { λ r. ⌜ r ≡ goes (under-place (now (pool .entry)) (now (recs .entry)) n slot (dropped-ids dropped) place (now (name .entry))) ⌝ }
+    ensures { λ r. ⌜ r ≡ goes (under-place (now (pool .entry)) (now (recs .entry)) n slot
+        (dropped-ids dropped) place (now (name .entry))) ⌝ }
 {
     let id = id_bits_at(recs, slot);
     if dropped.contains(FieldId(id)) {
@@ -166,7 +168,8 @@ pub fn place_under(
     dropped: Dropped,
 ) -> Going
     requires { ⌜ FoundSited (now pool) (now recs) n found × Good dropped ⌝ }
-    ensures { λ r. ⌜ UnderParent found (now (pool .entry)) (now (recs .entry)) n (dropped-ids dropped) place (now (name .entry)) r ⌝ }
+    ensures { λ r. ⌜ UnderParent found (now (pool .entry)) (now (recs .entry)) n
+        (dropped-ids dropped) place (now (name .entry)) r ⌝ }
 {
     let Found::At(_, parent) = found else {
         // refusal 15

@@ -16,6 +16,10 @@ elems s = take (s .n) (s .ids)
 unfoldable pub dropped-ids : Dropped → List ℕ
 dropped-ids s = map turned (elems s)
 
+-- The set whose numbers are lent.
+abbrev pub set-of : (ids : List ℕ) (n : ℕ) → Dropped
+set-of ids n = record { ids = ids; n = n }
+
 -- x is below every number of the list
 unfoldable pub Above : ℕ → List ℕ → Type 0
 Above x [] = Unit

@@ -61,8 +61,11 @@ pub fn resolve_parent_target(recs: &[u8], n: usize, slot: usize) -> Target
 
 // Whether a record has the name and is not dropped.
 fn takes(recs: &[u8], pool: &[u8], slot: usize, name: &[u8], dropped: Dropped) -> bool
-    requires { ⌜ (slot * 24 + 24 ≤ length (now recs)) × (in-pool (length (now pool)) (now recs) slot ≡ true) × Good dropped ⌝ }
-    ensures { λ r. ⌜ r ≡ (same (name-of (now (pool .entry)) (now (recs .entry)) slot) (now (name .entry)) && not (among (turned (rec-at (now (recs .entry)) slot .id)) (dropped-ids dropped))) ⌝ }
+    requires { ⌜ (slot * 24 + 24 ≤ length (now recs))
+        × (in-pool (length (now pool)) (now recs) slot ≡ true) × Good dropped ⌝ }
+    ensures { λ r. ⌜ r ≡ (same (name-of (now (pool .entry)) (now (recs .entry)) slot)
+        (now (name .entry)) && not (among (turned (rec-at (now (recs .entry)) slot .id))
+        (dropped-ids dropped))) ⌝ }
 {
     if equal(name_at(pool, recs, slot), name) {
         return !dropped.contains(FieldId(id_bits_at(recs, slot)));
@@ -79,8 +82,10 @@ pub fn name_taken(
     name: &[u8],
     dropped: Dropped,
 ) -> bool
-    requires { ⌜ Standing 0 (now recs) n 15 slot × (lowest (in-pool (length (now pool)) (now recs)) 0 n ≡ none) × Good dropped ⌝ }
-    ensures { λ r. ⌜ r ≡ member-taken (members-at (now (pool .entry)) (now (recs .entry)) n slot) (now (name .entry)) (dropped-ids dropped) ⌝ }
+    requires { ⌜ Standing 0 (now recs) n 15 slot
+        × (lowest (in-pool (length (now pool)) (now recs)) 0 n ≡ none) × Good dropped ⌝ }
+    ensures { λ r. ⌜ r ≡ member-taken (members-at (now (pool .entry)) (now (recs .entry)) n slot)
+        (now (name .entry)) (dropped-ids dropped) ⌝ }
 {
     let mut left = kids_at(recs, slot);
     let mut at = slot + 1;

@@ -1,42 +1,46 @@
--- The slots of an added tree, one after the other: a store behind a run is a longer run.
+-- The records of an added tree, one after the other: a store behind a run is a longer run.
 use mathlib.Core.Path.{_≡_, refl}
-use mathlib.Core.List.{List, []}
-use Prim.Native.Nat.{ℕ, _+_, _-_, _%_, _≤_}
+use mathlib.Core.List.{List}
+use Prim.Native.Nat.{ℕ, _+_, _-_, _%_, _<_, _≤_}
 use native.Mathlib.Omega.{arith}
-use lib.ListN.{set}
-use lib.Seq.{sets}
+use lib.ListN.{length}
 use Rattle.paper.specs.Bytes.{turned, from}
 use Rattle.laws.proofs.Runs.{from-more}
-use Rattle.update_rebuild.specs.Planned.{Ranged}
-
-from-none : (g : ℕ → ℕ) (k : ℕ) → from g k 0 ≡ []
-unfolding from
-from-none g k = refl
-
-further : (g : ℕ → ℕ) (a d at p v x : ℕ) (old new : List ℕ) → new ≡ sets old at (from g a d) → p ≡ at + d → x ≡ a + d → v ≡ g x → set new p v ≡ sets old at (from g a (d + 1))
-further g a d at p v x old new e ep ex ev = rw (e, ep, ev, ex) (from-more g old at a d)
+use Rattle.plan.specs.Table.{sources, numbers, members, planned-at}
+use Rattle.update_rebuild.specs.Planned.{AddedIn}
 
 -- The bits count on, and start again at 0.
-bits-on : (id d c x : ℕ) → c ≡ id + d → x ≡ c % 4294967296 → x ≡ turned (turned id + d)
+bits-on : (id k d c x : ℕ) → c ≡ id → x ≡ (c + d) % 4294967296 → x ≡ turned (turned id + (k + d - k))
 unfolding turned
-bits-on id d c x ec ex = omega arith
+bits-on id k d c x ec ex = omega arith
 
-module _ (kids : ℕ → ℕ) (a id : ℕ) (xs is ks : List ℕ) (at : ℕ) where
-  pub range-starts : Ranged kids a a (turned id) xs is ks at at xs is ks
-  range-starts = let d : a - a ≡ 0 = omega arith in record { end = omega arith; slots = rw (d, from-none (λ k. 1024 + k) a); ids = rw (d, from-none turned (turned id)); sizes = rw (d, from-none kids a) }
+pub record Adding (kids : ℕ → ℕ) (k n id : ℕ) (plan : List (List ℕ)) (at i : ℕ) (plan′ : List (List ℕ)) : Type 0 where
+  pub within : i ≤ n
+  pub added : AddedIn kids k i (turned id) plan at plan′
 
-  pub range-goes : (i p c m x : ℕ) (xs′ is′ ks′ : List ℕ) → Ranged kids a i (turned id) xs is ks at p xs′ is′ ks′ → a ≤ i → c ≡ id + (i - a) → m ≡ kids i → x ≡ c % 4294967296
-      → Ranged kids a (i + 1) (turned id) xs is ks at (p + 1) (set xs′ p (1024 + i)) (set is′ p x) (set ks′ p m)
-  range-goes i p c m x xs′ is′ ks′ h l ec em ex =
-      let d : i + 1 - a ≡ (i - a) + 1 = omega arith in
-      record {
-        end = omega (arith, h .end);
-        slots = rw d (further (λ k. 1024 + k) a (i - a) at p (1024 + i) i xs xs′ (h .slots) (h .end) (omega arith) refl);
-        ids = rw d (further turned (turned id) (i - a) at p x (turned id + (i - a)) is is′ (h .ids) (h .end) refl (bits-on id (i - a) c x ec ex));
-        sizes = rw d (further kids a (i - a) at p m i ks ks′ (h .sizes) (h .end) (omega arith) em);
-      }
+module _ (kids : ℕ → ℕ) (k n id : ℕ) (plan : List (List ℕ)) (at : ℕ) where
+  pub add-starts : length plan ≡ 3 → Adding kids k n id plan at 0 plan
+  unfolding from
+  add-starts e = record { within = omega arith; added = record { sources-set = refl; numbers-set = refl; members-set = refl; rows = e } }
 
-  pub range-ends : (e i p : ℕ) (xs′ is′ ks′ : List ℕ) → Ranged kids a i (turned id) xs is ks at p xs′ is′ ks′ → e ≤ i → i ≤ e → Ranged kids a e (turned id) xs is ks at p xs′ is′ ks′
-  range-ends e i p xs′ is′ ks′ h l l′ = let d : i ≡ e = omega arith in rw d at h
+  module _ (i : ℕ) (p₁ : List (List ℕ)) (h : Adding kids k n id plan at i p₁) where
+    pub add-goes : (m c x : ℕ) (p₂ : List (List ℕ)) → i < n → m ≡ kids (k + i) → c ≡ id → x ≡ (c + i) % 4294967296 → p₂ ≡ planned-at p₁ (at + i) (1024 + (k + i)) x m → Adding kids k n id plan at (i + 1) p₂
+    add-goes m c x p₂ l em ec ex e =
+        let a = h .added in
+        record {
+          within = omega arith;
+          added = rw e record {
+            sources-set = rw (a .sources-set) (from-more (λ j. 1024 + j) (sources plan) at k i);
+            numbers-set = rw (a .numbers-set, bits-on id k i c x ec ex) (from-more (λ j. turned (turned id + (j - k))) (numbers plan) at k i);
+            members-set = rw (a .members-set, em) (from-more kids (members plan) at k i);
+            rows = refl;
+          };
+        }
 
-pub ruleset ranging = (range-starts, range-goes, range-ends)
+    pub add-ends : n ≤ i → AddedIn kids k n (turned id) plan at p₁
+    add-ends l = let d : i ≡ n = omega (arith, h .within) in rw d at (h .added)
+
+    pub add-rows : length p₁ ≡ 3
+    add-rows = h .added .rows
+
+pub ruleset adding = (add-starts, add-goes, add-ends, add-rows)

@@ -1,12 +1,11 @@
 -- The additions of one place, in entry order.
 use mathlib.Core.Path.{_≡_, refl, sym, ap, _∙_}
 use mathlib.Core.Bool.{true, false}
-use mathlib.Core.List.{List, _∷_}
-use mathlib.Core.Option.{Option}
-use Prim.Native.Nat.{ℕ, zero, suc, _+_, _-_, _<_, _≤_}
+use mathlib.Core.List.{List}
+use Prim.Native.Nat.{ℕ, zero, suc, _+_, _-_, _%_, _<_, _≤_}
 use native.Mathlib.Omega.{arith}
 use borrow.Author.Tests.{eq-eqb, ne-eqb}
-use lib.ListN.{getD}
+use lib.ListN.{length, getD}
 use Rattle.paper.specs.Forest.{Forest, empty, _then_}
 use Rattle.paper.specs.Bytes.{turned, kids-at, from}
 use Rattle.paper.specs.Rebuild.{Addition, same-parent, arriving}
@@ -35,59 +34,67 @@ same-other zero (suc y) h g d = refl
 same-other (suc x) zero h g d = refl
 same-other (suc x) (suc y) h g d = ne-eqb (turned x) (turned y) (λ e. d (ap suc (sym (turned-twice x (omega arith)) ∙ ap turned e ∙ turned-twice y (omega arith))))
 
-arriving-other : (a : Addition Source) (l : List (Addition Source)) (q : Option ℕ) → same-parent (a .parent) q ≡ false → arriving (a ∷ l) q ≡ arriving l q
-unfolding arriving
-arriving-other a l q h = rw h
+-- An id's low 32 bits tell it.
+low-tree : (added : List ℕ) (n k x : ℕ) → added-tree added n k (x % 4294967296) ≡ added-tree added n k x
+unfolding added-tree turned
+low-tree added n k x = let e : (x % 4294967296 + 2147483648) % 4294967296 ≡ (x + 2147483648) % 4294967296 = omega arith in rw e
 
-arriving-here : (a : Addition Source) (l : List (Addition Source)) (q : Option ℕ) → same-parent (a .parent) q ≡ true → arriving (a ∷ l) q ≡ a .tree then arriving l q
-unfolding arriving
-arriving-here a l q h = rw h
+module _ (added : List ℕ) (n : ℕ) (unders firsts starts : List ℕ) (total q : ℕ) where
+  abbrev at-place : ℕ → Addition Source
+  at-place = addition-at added n unders firsts starts
 
-module _ (s : List ℕ) (n : ℕ) (us fs st : List ℕ) (total q : ℕ) where
-  -- what arrives of the additions from the j-th on
+  -- what arrives of the additions, and what from the j-th on
+  abbrev all : Forest Source
+  all = arriving (additions added n unders firsts starts total) (parent q)
+
   unfoldable pub arriving-from : ℕ → Forest Source
-  arriving-from j = arriving (from (addition-at s n us fs st) j (total - j)) (parent q)
+  arriving-from j = arriving (from at-place j (total - j)) (parent q)
 
   rest-none : (j : ℕ) → total ≤ j → arriving-from j ≡ empty
   unfolding arriving arriving-from
-  rest-none j l = rw (from-done (addition-at s n us fs st) j total l)
+  rest-none j l = rw (from-done at-place j total l)
 
-  rest-other : (j : ℕ) → j < total → getD us j 0 ≤ 4294967296 → q ≤ 4294967296 → (getD us j 0 ≡ q → ⊥) → arriving-from j ≡ arriving-from (j + 1)
-  unfolding arriving-from
-  rest-other j l hu hq h = ap (λ (z : List (Addition Source)). arriving z (parent q)) (from-step (addition-at s n us fs st) j total l) ∙ arriving-other (addition-at s n us fs st j) _ (parent q) (same-other (getD us j 0) q hu hq h)
+  rest-other : (j : ℕ) → j < total → getD unders j 0 ≤ 4294967296 → q ≤ 4294967296 → (getD unders j 0 ≡ q → ⊥) → arriving-from j ≡ arriving-from (j + 1)
+  unfolding arriving arriving-from
+  rest-other j l hu hq h = rw (from-step at-place j total l, same-other (getD unders j 0) q hu hq h)
 
-  rest-here : (j : ℕ) → j < total → getD us j 0 ≡ q → arriving-from j ≡ added-tree s n (getD fs j 0) (getD st j 0) then arriving-from (j + 1)
-  unfolding arriving-from
-  rest-here j l h = ap (λ (z : List (Addition Source)). arriving z (parent q)) (from-step (addition-at s n us fs st) j total l) ∙ arriving-here (addition-at s n us fs st j) _ (parent q) (rw h (same-here q))
+  rest-here : (j : ℕ) → j < total → getD unders j 0 ≡ q → arriving-from j ≡ added-tree added n (getD firsts j 0) (getD starts j 0) then arriving-from (j + 1)
+  unfolding arriving arriving-from
+  rest-here j l h = rw (from-step at-place j total l, h, same-here q)
 
-  rest-all : arriving (additions s n us fs st total) (parent q) ≡ arriving-from 0
+  rest-all : all ≡ arriving-from 0
   unfolding additions arriving-from
-  rest-all = ap (λ (z : List (Addition Source)). arriving z (parent q)) (sym (from-all (addition-at s n us fs st) total))
+  rest-all = rw (from-all at-place total)
 
-  module _ (past lv i c : ℕ) (xs is ks : List ℕ) where
-    pub all-starts : i ≤ 1024 → c ≤ i → Onward (arriving (additions s n us fs st total) (parent q)) past lv i c xs is ks (arriving-from 0) past i c xs is ks
-    all-starts h g = onward-same _ past lv i c xs is ks _ past i c xs is ks (onward-starts (arriving (additions s n us fs st total) (parent q)) past lv i c xs is ks h g) _ past rest-all refl
+  module _ (past lv i c : ℕ) (plan : List (List ℕ)) where
+    -- whatever plans what arrives from the j-th addition on plans all that arrives
+    abbrev pub Rest : (j : ℕ) (here : Place) (plan′ : List (List ℕ)) → Type 0
+    Rest j here plan′ = Onward (Planned all past lv i c plan) (arriving-from j) (here .next) lv (here .at) (here .count) plan′
 
-    module _ (j : ℕ) (h : Place) (x₁ i₁ k₁ : List ℕ) (on : Onward (arriving (additions s n us fs st total) (parent q)) past lv i c xs is ks (arriving-from j) (h .next) (h .at) (h .count) x₁ i₁ k₁) where
-      pub all-skips : Resolved s n us fs total → q ≤ 4294967296 → j < total → (getD us j 0 ≡ q → ⊥) → Onward (arriving (additions s n us fs st total) (parent q)) past lv i c xs is ks (arriving-from (j + 1)) (h .next) (h .at) (h .count) x₁ i₁ k₁
-      all-skips r hq l d = onward-same _ past lv i c xs is ks _ _ _ _ x₁ i₁ k₁ on _ _ (rest-other j l (r .under j l) hq d) refl
+    pub all-starts : i ≤ 1024 → c ≤ i → length plan ≡ 3 → Rest 0 (record { next = past; at = i; count = c }) plan
+    all-starts h g e = onward-same (onward-starts h g e) rest-all refl
 
-      pub all-done : total ≤ j → Planned (arriving (additions s n us fs st total) (parent q)) past lv i c xs is ks (Went h) x₁ i₁ k₁
-      all-done l = onward-done _ past lv i c xs is ks _ _ _ _ x₁ i₁ k₁ on (h .next) (rest-none j l) refl
+    module _ (j : ℕ) (here : Place) (p₁ : List (List ℕ)) (on : Rest j here p₁) where
+      pub all-skips : Resolved added n unders firsts total → q ≤ 4294967296 → j < total → (getD unders j 0 ≡ q → ⊥) → Rest (j + 1) here p₁
+      all-skips r hq l d = onward-same on (rest-other j l (r .under j l) hq d) refl
 
-      module _ (k id : ℕ) (r : Step) (x₂ i₂ k₂ : List ℕ) (l : j < total) (e : getD us j 0 ≡ q) (ek : k ≡ getD fs j 0) (ei : id ≡ getD st j 0) (p : Planned (added-tree s n k id) (h .next) lv (h .at) (h .count) x₁ i₁ k₁ r x₂ i₂ k₂) where
-        pub all-goes : (w : Place) → r ≡ Went w → Onward (arriving (additions s n us fs st total) (parent q)) past lv i c xs is ks (arriving-from (j + 1)) (w .next) (w .at) (w .count) x₂ i₂ k₂
-        all-goes w er =
-            let v = went-whole _ _ lv _ _ x₁ i₁ k₁ r x₂ i₂ k₂ w p er in
-            onward-goes _ past lv i c xs is ks _ (h .next) _ _ x₁ i₁ k₁ on (added-tree s n k id) (arriving-from (j + 1)) (h .next) (w .next) w x₂ i₂ k₂ (rw (ek, ei) (rest-here j l e)) (sym (v .next)) v
+      pub all-done : total ≤ j → Planned all past lv i c plan (Went here) p₁
+      all-done l = onward-done on (rest-none j l)
 
-        pub all-stops : r ≡ Full → Planned (arriving (additions s n us fs st total) (parent q)) past lv i c xs is ks Full x₂ i₂ k₂
-        all-stops er = onward-stops _ past lv i c xs is ks _ (h .next) _ _ x₁ i₁ k₁ on (added-tree s n k id) (arriving-from (j + 1)) x₂ i₂ k₂ (rw (ek, ei) (rest-here j l e)) (full-over _ _ lv _ _ x₁ i₁ k₁ r x₂ i₂ k₂ p er)
+      module _ (k id : ℕ) (r : Step) (p₂ : List (List ℕ)) (l : j < total) (e : getD unders j 0 ≡ q) (ek : k ≡ getD firsts j 0) (ei : id ≡ getD starts j 0 % 4294967296) (p : Planned (added-tree added n k id) (here .next) lv (here .at) (here .count) p₁ r p₂) where
+        first : arriving-from j ≡ added-tree added n k id then arriving-from (j + 1)
+        first = rw (ek, ei, low-tree added n (getD firsts j 0) (getD starts j 0)) (rest-here j l e)
 
-pub resolved-first : (s : List ℕ) (n : ℕ) (us fs : List ℕ) (total j k : ℕ) → Resolved s n us fs total → j < total → k ≡ getD fs j 0 → k ≤ n
-resolved-first s n us fs total j k h l e = rw e (h .first j l)
+        pub all-goes : (w : Place) → r ≡ Went w → Rest (j + 1) w p₂
+        all-goes w er = let v = went-whole p er in onward-goes on first (sym (v .next)) v
 
-pub resolved-tree : (s : List ℕ) (n : ℕ) (us fs : List ℕ) (total j k : ℕ) → Resolved s n us fs total → j < total → k ≡ getD fs j 0 → reads 1 (kids-at s) n 16 1 k ≡ true
-resolved-tree s n us fs total j k h l e = rw e (h .tree j l)
+        pub all-stops : r ≡ Full → Planned all past lv i c plan Full p₂
+        all-stops er = onward-stops on (added-tree added n k id) (arriving-from (j + 1)) first (full-over p er)
+
+pub resolved-first : (added : List ℕ) (n : ℕ) (unders firsts : List ℕ) (total j k : ℕ) → Resolved added n unders firsts total → j < total → k ≡ getD firsts j 0 → k ≤ n
+resolved-first added n unders firsts total j k h l e = rw e (h .first j l)
+
+pub resolved-tree : (added : List ℕ) (n : ℕ) (unders firsts : List ℕ) (total j k : ℕ) → Resolved added n unders firsts total → j < total → k ≡ getD firsts j 0 → reads 1 (kids-at added) n 16 1 k ≡ true
+resolved-tree added n unders firsts total j k h l e = rw e (h .tree j l)
 
 pub ruleset arrivals = (resolved-first, resolved-tree, all-starts, all-skips, all-done, all-goes, all-stops)

@@ -3,6 +3,7 @@ use mathlib.Core.Path.{_≡_, refl}
 use mathlib.Core.List.{List}
 use Prim.Native.Nat.{ℕ, _≤_}
 use native.Mathlib.Omega.{arith}
+use lib.ListN.{length}
 use Rattle.paper.specs.Forest.{Forest, empty, size, siblings, levels, _then_}
 use Rattle.laws.proofs.Written.{siblings-size}
 use Rattle.laws.proofs.Preorder.{size-then, siblings-then, levels-then}
@@ -13,66 +14,65 @@ use Rattle.update_rebuild.specs.declared.Step.{Step}
 use Rattle.update_rebuild.specs.declared.Step.the-variants.{Went, Full}
 use Rattle.update_rebuild.specs.Planned.{Whole, Over, PlannedBy, Planned}
 
-module _ (t u : Forest Source) (past past′ lv i c : ℕ) (xs is ks x₁ i₁ k₁ : List ℕ) where
-  whole-then : (w : Place) (r : Step) (x₂ i₂ k₂ : List ℕ) → Whole t past lv i c xs is ks w x₁ i₁ k₁ → PlannedBy r u past′ lv (w .at) (w .count) x₁ i₁ k₁ x₂ i₂ k₂ → PlannedBy r (t then u) past′ lv i c xs is ks x₂ i₂ k₂
-  whole-then w (Went v) x₂ i₂ k₂ h g =
-      record {
-        next = g .next;
-        at = let e = size-then t u in omega (arith, h .at, g .at);
-        count = let e = siblings-then t u in omega (arith, h .count, g .count);
-        low = let e = levels-then t u in omega (arith, h .low, g .low);
-        room = g .room;
-        laid = laid-then t u i (w .at) xs is ks x₁ i₁ k₁ x₂ i₂ k₂ (h .at) (h .laid) (g .laid);
-      }
-  whole-then w Full x₂ i₂ k₂ h g = record { over = λ l m. g .over (let e = levels-then t u in omega arith) (let e = size-then t u in omega (arith, h .at)) }
+-- what an answer says, by its case
+module _ {t : Forest Source} {past lv i c : ℕ} {plan plan′ : List (List ℕ)} {r : Step} (h : Planned t past lv i c plan r plan′) where
+  pub went-whole : {w : Place} → r ≡ Went w → Whole t past lv i c plan w plan′
+  went-whole e = (rw e at h) .by
 
-  pub planned-then : (w : Place) (r : Step) (x₂ i₂ k₂ : List ℕ) → Whole t past lv i c xs is ks w x₁ i₁ k₁ → Planned u past′ lv (w .at) (w .count) x₁ i₁ k₁ r x₂ i₂ k₂ → Planned (t then u) past′ lv i c xs is ks r x₂ i₂ k₂
-  planned-then w r x₂ i₂ k₂ h g = record { by = whole-then w r x₂ i₂ k₂ h (g .by) }
+  pub went-rows : {w : Place} → r ≡ Went w → length plan′ ≡ 3
+  went-rows e = went-whole e .laid .rows
 
-  pub planned-stops : Over t lv i → Planned (t then u) past′ lv i c xs is ks Full x₁ i₁ k₁
+  pub full-over : r ≡ Full → Over t lv i
+  full-over e = (rw e at h) .by
+
+pub planned-none : {past lv i c : ℕ} {plan : List (List ℕ)} → i ≤ 1024 → length plan ≡ 3 → Planned empty past lv i c plan (Went (record { next = past; at = i; count = c })) plan
+unfolding size siblings levels
+planned-none {i = i} {plan = plan} h e = record { by = record { next = refl; at = omega arith; count = omega arith; low = omega arith; room = h; laid = laid-none i plan e } }
+
+module _ (t u : Forest Source) (past′ lv i c : ℕ) (plan : List (List ℕ)) where
+  planned-then : {past : ℕ} {w : Place} {r : Step} {p₁ p₂ : List (List ℕ)} → Whole t past lv i c plan w p₁ → Planned u past′ lv (w .at) (w .count) p₁ r p₂ → Planned (t then u) past′ lv i c plan r p₂
+  planned-then {w = w} {r} {p₁} {p₂} h g = record { by = go r (g .by) }
+    where
+      go : (r : Step) → PlannedBy r u past′ lv (w .at) (w .count) p₁ p₂ → PlannedBy r (t then u) past′ lv i c plan p₂
+      go (Went v) g =
+          record {
+            next = g .next;
+            at = let e = size-then t u in omega (arith, h .at, g .at);
+            count = let e = siblings-then t u in omega (arith, h .count, g .count);
+            low = let e = levels-then t u in omega (arith, h .low, g .low);
+            room = g .room;
+            laid = laid-then t u i (w .at) plan p₁ p₂ (h .at) (h .laid) (g .laid);
+          }
+      go Full g = record { over = λ l m. g .over (let e = levels-then t u in omega arith) (let e = size-then t u in omega (arith, h .at)) }
+
+  planned-stops : {p₁ : List (List ℕ)} → Over t lv i → Planned (t then u) past′ lv i c plan Full p₁
   planned-stops h = record { by = record { over = λ l m. h .over (let e = levels-then t u in omega arith) (let e = size-then t u in omega arith) } }
 
--- what an answer says, by its case
-pub went-whole : (t : Forest Source) (past lv i c : ℕ) (xs is ks : List ℕ) (r : Step) (xs′ is′ ks′ : List ℕ) (w : Place) → Planned t past lv i c xs is ks r xs′ is′ ks′ → r ≡ Went w → Whole t past lv i c xs is ks w xs′ is′ ks′
-went-whole t past lv i c xs is ks r xs′ is′ ks′ w h e = (rw e at h) .by
+-- As a loop: to plan u here gives G.
+pub record Onward (G : Step → List (List ℕ) → Type 0) (u : Forest Source) (past lv i c : ℕ) (plan : List (List ℕ)) : Type 0 where
+  pub room : i ≤ 1024
+  pub few : c ≤ i
+  pub rows : length plan ≡ 3
+  pub go : (r : Step) (plan′ : List (List ℕ)) → Planned u past lv i c plan r plan′ → G r plan′
 
-pub full-over : (t : Forest Source) (past lv i c : ℕ) (xs is ks : List ℕ) (r : Step) (xs′ is′ ks′ : List ℕ) → Planned t past lv i c xs is ks r xs′ is′ ks′ → r ≡ Full → Over t lv i
-full-over t past lv i c xs is ks r xs′ is′ ks′ h e = (rw e at h) .by
+pub onward-starts : {t : Forest Source} {past lv i c : ℕ} {plan : List (List ℕ)} → i ≤ 1024 → c ≤ i → length plan ≡ 3 → Onward (Planned t past lv i c plan) t past lv i c plan
+onward-starts h g e = record { room = h; few = g; rows = e; go = λ r plan′ p. p }
 
--- a number of siblings fits the plan
-pub few-siblings : (t : Forest Source) (past lv i : ℕ) (xs is ks : List ℕ) (r : Step) (xs′ is′ ks′ : List ℕ) (w : Place) → Planned t past lv i 0 xs is ks r xs′ is′ ks′ → r ≡ Went w → w .count ≤ 1024
-few-siblings t past lv i xs is ks r xs′ is′ ks′ w h e =
-    let v = went-whole t past lv i 0 xs is ks r xs′ is′ ks′ w h e in
-    let z = siblings-size t in
-    omega (arith, z, v .at, v .room, v .count)
+module _ {G : Step → List (List ℕ) → Type 0} {u : Forest Source} {past lv i c : ℕ} {plan : List (List ℕ)} (on : Onward G u past lv i c plan) where
+  pub onward-same : {v : Forest Source} {past′ : ℕ} → u ≡ v → past ≡ past′ → Onward G v past′ lv i c plan
+  onward-same e f = rw (e, f) at on
 
-pub planned-none : (past lv i c : ℕ) (xs is ks : List ℕ) → i ≤ 1024 → Planned empty past lv i c xs is ks (Went (record { next = past; at = i; count = c })) xs is ks
-unfolding size siblings levels
-planned-none past lv i c xs is ks h = record { by = record { next = refl; at = omega arith; count = omega arith; low = omega arith; room = h; laid = laid-none i xs is ks } }
-
--- As a loop.
-pub record Onward (t : Forest Source) (past lv i c : ℕ) (xs is ks : List ℕ) (u : Forest Source) (past′ : ℕ) (i′ c′ : ℕ) (xs′ is′ ks′ : List ℕ) : Type 0 where
-  pub room : i′ ≤ 1024
-  pub few : c′ ≤ i′
-  pub go : (r : Step) (x₂ i₂ k₂ : List ℕ) → Planned u past′ lv i′ c′ xs′ is′ ks′ r x₂ i₂ k₂ → Planned t past lv i c xs is ks r x₂ i₂ k₂
-
-pub onward-starts : (t : Forest Source) (past lv i c : ℕ) (xs is ks : List ℕ) → i ≤ 1024 → c ≤ i → Onward t past lv i c xs is ks t past i c xs is ks
-onward-starts t past lv i c xs is ks h g = record { room = h; few = g; go = λ r x₂ i₂ k₂ p. p }
-
-module _ (t : Forest Source) (past lv i c : ℕ) (xs is ks : List ℕ) (u : Forest Source) (past′ i′ c′ : ℕ) (xs′ is′ ks′ : List ℕ) (on : Onward t past lv i c xs is ks u past′ i′ c′ xs′ is′ ks′) where
-  pub onward-same : (v : Forest Source) (past₂ : ℕ) → u ≡ v → past′ ≡ past₂ → Onward t past lv i c xs is ks v past₂ i′ c′ xs′ is′ ks′
-  onward-same v past₂ e f = rw (e, f) at on
-
-  pub onward-goes : (a b : Forest Source) (past₂ past₃ : ℕ) (w : Place) (x₁ i₁ k₁ : List ℕ) → u ≡ a then b → past′ ≡ past₃ → Whole a past₂ lv i′ c′ xs′ is′ ks′ w x₁ i₁ k₁ → Onward t past lv i c xs is ks b past₃ (w .at) (w .count) x₁ i₁ k₁
-  onward-goes a b past₂ past₃ w x₁ i₁ k₁ e f h =
+  pub onward-goes : {a b : Forest Source} {past₂ past′ : ℕ} {w : Place} {p₁ : List (List ℕ)} → u ≡ a then b → past ≡ past′ → Whole a past₂ lv i c plan w p₁ → Onward G b past′ lv (w .at) (w .count) p₁
+  onward-goes {a} {b} e f h =
       record {
         room = h .room;
         few = let s = siblings-size a in omega (arith, h .at, h .count, on .few);
-        go = λ r x₂ i₂ k₂ p. on .go r x₂ i₂ k₂ (rw (e, f) (planned-then a b past₂ past₃ lv i′ c′ xs′ is′ ks′ x₁ i₁ k₁ w r x₂ i₂ k₂ h p));
+        rows = h .laid .rows;
+        go = λ r p₂ p. on .go r p₂ (rw (e, f) (planned-then a b _ lv i c plan h p));
       }
 
-  pub onward-stops : (a b : Forest Source) (x₁ i₁ k₁ : List ℕ) → u ≡ a then b → Over a lv i′ → Planned t past lv i c xs is ks Full x₁ i₁ k₁
-  onward-stops a b x₁ i₁ k₁ e h = on .go Full x₁ i₁ k₁ (rw e (planned-stops a b past′ past′ lv i′ c′ xs′ is′ ks′ x₁ i₁ k₁ h))
+  pub onward-stops : (a b : Forest Source) {p₁ : List (List ℕ)} → u ≡ a then b → Over a lv i → G Full p₁
+  onward-stops a b e h = on .go Full _ (rw e (planned-stops a b past lv i c plan h))
 
-  pub onward-done : (v : ℕ) → u ≡ empty → past′ ≡ v → Planned t past lv i c xs is ks (Went (record { next = v; at = i′; count = c′ })) xs′ is′ ks′
-  onward-done v e f = on .go _ xs′ is′ ks′ (rw (e, f) (planned-none v lv i′ c′ xs′ is′ ks′ (on .room)))
+  pub onward-done : u ≡ empty → G (Went (record { next = past; at = i; count = c })) plan
+  onward-done e = on .go _ plan (rw e (planned-none (on .room) (on .rows)))

@@ -18,13 +18,14 @@ use Rattle.laws.proofs.Taken.{roots-take}
 use Rattle.laws.proofs.Natural.{mapped-all, rebuilt-mapped}
 use Rattle.laws.proofs.Preorder.{mapped-mapped}
 use Rattle.laws.proofs.Pointwise.{Each, each-more, each-mapped, each-slot, mapped-same, rebuilt-same}
-use Rattle.plan.specs.Plan.{Lent, Source, source-field, planned-field}
+use Rattle.record.specs.Trees.{Trees}
+use Rattle.plan.specs.Plan.{Source, source-field, planned-field}
 use Rattle.update_rebuild.specs.Sources.{base-source, added-source, source-id, source-kind, rebuilt-row, rebuilt-base}
 
-module _ (l : Lent) where
+module _ (l : Trees) where
   -- ---- a source is its record
 
-  base-field : (k : ℕ) → k < 1024 → planned-field l (base-source (l .base) k) ≡ field-at (l .pool) (l .base) k
+  base-field : (k : ℕ) → k < 1024 → planned-field l (base-source (l .records) k) ≡ field-at (l .pool) (l .records) k
   unfolding planned-field source-field field-at
   base-field k h = rw (lt-ltb k 1024 h)
 
@@ -32,32 +33,32 @@ module _ (l : Lent) where
   unfolding planned-field
   source-id-is a = refl
 
-  source-kind-is : (k : ℕ) → k < 1024 → source-kind (l .base) (base-source (l .base) k) ≡ kind-of (planned-field l (base-source (l .base) k))
+  source-kind-is : (k : ℕ) → k < 1024 → source-kind (l .records) (base-source (l .records) k) ≡ kind-of (planned-field l (base-source (l .records) k))
   unfolding field-at
   source-kind-is k h = ap kind-of (sym (base-field k h))
 
-  added-field : (i k : ℕ) → i < 4294967296 → planned-field l (added-source i k) ≡ with-id i (field-at (l .request) (l .added) k)
+  added-field : (i k : ℕ) → i < 4294967296 → planned-field l (added-source i k) ≡ with-id i (field-at (l .request-pool) (l .added-records) k)
   unfolding planned-field source-field
   added-field i k h = let e : 1024 + k - 1024 ≡ k = omega arith in rw (le-ltb (1024 + k) 1024 (omega arith), e, turned-twice i h)
 
   -- ---- an added tree
 
-  pub fresh-fields : (c : ℕ) (t : Forest ℕ) → c + size t ≤ 4294967296 → mapped (planned-field l) (fresh added-source c t) ≡ fresh with-id c (fields (l .request) (l .added) t)
+  pub fresh-fields : (c : ℕ) (t : Forest ℕ) → c + size t ≤ 4294967296 → mapped (planned-field l) (fresh added-source c t) ≡ fresh with-id c (fields (l .request-pool) (l .added-records) t)
   unfolding fields mapped fresh size
   fresh-fields c empty h = refl
   fresh-fields c (node k m n) h = rw (added-field c k (omega arith), fresh-fields (suc c) m (omega arith), fresh-fields (suc (c + size m)) n (omega arith), size-fields m)
     where
-      size-fields : (t : Forest ℕ) → size (mapped (field-at (l .request) (l .added)) t) ≡ size t
+      size-fields : (t : Forest ℕ) → size (mapped (field-at (l .request-pool) (l .added-records)) t) ≡ size t
       size-fields empty = refl
       size-fields (node j a b) = rw (size-fields a, size-fields b)
 
   -- ---- the base
 
-  pub rebuilt-fields : (n : ℕ) (p : Part) (ds ds′ : List ℕ) (adds : List (Addition Source)) → n ≤ 1024 → roots 0 (kids-at (l .base)) n n 0 ≡ ok p → ((x : ℕ) → among x ds ≡ among x ds′)
-      → mapped (planned-field l) (rebuilt-base (l .base) n ds adds) ≡ rebuilt id-of kind-of ds′ (mapped-all (planned-field l) adds) none true (fields (l .pool) (l .base) (p .trees))
+  pub rebuilt-fields : (n : ℕ) (p : Part) (ds ds′ : List ℕ) (adds : List (Addition Source)) → n ≤ 1024 → roots 0 (kids-at (l .records)) n n 0 ≡ ok p → ((x : ℕ) → among x ds ≡ among x ds′)
+      → mapped (planned-field l) (rebuilt-base (l .records) n ds adds) ≡ rebuilt id-of kind-of ds′ (mapped-all (planned-field l) adds) none true (fields (l .pool) (l .records) (p .trees))
   unfolding rebuilt-base rebuilt-row fields
   rebuilt-fields n p ds ds′ adds h e drops =
-      let s = l .base in
+      let s = l .records in
       let g = planned-field l in
       let t = p .trees in
       let small : Each (λ j. j < n) t = each-slot (kids-at s) n 0 t (roots-take 0 (kids-at s) n n 0 p e .laid) in

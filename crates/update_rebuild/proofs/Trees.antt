@@ -1,111 +1,102 @@
 -- One added tree: its records stand in a row of the additions, and their ids count on.
-use mathlib.Core.Path.{_≡_, refl, sym, ap, _∙_}
+use mathlib.Core.Path.{_≡_, refl, ap, _∙_}
 use mathlib.Core.Bool.{true}
-use mathlib.Core.List.{List, _∷_, map}
-use Prim.Native.Nat.{ℕ, suc, _+_, _-_, _<_, _≤_}
-use native.Mathlib.Nat.{suc-add}
+use mathlib.Core.List.{List}
+use Prim.Native.Nat.{ℕ, suc, _+_, _-_, _*_, _<_, _≤_}
+use native.Mathlib.Nat.{add-zero}
 use native.Mathlib.Omega.{arith}
-use lib.Seq.{sets}
+use lib.ListN.{length}
 use Rattle.record.specs.declared.Refusal.{Refusal}
-use Rattle.paper.specs.Forest.{Forest, empty, node, size, siblings, levels, preorder, counts}
+use Rattle.paper.specs.Forest.{Forest, empty, node, size, levels, mapped, preorder}
 use Rattle.paper.specs.Bytes.{turned, kids-at, from}
 use Rattle.paper.specs.Layout.{Part, row}
 use Rattle.paper.specs.Rebuild.{fresh}
-use Rattle.laws.proofs.Runs.{map-append, map-from, from-append}
+use Rattle.laws.proofs.Runs.{map-from}
+use Rattle.laws.proofs.Taken.{Laid, row-take}
+use Rattle.laws.proofs.Preorder.{size-mapped, siblings-mapped, levels-mapped, preorder-mapped, counts-mapped}
 use Rattle.tree.specs.Says.{ended}
 use Rattle.tree.specs.declared.Walked.{Walked}
 use Rattle.tree.specs.declared.Walked.the-variants.{End, Refused}
 use Rattle.tree.specs.Read.{part, reads, itself}
-use Rattle.tree.proofs.Filled.{ended-ok, ended-no, full, Full}
+use Rattle.tree.proofs.Filled.{ended-ok, ended-no, end-room}
 use Rattle.tree.proofs.Depth.{row-is-low, row-reads-low}
-use Rattle.tree.proofs.Steps.{part-is, was-read}
-use Rattle.plan.specs.Plan.{slot-of, bits-of}
+use Rattle.tree.proofs.Steps.{part-is, part-full, was-read}
+use Rattle.plan.specs.Plan.{Source, slot-of, bits-of}
 use Rattle.update_rebuild.specs.declared.Step.the-variants as step
 use Rattle.update_rebuild.specs.Sources.{added-source, added-tree}
-use Rattle.update_rebuild.specs.Planned.{Planned, Ranged}
+use Rattle.update_rebuild.specs.Planned.{Planned, AddedIn}
 
--- ---- numbers given
+-- Ids in preorder are ids by the slot.
+fresh-row : (kids id : ℕ → ℕ) (n c k : ℕ) (t : Forest ℕ) → Laid kids n k t → ((d : ℕ) → id (k + d) ≡ c + d) → fresh added-source c t ≡ mapped (λ j. added-source (id j) j) t
+unfolding fresh mapped
+fresh-row kids id n c k empty h e = refl
+fresh-row kids id n c k (node j m u) h e =
+    let first : id k ≡ c = rw (add-zero k, add-zero c) at (e 0) in
+    rw (h .0, first, fresh-row kids id n (suc c) (suc k) m (h .3) (λ d. let z : suc k + d ≡ k + suc d = omega arith in rw z (e (suc d) ∙ omega arith)), fresh-row kids id n (suc (c + size m)) (suc (k + size m)) u (h .4) (λ d. let z : suc (k + size m) + d ≡ k + suc (size m + d) = omega arith in rw z (e (suc (size m + d)) ∙ omega arith)))
 
-slots-fresh : (c : ℕ) (t : Forest ℕ) → map slot-of (preorder (fresh added-source c t)) ≡ map (λ k. 1024 + k) (preorder t)
-unfolding fresh preorder
-slots-fresh c empty = refl
-slots-fresh c (node k m n) =
-    ap (λ (l : List ℕ). (1024 + k) ∷ l) (map-append slot-of (preorder (fresh added-source (suc c) m)) (preorder (fresh added-source (suc (c + size m)) n)) ∙ rw (slots-fresh (suc c) m, slots-fresh (suc (c + size m)) n) (sym (map-append (λ k. 1024 + k) (preorder m) (preorder n))))
+module _ (added : List ℕ) (n k id past lv i c : ℕ) (plan : List (List ℕ)) (w : Walked) (few : lv ≤ 16) (ew : w ≡ ended (row 1 (kids-at added) n lv 1 k)) (h : reads 1 (kids-at added) n 16 1 k ≡ true) where
+  abbrev slots : Forest ℕ
+  slots = part 1 (kids-at added) n 16 1 k .trees
 
-ids-fresh : (c : ℕ) (t : Forest ℕ) → map bits-of (preorder (fresh added-source c t)) ≡ from turned c (size t)
-unfolding fresh preorder size from
-ids-fresh c empty = refl
-ids-fresh c (node k m n) =
-    ap (λ (l : List ℕ). turned c ∷ l) (map-append bits-of (preorder (fresh added-source (suc c) m)) (preorder (fresh added-source (suc (c + size m)) n)) ∙ rw (ids-fresh (suc c) m, ids-fresh (suc (c + size m)) n) (sym (from-append turned (suc c) (size m) (size n) ∙ rw (suc-add c (size m)))))
+  abbrev source : ℕ → Source
+  source j = added-source (turned id + (j - k)) j
 
-pub size-fresh : {A B : Type 0} (put : ℕ → A → B) (c : ℕ) (t : Forest A) → size (fresh put c t) ≡ size t
-unfolding fresh size
-size-fresh put c empty = refl
-size-fresh put c (node k m n) = rw (size-fresh put (suc c) m, size-fresh put (suc (c + size m)) n)
-
-siblings-fresh : (c : ℕ) (t : Forest ℕ) → siblings (fresh added-source c t) ≡ siblings t
-unfolding fresh siblings
-siblings-fresh c empty = refl
-siblings-fresh c (node k m n) = ap suc (siblings-fresh (suc (c + size m)) n)
-
-counts-fresh : (c : ℕ) (t : Forest ℕ) → counts (fresh added-source c t) ≡ counts t
-unfolding fresh counts
-counts-fresh c empty = refl
-counts-fresh c (node k m n) = rw (siblings-fresh (suc c) m, counts-fresh (suc c) m, counts-fresh (suc (c + size m)) n)
-
-levels-fresh : (c : ℕ) (t : Forest ℕ) → levels (fresh added-source c t) ≡ levels t
-unfolding fresh levels
-levels-fresh c empty = refl
-levels-fresh c (node k m n) = rw (levels-fresh (suc c) m, levels-fresh (suc (c + size m)) n)
-
--- ---- the tree, put into the plan
-
--- a row that ends with fewer levels is the row
-row-found : (P : Type 0) (s : List ℕ) (n k lv e : ℕ) (w : Walked) → lv ≤ 16 → w ≡ ended (row 1 (kids-at s) n lv 1 k) → w ≡ End e
-    → ((p : Part) → part 1 (kids-at s) n 16 1 k ≡ p → Full (kids-at s) n 1 k p → levels (p .trees) ≤ lv → p .next ≡ e → P) → P
-row-found P s n k lv e w l ew ee f =
-    ended-ok P (row 1 (kids-at s) n lv 1 k) w e ew ee λ p ep en.
-    let h = row-is-low 1 (kids-at s) n lv 1 k p ep in
-    f p (part-is 1 (kids-at s) n 16 1 k p (row-reads-low 1 (kids-at s) n lv 1 k 16 p ep (omega arith))) (full 1 (kids-at s) n lv 1 k p ep) h en
-
-module _ (s : List ℕ) (n k id past lv i c : ℕ) (xs is ks : List ℕ) (w : Walked) (l : lv ≤ 16) (ew : w ≡ ended (row 1 (kids-at s) n lv 1 k)) where
-  pub tree-ends : (e : ℕ) → w ≡ End e → k ≤ n → (k ≤ e) × (e ≤ n)
-  tree-ends e ee h = row-found _ s n k lv e w l ew ee λ p ep f g en. (omega (arith, f .next), rw en at (f .most h))
-
-  pub tree-goes : (e p : ℕ) (x₁ i₁ k₁ : List ℕ) → w ≡ End e → i ≤ 1024 → e - k ≤ 1024 - i → Ranged (kids-at s) k e (turned id) xs is ks i p x₁ i₁ k₁
-      → Planned (added-tree s n k id) past lv i c xs is ks (step.Went (record { next = past; at = p; count = c + 1 })) x₁ i₁ k₁
+  added-is : added-tree added n k id ≡ mapped source slots
   unfolding added-tree
-  tree-goes e p x₁ i₁ k₁ ee h m r =
-      row-found _ s n k lv e w l ew ee λ a ea f g en.
-      let t = a .trees in
-      let j = turned id in
-      let d : e - k ≡ size t = omega (arith, f .next) in
-      rw ea
+  added-is = fresh-row (kids-at added) (λ j. turned id + (j - k)) n (turned id) k slots (row-take 1 (kids-at added) n 16 1 k _ (was-read 1 (kids-at added) n 16 1 k h) .took .laid) (λ d. omega arith)
+
+  -- a row that ends with fewer levels is the row
+  tree-ends : (e : ℕ) → w ≡ End e → (levels slots ≤ lv) × (e - k ≡ size slots)
+  tree-ends e ee =
+      ended-ok _ (row 1 (kids-at added) n lv 1 k) w e ew ee λ p ep en.
+      let low = row-is-low 1 (kids-at added) n lv 1 k p ep in
+      let z = part-is 1 (kids-at added) n 16 1 k p (row-reads-low 1 (kids-at added) n lv 1 k 16 p ep (omega arith)) in
+      let f = part-full 1 (kids-at added) n 16 1 k h in
+      let a = ap (λ (q : Part). levels (q .trees)) z in
+      let b = ap (λ (q : Part). q .next) z in
+      (omega arith, omega (arith, f .next))
+
+  pub tree-goes : (e : ℕ) (p₁ : List (List ℕ)) → w ≡ End e → i ≤ 1024 → e - k ≤ 1024 - i → AddedIn (kids-at added) k (e - k) (turned id) plan i p₁
+      → Planned (added-tree added n k id) past lv i c plan (step.Went (record { next = past; at = i + (e - k); count = c + 1 })) p₁
+  tree-goes e p₁ ee l m r =
+      let d = tree-ends e ee in
+      let f = part-full 1 (kids-at added) n 16 1 k h in
+      let q : preorder (mapped source slots) ≡ from source k (e - k) = preorder-mapped source slots ∙ rw (f .slots, ← (d .1)) (map-from source itself k (e - k)) in
+      rw added-is
       record {
         by = record {
           next = refl;
-          at = r .end ∙ rw (d, size-fresh added-source j t);
-          count = ap (λ (z : ℕ). c + z) (sym (siblings-fresh j t ∙ f .trees));
-          low = rw (levels-fresh j t) g;
-          room = omega (arith, r .end);
+          at = rw (d .1, size-mapped source slots);
+          count = rw (siblings-mapped source slots, f .trees);
+          low = rw (levels-mapped source slots) (d .0);
+          room = omega arith;
           laid = record {
-            slots = r .slots ∙ ap (λ (z : List ℕ). sets xs i z) (sym (slots-fresh j t ∙ ap (λ (z : List ℕ). map (λ q. 1024 + q) z) (f .slots) ∙ map-from (λ q. 1024 + q) itself k (size t) ∙ ap (λ (z : ℕ). from (λ q. 1024 + q) k z) (sym d)));
-            ids = r .ids ∙ ap (λ (z : List ℕ). sets is i z) (sym (ids-fresh j t ∙ ap (λ (z : ℕ). from turned j z) (sym d)));
-            kids = r .sizes ∙ ap (λ (z : List ℕ). sets ks i z) (sym (counts-fresh j t ∙ f .sizes ∙ ap (λ (z : ℕ). from (kids-at s) k z) (sym d)));
+            sources-set = r .sources-set ∙ rw (q, map-from slot-of source k (e - k));
+            numbers-set = r .numbers-set ∙ rw (q, map-from bits-of source k (e - k));
+            members-set = r .members-set ∙ rw (counts-mapped source slots, f .sizes, d .1);
+            rows = r .rows;
           };
         };
       }
 
-  pub tree-wide : (e : ℕ) (x₁ i₁ k₁ : List ℕ) → w ≡ End e → 1024 - i < e - k → Planned (added-tree s n k id) past lv i c xs is ks step.Full x₁ i₁ k₁
-  unfolding added-tree
-  tree-wide e x₁ i₁ k₁ ee h =
-      row-found _ s n k lv e w l ew ee λ a ea f g en.
-      rw ea record { by = record { over = λ y z. let q = size-fresh added-source (turned id) (a .trees) in omega (arith, f .next) } }
+  pub tree-wide : (e : ℕ) (p₁ : List (List ℕ)) → w ≡ End e → 1024 - i < e - k → Planned (added-tree added n k id) past lv i c plan step.Full p₁
+  tree-wide e p₁ ee l = rw added-is record { by = record { over = λ y z. let q = size-mapped source slots in omega (arith, tree-ends e ee) } }
 
-  pub tree-deep : (t : Refusal) (x₁ i₁ k₁ : List ℕ) → w ≡ Refused t → reads 1 (kids-at s) n 16 1 k ≡ true → Planned (added-tree s n k id) past lv i c xs is ks step.Full x₁ i₁ k₁
-  unfolding added-tree
-  tree-deep t x₁ i₁ k₁ et h =
-      let p = part 1 (kids-at s) n 16 1 k in
-      record { by = record { over = λ y z. ended-no (row 1 (kids-at s) n lv 1 k) p w t (row-reads-low 1 (kids-at s) n 16 1 k lv p (was-read 1 (kids-at s) n 16 1 k h) (rw (levels-fresh (turned id) (p .trees)) at y)) ew et } }
+  pub tree-deep : (t : Refusal) (p₁ : List (List ℕ)) → w ≡ Refused t → Planned (added-tree added n k id) past lv i c plan step.Full p₁
+  tree-deep t p₁ et =
+      let p = part 1 (kids-at added) n 16 1 k in
+      rw added-is
+      record { by = record { over = λ y z. ended-no (row 1 (kids-at added) n lv 1 k) p w t (row-reads-low 1 (kids-at added) n 16 1 k lv p (was-read 1 (kids-at added) n 16 1 k h) (rw (levels-mapped source slots) at y)) ew et } }
 
-pub ruleset growing = (tree-ends, tree-goes, tree-wide, tree-deep)
+-- the row that is asked for is there
+module _ (added : List ℕ) (n k lv e : ℕ) (w : Walked) (ew : w ≡ ended (row 1 (kids-at added) n lv 1 k)) (ee : w ≡ End e) where
+  pub tree-from : k ≤ e
+  tree-from = end-room 1 (kids-at added) n lv 1 k e w ew ee .0
+
+  pub tree-few : k ≤ n → n ≤ 1024 → k + (e - k) ≤ 1024
+  tree-few l m = let z = end-room 1 (kids-at added) n lv 1 k e w ew ee in let y = z .1 l in omega arith
+
+  pub tree-whole : k ≤ n → n * 24 ≤ length added → (k + (e - k)) * 24 ≤ length added
+  tree-whole l m = let z = end-room 1 (kids-at added) n lv 1 k e w ew ee in let y = z .1 l in omega arith
+
+pub ruleset growing = (tree-from, tree-few, tree-whole, tree-goes, tree-wide, tree-deep)

@@ -2,7 +2,6 @@
 use mathlib.Core.Path.{_≡_, refl}
 use mathlib.Core.Bool.{Bool, true, false, cond}
 use mathlib.Core.List.{List}
-use mathlib.Core.Option.{none}
 use Prim.Native.Nat.{ℕ, _+_, _≤_}
 use native.Mathlib.Omega.{arith}
 use borrow.Author.Tests.{leb-true, le-leb}
@@ -47,35 +46,30 @@ verdict-full n t h = go (fits t) refl
     go true e = absurd (h e)
     go false e = rw e
 
-judged : (t : Forest Source) (n : ℕ) (xs is ks : List ℕ) (r : Step) (xs′ is′ ks′ : List ℕ) → PlannedBy r t n 16 0 0 xs is ks xs′ is′ ks′ → Rebuilds t n xs is ks r xs′ is′ ks′
-judged t n xs is ks (Went w) xs′ is′ ks′ h = record { answer = verdict-went n t w (fits-of t (h .low) (omega (arith, h .at, h .room))) (h .next) (omega (arith, h .at)) (omega (arith, h .count)); laid = λ e. h .laid }
-judged t n xs is ks Full xs′ is′ ks′ h =
+judged : (t : Forest Source) (n : ℕ) (plan : List (List ℕ)) (r : Step) (plan′ : List (List ℕ)) → PlannedBy r t n 16 0 0 plan plan′ → Rebuilds t n plan r plan′
+judged t n plan (Went w) plan′ h = record { answer = verdict-went n t w (fits-of t (h .low) (omega (arith, h .at, h .room))) (h .next) (omega (arith, h .at)) (omega (arith, h .count)); laid = λ e. h .laid }
+judged t n plan Full plan′ h =
     let no : fits t ≡ true → ⊥ = λ e. h .over (of-fits t e .0) (let z = of-fits t e .1 in omega arith) in
     record { answer = verdict-full n t no; laid = λ e. absurd (no e) }
 
 -- ---- the root list
 
-pub roots-are : (P : Type 0) (x : Answer Part) (c : ℕ) → Roots c ≡ rooted 0 x → ((p : Part) → x ≡ ok p → c ≡ siblings (p .trees) → P) → P
+roots-are : (P : Type 0) (x : Answer Part) (c : ℕ) → Roots c ≡ rooted 0 x → ((p : Part) → x ≡ ok p → c ≡ siblings (p .trees) → P) → P
 unfolding rooted
 roots-are P (ok p) c e f = f p refl (let z : c ≡ 0 + siblings (p .trees) = cc in omega arith)
 roots-are P (refused n l k) c e f = let z : _≡_ {A = ℕ} 0 1 = cc in absurd (omega arith)
 
-pub root-planned : (s ds : List ℕ) (adds : List (Addition Source)) (n c : ℕ) (xs is ks : List ℕ) (i : ℕ) (r : Step) (xs′ is′ ks′ : List ℕ) → RowPlanned s ds adds n 16 c 0 (parent 0) true xs is ks i r xs′ is′ ks′ → RowPlanned s ds adds n 16 c 0 none true xs is ks i r xs′ is′ ks′
-unfolding parent
-root-planned s ds adds n c xs is ks i r xs′ is′ ks′ h = h
+module _ {records : List ℕ} {n c : ℕ} (b : Based records n c) where
+  pub base-reads : Readable records n 16 c 0
+  base-reads = roots-are _ (roots 0 (kids-at records) n n 0) c (b .rooted) λ p ep ec.
+      record { whole = b .whole; small = b .small; within = omega arith; levels = omega arith; read = rw ec (reads-is 0 (kids-at records) n 16 (siblings (p .trees)) 0 p (roots-row 0 (kids-at records) n n 0 p (omega arith) (omega arith) ep .0)) }
 
-module _ (s : List ℕ) (n c : ℕ) (b : Based s n c) where
-  pub base-reads : Readable s n 16 c 0
-  base-reads = roots-are _ (roots 0 (kids-at s) n n 0) c (b .rooted) λ p ep ec.
-      record { whole = b .whole; small = b .small; within = omega arith; levels = omega arith; read = rw ec (reads-is 0 (kids-at s) n 16 (siblings (p .trees)) 0 p (roots-row 0 (kids-at s) n n 0 p (omega arith) (omega arith) ep .0)) }
-
-  base-is : (got (roots 0 (kids-at s) n n 0) .trees ≡ part 0 (kids-at s) n 16 c 0 .trees) × (part 0 (kids-at s) n 16 c 0 .next ≡ n)
-  base-is = roots-are _ (roots 0 (kids-at s) n n 0) c (b .rooted) λ p ep ec.
-      let g = roots-row 0 (kids-at s) n n 0 p (omega arith) (omega arith) ep in
-      let e : part 0 (kids-at s) n 16 c 0 ≡ p = part-is 0 (kids-at s) n 16 c 0 p (rw ec (g .0)) in
+  base-is : (got (roots 0 (kids-at records) n n 0) .trees ≡ part 0 (kids-at records) n 16 c 0 .trees) × (part 0 (kids-at records) n 16 c 0 .next ≡ n)
+  base-is = roots-are _ (roots 0 (kids-at records) n n 0) c (b .rooted) λ p ep ec.
+      let g = roots-row 0 (kids-at records) n n 0 p (omega arith) (omega arith) ep in
+      let e : part 0 (kids-at records) n 16 c 0 ≡ p = part-is 0 (kids-at records) n 16 c 0 p (rw ec (g .0)) in
       rw (ep, e) (refl, g .1)
 
-  pub base-rebuilt : (ds : List ℕ) (adds : List (Addition Source)) (xs is ks : List ℕ) (r : Step) (xs′ is′ ks′ : List ℕ) → RowPlanned s ds adds n 16 c 0 none true xs is ks 0 r xs′ is′ ks′ → Rebuilds (rebuilt-base s n ds adds) n xs is ks r xs′ is′ ks′
-  unfolding rebuilt-base
-  base-rebuilt ds adds xs is ks r xs′ is′ ks′ h =
-      rw (base-is .0) (judged _ n xs is ks r xs′ is′ ks′ (rw (base-is .1) at (h .by)))
+  pub base-rebuilt : (dropped : List ℕ) (adds : List (Addition Source)) (plan : List (List ℕ)) (r : Step) (plan′ : List (List ℕ)) → RowPlanned records dropped adds n 16 c 0 (parent 0) true plan 0 r plan′ → Rebuilds (rebuilt-base records n dropped adds) n plan r plan′
+  unfolding rebuilt-base parent
+  base-rebuilt dropped adds plan r plan′ h = rw (base-is .0) (judged _ n plan r plan′ (rw (base-is .1) at (h .by)))

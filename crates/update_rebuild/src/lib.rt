@@ -1,6 +1,12 @@
 // The rebuild of an update, as a plan: dropped members go with their subtrees, additions follow the survivors.
 use paper::is_struct;
+use plan::PlanRows;
+use plan::put_planned;
+use record::ADDED_RECORDS;
 use record::FieldId;
+use record::RECORDS;
+use record::Siblings;
+use record::Trees;
 use record::id_bits_at;
 use record::kids_at;
 use record::kind_at;
@@ -11,18 +17,55 @@ use tree::Walked;
 use tree::row_end;
 use tree::tree_end;
 use update_dropped::Dropped;
+use update_dropped::holds;
 ghost use mathlib.Core.Path.{_≡_};
-ghost use mathlib.Core.Bool.{true, _&&_};
+ghost use mathlib.Core.Bool.{true, not, _&&_};
 ghost use Prim.Native.Nat.{_+_, _-_, _*_, _≤_, _<_};
+ghost use lib.Dec.{eqb};
 ghost use lib.ListN.{length};
-ghost use Rattle.update_dropped.specs.Set.{dropped-ids, Good};
+ghost use Rattle.update_dropped.specs.Set.{dropped-ids, set-of, Good};
 ghost use Rattle.paper.specs.Answer.{among};
 ghost use Rattle.paper.specs.Bytes.{turned, rec-at, kids-at, kind-at};
 ghost use Rattle.paper.specs.Field.{is-struct};
 ghost use Rattle.paper.specs.Rebuild.{arriving};
 ghost use Rattle.tree.specs.Read.{reads};
-ghost use Rattle.update_rebuild.specs.Sources.{parent, added-tree, additions, rebuilt-base};
-ghost use Rattle.update_rebuild.specs.Planned.{Readable, Inside, Resolved, Based, Planned, Ranged, HeadOf, closing, RowPlanned, OnePlanned, Rebuilds};
+ghost use Rattle.record.specs.Trees.{trees-in};
+ghost use Rattle.update_rebuild.specs.Sources.{parent, added-tree, rebuilt-base};
+ghost use Rattle.update_rebuild.specs.Planned.{
+  Readable,
+  Inside,
+  ResolvedIn,
+  additions-in,
+  Based,
+  Planned,
+  AddedIn,
+  HeadOf,
+  closing,
+  RowPlanned,
+  OnePlanned,
+  Rebuilds,
+};
+
+// How much a request has: base records, added records, deletions and additions; and the last id, plus 2^31.
+pub struct Given {
+    pub base: usize,
+    pub added: usize,
+    pub deletions: usize,
+    pub additions: usize,
+    pub last: u64,
+}
+
+// What is decided of a request, in rows: the bits of each deletion's id; of each addition where it goes, its first slot in the
+// additions tree, and the bits of its first id.
+pub type Decisions = [[u64; 64]; 4];
+
+pub const GONE: usize = 0;
+
+pub const UNDERS: usize = 1;
+
+pub const FIRSTS: usize = 2;
+
+pub const STARTS: usize = 3;
 
 // Where a walk stands: the next slot that it reads, the next place of the plan, and the siblings planned so far.
 pub struct Place {
@@ -37,12 +80,17 @@ pub enum Step {
     Full,
 }
 
-// What the rebuild asks of a record: its id, where additions to it go, how many members it has, and whether they are open to change.
+// What siblings stand under: whether they are open to change, and where additions to them go.
+pub struct Under {
+    pub opens: bool,
+    pub q: u64,
+}
+
+// What the rebuild asks of a record: its id, how many members it has, and what they stand under.
 pub struct Head {
     pub id: u32,
-    pub under: u64,
     pub members: u32,
-    pub opens: bool,
+    pub under: Under,
 }
 
 fn struct_at(recs: &[u8], slot: usize) -> bool
@@ -54,111 +102,107 @@ fn struct_at(recs: &[u8], slot: usize) -> bool
 
 fn head_at(recs: &[u8], slot: usize) -> Head
     requires { ⌜ slot * 24 + 24 ≤ length (now recs) ⌝ }
-    ensures { λ r. ⌜ HeadOf (now (recs .entry)) slot r × (r .under ≤ 4294967296) ⌝ }
+    ensures { λ r. ⌜ HeadOf (now (recs .entry)) slot r ⌝ }
 {
     let id = id_bits_at(recs, slot);
-    let under = under_of(id);
     let members = kids_at(recs, slot);
     let opens = struct_at(recs, slot);
+    let q = under_of(id);
     Head {
         id,
-        under,
         members,
-        opens,
+        under: Under { opens, q },
     }
 }
 
-// The slots from a to e of the additions, with ids in preorder.
-fn put_added(
-    recs: &[u8],
-    a: usize,
-    e: usize,
-    id: u32,
-    slots: &mut [u16; 1024],
-    ids: &mut [u32; 1024],
-    kids: &mut [u16; 1024],
-    at: usize,
-) -> usize
-    requires { ⌜ (a ≤ e) × (e ≤ 1024) × (e * 24 ≤ length (now recs)) × (at + (e - a) ≤ 1024) ⌝ }
-    ensures { λ r. ⌜ Ranged (kids-at (now (recs .entry))) a e (turned id) (now (slots .entry)) (now (ids .entry)) (now (kids .entry)) at r (now (slots .exit)) (now (ids .exit)) (now (kids .exit)) ⌝ }
+// Whether nothing comes to stand inside: no members, and no additions to them.
+fn is_leaf(head: Head) -> bool
+    ensures { λ r. ⌜ r ≡ (not (head .under .opens) && eqb (head .members) 0) ⌝ }
 {
-    let mut i = a;
-    let mut p = at;
-    let mut c = long(id);
-    while i < e {
-        let members = kids_at(recs, i);
-        slots[p] = (1024 + i) as u16;
-        ids[p] = low_32(c);
-        kids[p] = members as u16;
-        i += 1;
-        p += 1;
-        c += 1;
+    if head.under.opens {
+        return false;
     }
-    p
+    head.members == 0
+}
+
+// So many added records from a slot on, planned from place `at` on, with ids in preorder.
+fn put_added(added: &[u8], slot: usize, count: usize, id: u32, plan: &mut PlanRows, at: usize)
+    requires { ⌜ ((slot + count) * 24 ≤ length (now added)) × (slot + count ≤ 1024)
+        × (at + count ≤ 1024) × (length (now plan) ≡ 3) ⌝ }
+    ensures { λ r. ⌜ AddedIn (kids-at (now (added .entry))) slot count (turned id)
+        (now (plan .entry)) at (now (plan .exit)) ⌝ }
+{
+    let mut i = 0;
+    while i < count {
+        let k = slot + i;
+        let number = low_32(long(id) + i as u64);
+        put_planned(plan, at + i, (1024 + k) as u32, number, kids_at(added, k));
+        i += 1;
+    }
 }
 
 // One added tree, behind what is planned.
 fn add_tree(
-    recs: &[u8],
-    n: usize,
+    added: &[u8],
+    m: usize,
     slot: usize,
     id: u32,
     levels: usize,
-    slots: &mut [u16; 1024],
-    ids: &mut [u32; 1024],
-    kids: &mut [u16; 1024],
+    plan: &mut PlanRows,
     place: Place,
 ) -> Step
-    requires { ⌜ (n * 24 ≤ length (now recs)) × (n ≤ 1024) × (slot ≤ n) × (reads 1 (kids-at (now recs)) n 16 1 slot ≡ true) × (levels ≤ 16) × (place .at ≤ 1024) × (place .count ≤ place .at) ⌝ }
-    ensures { λ r. ⌜ Planned (added-tree (now (recs .entry)) n slot id) (place .next) levels (place .at) (place .count) (now (slots .entry)) (now (ids .entry)) (now (kids .entry)) r (now (slots .exit)) (now (ids .exit)) (now (kids .exit)) ⌝ }
+    requires { ⌜ (m * 24 ≤ length (now added)) × (m ≤ 1024) × (slot ≤ m)
+        × (reads 1 (kids-at (now added)) m 16 1 slot ≡ true) × (levels ≤ 16) × (place .at ≤ 1024)
+        × (place .count ≤ place .at) × (length (now plan) ≡ 3) ⌝ }
+    ensures { λ r. ⌜ Planned (added-tree (now (added .entry)) m slot id) (place .next) levels
+        (place .at) (place .count) (now (plan .entry)) r (now (plan .exit)) ⌝ }
 {
     let at = place.at;
     let next = place.next;
     let count = place.count;
-    let walked = row_end(recs, n, slot, 1, levels, 1);
+    let walked = row_end(added, m, slot, 1, levels, 1);
     let Walked::End(end) = walked else {
         return Step::Full;
     };
-    if 1024 - at < end - slot {
+    let size = end - slot;
+    if 1024 - at < size {
         return Step::Full;
     }
-    let p = put_added(recs, slot, end, id, slots, ids, kids, at);
+    put_added(added, slot, size, id, plan, at);
     Step::Went(Place {
         next,
-        at: p,
+        at: at + size,
         count: count + 1,
     })
 }
 
 // The additions under q, in entry order.
 fn add_all(
-    recs: &[u8],
-    n: usize,
-    unders: &[u64; 64],
-    firsts: &[u16; 64],
-    starts: &[u32; 64],
-    total: usize,
+    added: &[u8],
+    given: Given,
+    decisions: &Decisions,
     q: u64,
     levels: usize,
-    slots: &mut [u16; 1024],
-    ids: &mut [u32; 1024],
-    kids: &mut [u16; 1024],
+    plan: &mut PlanRows,
     place: Place,
 ) -> Step
-    requires { ⌜ Resolved (now recs) n (now unders) (now firsts) total × (q ≤ 4294967296) × (levels ≤ 16) × (place .at ≤ 1024) × (place .count ≤ place .at) ⌝ }
-    ensures { λ r. ⌜ Planned (arriving (additions (now (recs .entry)) n (now (unders .entry)) (now (firsts .entry)) (now (starts .entry)) total) (parent q)) (place .next) levels (place .at) (place .count) (now (slots .entry)) (now (ids .entry)) (now (kids .entry)) r (now (slots .exit)) (now (ids .exit)) (now (kids .exit)) ⌝ }
+    requires { ⌜ ResolvedIn (now added) given (now decisions) × (q ≤ 4294967296) × (levels ≤ 16)
+        × (place .at ≤ 1024) × (place .count ≤ place .at) × (length (now plan) ≡ 3) ⌝ }
+    ensures { λ r. ⌜ Planned (arriving (additions-in (now (added .entry)) given
+        (now (decisions .entry))) (parent q)) (place .next) levels (place .at) (place .count)
+        (now (plan .entry)) r (now (plan .exit)) ⌝ }
 {
     let mut j = 0;
     let mut here = place;
-    while j < total {
-        let under = unders[j];
+    while j < given.additions {
+        let under = decisions[UNDERS][j];
         if under != q {
             j += 1;
             continue;
         }
-        let first = record::place(firsts[j]);
-        let start = starts[j];
-        let step = add_tree(recs, n, first, start, levels, slots, ids, kids, here);
+        let first = decisions[FIRSTS][j] as usize;
+        let start = low_32(decisions[STARTS][j]);
+        let step = add_tree(added, given.added, first, start, levels, plan, here);
         let Step::Went(w) = step else {
             return Step::Full;
         };
@@ -170,165 +214,147 @@ fn add_all(
 
 // The end of a row: additions follow the members of the root list or of a struct.
 fn close(
-    opens: bool,
-    recs: &[u8],
-    n: usize,
-    unders: &[u64; 64],
-    firsts: &[u16; 64],
-    starts: &[u32; 64],
-    total: usize,
-    q: u64,
+    under: Under,
+    added: &[u8],
+    given: Given,
+    decisions: &Decisions,
     levels: usize,
-    slots: &mut [u16; 1024],
-    ids: &mut [u32; 1024],
-    kids: &mut [u16; 1024],
+    plan: &mut PlanRows,
     place: Place,
 ) -> Step
-    requires { ⌜ Resolved (now recs) n (now unders) (now firsts) total × (q ≤ 4294967296) × (levels ≤ 16) × (place .at ≤ 1024) × (place .count ≤ place .at) ⌝ }
-    ensures { λ r. ⌜ Planned (closing (additions (now (recs .entry)) n (now (unders .entry)) (now (firsts .entry)) (now (starts .entry)) total) (parent q) opens) (place .next) levels (place .at) (place .count) (now (slots .entry)) (now (ids .entry)) (now (kids .entry)) r (now (slots .exit)) (now (ids .exit)) (now (kids .exit)) ⌝ }
+    requires { ⌜ ResolvedIn (now added) given (now decisions) × (under .q ≤ 4294967296)
+        × (levels ≤ 16) × (place .at ≤ 1024) × (place .count ≤ place .at)
+        × (length (now plan) ≡ 3) ⌝ }
+    ensures { λ r. ⌜ Planned (closing (additions-in (now (added .entry)) given
+        (now (decisions .entry))) (parent (under .q)) (under .opens)) (place .next) levels
+        (place .at) (place .count) (now (plan .entry)) r (now (plan .exit)) ⌝ }
 {
-    if opens {
-        return add_all(
-            recs,
-            n,
-            unders,
-            firsts,
-            starts,
-            total,
-            q,
-            levels,
-            slots,
-            ids,
-            kids,
-            place,
-        );
+    if under.opens {
+        return add_all(added, given, decisions, under.q, levels, plan, place);
     }
     Step::Went(place)
 }
 
-// Whether a record goes: a member of the root list or of a struct, and dropped.
-fn goes(recs: &[u8], slot: usize, opens: bool, dropped: Dropped) -> bool
-    requires { ⌜ (slot * 24 + 24 ≤ length (now recs)) × Good dropped ⌝ }
-    ensures { λ r. ⌜ r ≡ (opens && among (turned (rec-at (now (recs .entry)) slot .id)) (dropped-ids dropped)) ⌝ }
+// Whether a record goes: a member of the root list or of a struct, and one of the first `drops` ids of `dropped`.
+fn goes(records: &[u8], slot: usize, opens: bool, dropped: &[u32; 64], drops: usize) -> bool
+    requires { ⌜ (slot * 24 + 24 ≤ length (now records)) × Good (set-of (now dropped) drops) ⌝ }
+    ensures { λ r. ⌜ r ≡ (opens && among (turned (rec-at (now (records .entry)) slot .id))
+        (dropped-ids (set-of (now (dropped .entry)) drops))) ⌝ }
 {
     if opens {
-        return dropped.contains(FieldId(id_bits_at(recs, slot)));
+        return holds(dropped, drops, FieldId(id_bits_at(records, slot)));
     }
     false
 }
 
-// A record that stays, and its inside rebuilt.
-pub fn rebuild_field(
-    recs: &[u8],
-    n: usize,
+// A record that stays, and its inside rebuilt. Its place in the plan is filled once its members are counted.
+pub fn rebuild_field<'a>(
+    trees: &Trees<'a>,
+    given: Given,
     slot: usize,
     levels: usize,
-    dropped: Dropped,
-    adds: &[u8],
-    m: usize,
-    unders: &[u64; 64],
-    firsts: &[u16; 64],
-    starts: &[u32; 64],
-    total: usize,
-    slots: &mut [u16; 1024],
-    ids: &mut [u32; 1024],
-    kids: &mut [u16; 1024],
+    dropped: &[u32; 64],
+    drops: usize,
+    decisions: &Decisions,
+    plan: &mut PlanRows,
     place: Place,
 ) -> Step
-    requires { ⌜ Inside (now recs) n levels slot × Good dropped × Resolved (now adds) m (now unders) (now firsts) total × (place .at ≤ 1024) × (place .count ≤ place .at) ⌝ }
-    ensures { λ r. ⌜ OnePlanned (now (recs .entry)) (dropped-ids dropped) (additions (now (adds .entry)) m (now (unders .entry)) (now (firsts .entry)) (now (starts .entry)) total) n levels slot (now (slots .entry)) (now (ids .entry)) (now (kids .entry)) (place .at) (place .count) r (now (slots .exit)) (now (ids .exit)) (now (kids .exit)) ⌝ }
+    requires { ⌜ Inside (trees-in (now trees) .records) (given .base) levels slot
+        × Good (set-of (now dropped) drops)
+        × ResolvedIn (trees-in (now trees) .added-records) given (now decisions)
+        × (place .at ≤ 1024) × (place .count ≤ place .at) × (length (now plan) ≡ 3) ⌝ }
+    ensures { λ r. ⌜ OnePlanned (trees-in (now (trees .entry)) .records)
+        (dropped-ids (set-of (now (dropped .entry)) drops))
+        (additions-in (trees-in (now (trees .entry)) .added-records) given
+        (now (decisions .entry))) (given .base) levels slot (now (plan .entry)) (place .at)
+        (place .count) r (now (plan .exit)) ⌝ }
 {
     let at = place.at;
-    let count = place.count;
     if 1024 <= at {
         return Step::Full;
     }
-    let head = head_at(recs, slot);
-    slots[at] = slot as u16;
-    ids[at] = head.id;
+    let head = head_at(trees[RECORDS], slot);
+    if is_leaf(head) {
+        put_planned(plan, at, slot as u32, head.id, 0);
+        return Step::Went(Place {
+            next: slot + 1,
+            at: at + 1,
+            count: place.count + 1,
+        });
+    }
+    let inside = Siblings {
+        slot: slot + 1,
+        count: head.members,
+        levels: levels - 1,
+    };
     let step = rebuild_fields(
-        recs,
-        n,
-        slot + 1,
-        head.members,
-        levels - 1,
-        head.opens,
+        trees,
+        given,
+        inside,
         head.under,
         dropped,
-        adds,
-        m,
-        unders,
-        firsts,
-        starts,
-        total,
-        slots,
-        ids,
-        kids,
+        drops,
+        decisions,
+        plan,
         at + 1,
     );
     let Step::Went(w) = step else {
         return Step::Full;
     };
-    kids[at] = w.count as u16;
+    put_planned(plan, at, slot as u32, head.id, w.count);
     Step::Went(Place {
         next: w.next,
         at: w.at,
-        count: count + 1,
+        count: place.count + 1,
     })
 }
 
-// Siblings of the base, rebuilt: `count` trees from `slot` on, whose additions go under q.
-pub fn rebuild_fields(
-    recs: &[u8],
-    n: usize,
-    slot: usize,
-    count: u32,
-    levels: usize,
-    opens: bool,
-    q: u64,
-    dropped: Dropped,
-    adds: &[u8],
-    m: usize,
-    unders: &[u64; 64],
-    firsts: &[u16; 64],
-    starts: &[u32; 64],
-    total: usize,
-    slots: &mut [u16; 1024],
-    ids: &mut [u32; 1024],
-    kids: &mut [u16; 1024],
+// Siblings of the base, rebuilt.
+pub fn rebuild_fields<'a>(
+    trees: &Trees<'a>,
+    given: Given,
+    row: Siblings,
+    under: Under,
+    dropped: &[u32; 64],
+    drops: usize,
+    decisions: &Decisions,
+    plan: &mut PlanRows,
     at: usize,
 ) -> Step
-    requires { ⌜ Readable (now recs) n levels count slot × (q ≤ 4294967296) × Good dropped × Resolved (now adds) m (now unders) (now firsts) total × (at ≤ 1024) ⌝ }
-    ensures { λ r. ⌜ RowPlanned (now (recs .entry)) (dropped-ids dropped) (additions (now (adds .entry)) m (now (unders .entry)) (now (firsts .entry)) (now (starts .entry)) total) n levels count slot (parent q) opens (now (slots .entry)) (now (ids .entry)) (now (kids .entry)) at r (now (slots .exit)) (now (ids .exit)) (now (kids .exit)) ⌝ }
+    requires { ⌜ Readable (trees-in (now trees) .records) (given .base) (row .levels) (row .count)
+        (row .slot) × (under .q ≤ 4294967296) × Good (set-of (now dropped) drops)
+        × ResolvedIn (trees-in (now trees) .added-records) given (now decisions) × (at ≤ 1024)
+        × (length (now plan) ≡ 3) ⌝ }
+    ensures { λ r. ⌜ RowPlanned (trees-in (now (trees .entry)) .records)
+        (dropped-ids (set-of (now (dropped .entry)) drops))
+        (additions-in (trees-in (now (trees .entry)) .added-records) given
+        (now (decisions .entry))) (given .base) (row .levels) (row .count) (row .slot)
+        (parent (under .q)) (under .opens) (now (plan .entry)) at r (now (plan .exit)) ⌝ }
 {
-    let mut left = count;
+    let records = trees[RECORDS];
+    let levels = row.levels;
+    let mut left = row.count;
     let mut here = Place {
-        next: slot,
+        next: row.slot,
         at,
         count: 0,
     };
     while 0 < left {
         let k = here.next;
-        if goes(recs, k, opens, dropped) {
-            here.next = tree_end(recs, n, k, levels - 1, 0);
+        if goes(records, k, under.opens, dropped, drops) {
+            here.next = tree_end(records, given.base, k, levels - 1, 0);
             left -= 1;
             continue;
         }
         let step = rebuild_field(
-            recs,
-            n,
+            trees,
+            given,
             k,
             levels,
             dropped,
-            adds,
-            m,
-            unders,
-            firsts,
-            starts,
-            total,
-            slots,
-            ids,
-            kids,
+            drops,
+            decisions,
+            plan,
             here,
         );
         let Step::Went(w) = step else {
@@ -337,60 +363,41 @@ pub fn rebuild_fields(
         here = w;
         left -= 1;
     }
-    close(
-        opens,
-        adds,
-        m,
-        unders,
-        firsts,
-        starts,
-        total,
-        q,
-        levels,
-        slots,
-        ids,
-        kids,
-        here,
-    )
+    let added = trees[ADDED_RECORDS];
+    close(under, added, given, decisions, levels, plan, here)
 }
 
 // The whole base, rebuilt; `roots` is the number of its roots.
-pub fn rebuild(
-    recs: &[u8],
-    n: usize,
+pub fn rebuild<'a>(
+    trees: &Trees<'a>,
+    given: Given,
     roots: u32,
     dropped: Dropped,
-    adds: &[u8],
-    m: usize,
-    unders: &[u64; 64],
-    firsts: &[u16; 64],
-    starts: &[u32; 64],
-    total: usize,
-    slots: &mut [u16; 1024],
-    ids: &mut [u32; 1024],
-    kids: &mut [u16; 1024],
+    decisions: &Decisions,
+    plan: &mut PlanRows,
 ) -> Step
-    requires { ⌜ Based (now recs) n roots × Good dropped × Resolved (now adds) m (now unders) (now firsts) total ⌝ }
-    ensures { λ r. ⌜ Rebuilds (rebuilt-base (now (recs .entry)) n (dropped-ids dropped) (additions (now (adds .entry)) m (now (unders .entry)) (now (firsts .entry)) (now (starts .entry)) total)) n (now (slots .entry)) (now (ids .entry)) (now (kids .entry)) r (now (slots .exit)) (now (ids .exit)) (now (kids .exit)) ⌝ }
+    requires { ⌜ Based (trees-in (now trees) .records) (given .base) roots × Good dropped
+        × ResolvedIn (trees-in (now trees) .added-records) given (now decisions)
+        × (length (now plan) ≡ 3) ⌝ }
+    ensures { λ r. ⌜ Rebuilds (rebuilt-base (trees-in (now (trees .entry)) .records) (given .base)
+        (dropped-ids dropped) (additions-in (trees-in (now (trees .entry)) .added-records) given
+        (now (decisions .entry)))) (given .base) (now (plan .entry)) r (now (plan .exit)) ⌝ }
 {
+    let all = Siblings {
+        slot: 0,
+        count: roots,
+        levels: 16,
+    };
+    let under = Under { opens: true, q: 0 };
     rebuild_fields(
-        recs,
-        n,
-        0,
-        roots,
-        16,
-        true,
-        0,
-        dropped,
-        adds,
-        m,
-        unders,
-        firsts,
-        starts,
-        total,
-        slots,
-        ids,
-        kids,
+        trees,
+        given,
+        all,
+        under,
+        &dropped.ids,
+        dropped.n,
+        decisions,
+        plan,
         0,
     )
 }

@@ -1,6 +1,6 @@
 -- The front of the paper's `update-entry`: from the lengths of the lent buffers to the last entry.
 use Prim.Native.Nat.{ℕ}
-use mathlib.Core.List.{List}
+use mathlib.Core.Path.{_≡_}
 use Rattle.paper.specs.Answer.{Answer, ok, refused, _>>=_, _>>_}
 use Rattle.paper.specs.Refusals.{roomy, limited}
 use Rattle.paper.specs.Forest.{Forest, siblings}
@@ -10,41 +10,51 @@ use Rattle.paper.specs.Decode.{decode}
 use Rattle.paper.specs.Limits.{room, sized-update}
 use Rattle.record.specs.declared.Check.{Check}
 use Rattle.record.specs.Says.{refusal-of, checked}
+use Rattle.record.specs.Trees.{Trees, Lists, stored-in, lent-in}
 use Rattle.update_request.specs.declared.Opened.{Opened}
 use Rattle.update_request.specs.declared.Opened.the-variants as it
 
--- The two trees.
-pub record Trees : Type 0 where
+-- The two trees that were read.
+pub record Forests : Type 0 where
   pub base : Forest Field
   pub added : Forest Field
 
-abbrev pub both-trees : Forest Field → Forest Field → Trees
-both-trees t n = record { base = t; added = n }
+abbrev pub both-trees : Forest Field → Forest Field → Forests
+both-trees base added = record { base = base; added = added }
 
-unfoldable pub trees : (records pool added request : List ℕ) → Answer Trees
-trees s p b r = do
-  t ← decode 0 s p
-  n ← decode 1 b r
-  ok (both-trees t n)
+unfoldable pub trees-read : Trees → Answer Forests
+trees-read l = do
+  base ← decode 0 (l .records) (l .pool)
+  added ← decode 1 (l .added-records) (l .request-pool)
+  ok (both-trees base added)
 
-unfoldable pub listed : (deletions additions request : List ℕ) → Check
-listed d a r = checked (entries-ok 2 ok-deletion d r >>= λ _. entries-ok 3 ok-addition a r)
+abbrev pub both-lists : Trees → Lists → Answer (Unit {0})
+both-lists l lists =
+    entries-ok 2 ok-deletion (lists .deletions) (l .request-pool)
+    >>= λ _. entries-ok 3 ok-addition (lists .additions) (l .request-pool)
 
-unfoldable pub readable : (records pool deletions additions added request : List ℕ) → Answer Trees
-readable s p d a b r = do
-  t ← decode 0 s p
-  n ← decode 1 b r
-  entries-ok 2 ok-deletion d r
-  entries-ok 3 ok-addition a r
-  ok (both-trees t n)
+unfoldable pub listed : Trees → Lists → Check
+listed l lists = checked (both-lists l lists)
 
-unfoldable pub opening : (records pool identifiers deletions additions added request : List ℕ) (room-records room-names : ℕ) → Answer Trees
-opening s p i d a b r lr ln = do
-  roomy (room lr ln)
-  limited (sized-update s p i d a b r)
-  readable s p d a b r
+unfoldable pub readable : Trees → Lists → Answer Forests
+readable l lists = do
+  base ← decode 0 (l .records) (l .pool)
+  added ← decode 1 (l .added-records) (l .request-pool)
+  entries-ok 2 ok-deletion (lists .deletions) (l .request-pool)
+  entries-ok 3 ok-addition (lists .additions) (l .request-pool)
+  ok (both-trees base added)
+
+unfoldable pub opening : Trees → Lists → (last room-records room-names : ℕ) → Answer Forests
+opening l lists last room-records room-names = do
+  roomy (room room-records room-names)
+  limited (sized-update (stored-in l last) (lent-in l lists room-records room-names))
+  readable l lists
 
 -- What the code says of it.
-unfoldable pub opened : Answer Trees → Opened
-opened (ok t) = it.Roots (siblings (t .base)) (siblings (t .added))
+unfoldable pub opened : Answer Forests → Opened
+opened (ok both) = it.Roots (siblings (both .base)) (siblings (both .added))
 opened (refused n l p) = it.Refused (refusal-of n l p)
+
+-- Whatever the last id is.
+pub record Opens (l : Trees) (lists : Lists) (room-records room-names : ℕ) (r : Opened) : Type 0 where
+  pub says : (last : ℕ) → r ≡ opened (opening l lists last room-records room-names)

@@ -1,8 +1,16 @@
 // All that an update is lent, tested before anything is decided: refusals 1 to 6.
+use record::ADDED_RECORDS;
+use record::ADDITIONS;
 use record::Check;
+use record::DELETIONS;
+use record::Lists;
+use record::POOL;
+use record::RECORDS;
+use record::REQUEST_POOL;
 use record::Refusal;
-use record_entries::check_additions;
-use record_entries::check_deletions;
+use record::Trees;
+use record_entries::PathList;
+use record_entries::check_entries;
 use record_limits::room;
 use record_limits::sized_update;
 use tree::Shaped;
@@ -10,7 +18,8 @@ use tree::check_tree;
 ghost use mathlib.Core.Path.{_≡_};
 ghost use Prim.Native.Nat.{_≤_};
 ghost use lib.ListN.{length};
-ghost use Rattle.update_request.specs.Opened.{opened, readable, listed, trees, opening};
+ghost use Rattle.record.specs.Trees.{trees-in, lists-in};
+ghost use Rattle.update_request.specs.Opened.{trees-read, listed, readable, opened, Opens};
 
 // How many roots the base has, and how many the additions tree.
 pub enum Opened {
@@ -19,23 +28,27 @@ pub enum Opened {
 }
 
 // Refusals 3 and 4 of the two lists of entries.
-fn check_lists(deletions: &[u8], additions: &[u8], request: &[u8]) -> Check
-    requires { ⌜ (length (now deletions) ≤ 512) × (length (now additions) ≤ 512) ⌝ }
-    ensures { λ r. ⌜ r ≡ listed (now (deletions .entry)) (now (additions .entry)) (now (request .entry)) ⌝ }
+fn check_lists<'a>(trees: &Trees<'a>, lists: &Lists<'a>) -> Check
+    requires { ⌜ (length (lists-in (now lists) .deletions) ≤ 512)
+        × (length (lists-in (now lists) .additions) ≤ 512) ⌝ }
+    ensures { λ r. ⌜ r ≡ listed (trees-in (now (trees .entry))) (lists-in (now (lists .entry))) ⌝ }
 {
-    if let Check::Refused(r) = check_deletions(deletions, request) {
+    let request_pool = trees[REQUEST_POOL];
+    let deletions = check_entries(lists[DELETIONS], request_pool, PathList::Deletions);
+    if let Check::Refused(r) = deletions {
         return Check::Refused(r);
     }
-    check_additions(additions, request)
+    check_entries(lists[ADDITIONS], request_pool, PathList::Additions)
 }
 
 // Refusals 3 to 6 of the base, then of the additions tree.
-fn check_trees(records: &[u8], pool: &[u8], added: &[u8], request: &[u8]) -> Opened
-    requires { ⌜ (length (now records) ≤ 24576) × (length (now added) ≤ 24576) ⌝ }
-    ensures { λ r. ⌜ r ≡ opened (trees (now (records .entry)) (now (pool .entry)) (now (added .entry)) (now (request .entry))) ⌝ }
+fn check_trees<'a>(trees: &Trees<'a>) -> Opened
+    requires { ⌜ (length (trees-in (now trees) .records) ≤ 24576)
+        × (length (trees-in (now trees) .added-records) ≤ 24576) ⌝ }
+    ensures { λ r. ⌜ r ≡ opened (trees-read (trees-in (now (trees .entry)))) ⌝ }
 {
-    match check_tree(records, pool, 0) {
-        Shaped::Roots(roots) => match check_tree(added, request, 1) {
+    match check_tree(trees[RECORDS], trees[POOL], 0) {
+        Shaped::Roots(roots) => match check_tree(trees[ADDED_RECORDS], trees[REQUEST_POOL], 1) {
             Shaped::Roots(columns) => Opened::Roots(roots, columns),
             Shaped::Refused(r) => Opened::Refused(r),
         },
@@ -44,19 +57,16 @@ fn check_trees(records: &[u8], pool: &[u8], added: &[u8], request: &[u8]) -> Ope
 }
 
 // Refusals 3 to 6 of both trees, 3 and 4 of both lists.
-fn check_contents(
-    records: &[u8],
-    pool: &[u8],
-    deletions: &[u8],
-    additions: &[u8],
-    added: &[u8],
-    request: &[u8],
-) -> Opened
-    requires { ⌜ (length (now records) ≤ 24576) × (length (now added) ≤ 24576) × (length (now deletions) ≤ 512) × (length (now additions) ≤ 512) ⌝ }
-    ensures { λ r. ⌜ r ≡ opened (readable (now (records .entry)) (now (pool .entry)) (now (deletions .entry)) (now (additions .entry)) (now (added .entry)) (now (request .entry))) ⌝ }
+fn check_contents<'a>(trees: &Trees<'a>, lists: &Lists<'a>) -> Opened
+    requires { ⌜ (length (trees-in (now trees) .records) ≤ 24576)
+        × (length (trees-in (now trees) .added-records) ≤ 24576)
+        × (length (lists-in (now lists) .deletions) ≤ 512)
+        × (length (lists-in (now lists) .additions) ≤ 512) ⌝ }
+    ensures { λ r. ⌜ r ≡ opened (readable (trees-in (now (trees .entry)))
+        (lists-in (now (lists .entry)))) ⌝ }
 {
-    match check_trees(records, pool, added, request) {
-        Opened::Roots(roots, columns) => match check_lists(deletions, additions, request) {
+    match check_trees(trees) {
+        Opened::Roots(roots, columns) => match check_lists(trees, lists) {
             Check::Fine => Opened::Roots(roots, columns),
             Check::Refused(r) => Opened::Refused(r),
         },
@@ -65,18 +75,14 @@ fn check_contents(
 }
 
 // Refusals 1 and 2 for everything, then the contents. The rooms are the lengths of the output buffers.
-pub fn check_request(
-    records: &[u8],
-    pool: &[u8],
-    identifiers: &[u8],
-    deletions: &[u8],
-    additions: &[u8],
-    added: &[u8],
-    request: &[u8],
+pub fn open_update<'a>(
+    trees: &Trees<'a>,
+    lists: &Lists<'a>,
     room_records: usize,
     room_names: usize,
 ) -> Opened
-    ensures { λ r. ⌜ r ≡ opened (opening (now (records .entry)) (now (pool .entry)) (now (identifiers .entry)) (now (deletions .entry)) (now (additions .entry)) (now (added .entry)) (now (request .entry)) «room_records» «room_names») ⌝ }
+    ensures { λ r. ⌜ Opens (trees-in (now (trees .entry))) (lists-in (now (lists .entry)))
+        «room_records» «room_names» r ⌝ }
 {
     if !room(room_records, room_names) {
         // refusal 1
@@ -86,15 +92,7 @@ pub fn check_request(
             place: 0,
         });
     }
-    if !sized_update(
-        records,
-        pool,
-        identifiers,
-        deletions,
-        additions,
-        added,
-        request,
-    ) {
+    if !sized_update(trees, lists) {
         // refusal 2
         return Opened::Refused(Refusal {
             number: 2,
@@ -102,5 +100,5 @@ pub fn check_request(
             place: 0,
         });
     }
-    check_contents(records, pool, deletions, additions, added, request)
+    check_contents(trees, lists)
 }

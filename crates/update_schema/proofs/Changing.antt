@@ -80,11 +80,11 @@ module _ (t : Forest Field) (ids request deletions : List ℕ) (d : ℕ) (added 
       differ : (i : ℕ) → decided.Refused x ≡ decided.Last i → ⊥
       differ i z = let y : _≡_ {A = ℕ} 0 1 = cc in omega arith
 
-  pub changes-go : (s : Dropped) (r : Decided) (us fs st : List ℕ) → c ≡ check.Fine → Gathered gone d s → PlacesAll t (dropped-ids s) request added additions total m last r us fs st → Decides t ids request deletions d added additions total m last r gone us fs st
+  pub changes-go : (s : Dropped) (r : Decided) (kept us fs st : List ℕ) → c ≡ check.Fine → Gathered gone d s → PlacesAll t (dropped-ids s) request added additions total m last r us fs st → kept ≡ gone → Decides t ids request deletions d added additions total m last r kept us fs st
   unfolding changes all-placed
-  changes-go s r us fs st q g p =
+  changes-go s r kept us fs st q g p k =
       let e = (rw q at dc) .by in
       record {
         by = subst (λ (z : Answer Placed). PlacesBy r z request added total m last us fs st) (all-same t (dropped-ids s) (gone-ids gone d) (g .holds) last 0 _ _ ∙ sym (bind-is _ _ (gone-ids gone d) e)) (p .by);
-        dropped = λ i z. e;
+        dropped = λ i z. rw k e;
       }

@@ -1,4 +1,4 @@
--- Additions one at a time: what is left of them, behind the places in the array, is the whole.
+-- Additions one at a time: what is left of them, behind the places in the row, is the whole.
 use Prim.Native.Nat.{ℕ, suc, _+_, _-_, _<_, _≤_}
 use mathlib.Core.Path.{_≡_, refl, sym, ap, ap₂, subst, _∙_}
 use mathlib.Core.Logic.{⊎-elim}
@@ -9,7 +9,7 @@ use native.Mathlib.Nat.{eq-or-lt-of-le}
 use native.Mathlib.Numerals.{add-one}
 use native.Mathlib.Omega.{arith}
 use lib.Dec.{eqb, ltb}
-use lib.ListN.{length, getD, set, length-set}
+use lib.ListN.{length, getD, set}
 use lib.Seq.{getD-set-same, getD-set-other}
 use Rattle.paper.specs.Answer.{Answer, ok, refused, _>>=_, among, fault-if}
 use Rattle.paper.specs.Forest.{Forest, empty, node, size, mapped}
@@ -18,7 +18,7 @@ use Rattle.paper.specs.Rebuild.{Addition, fresh, arrivals}
 use Rattle.paper.specs.Bytes.{turned, kids-at, field-at, in-pool, from}
 use Rattle.paper.specs.Decode.{fields}
 use Rattle.paper.specs.Layout.{Part, before, nothing, row}
-use Rattle.paper.specs.Lists.{parent-path, path-in}
+use Rattle.paper.specs.Lists.{parent-path}
 use Rattle.paper.specs.Update.{placed, Placed, placed-all}
 use Rattle.laws.proofs.Fitting.{lowest-none, size-mapped}
 use Rattle.laws.proofs.Runs.{from-step, from-done, from-append, from-same}
@@ -29,7 +29,8 @@ use Rattle.tree.proofs.Steps.{part-is, reads-is, part-in, part-full, no-past, r
 use Rattle.laws.proofs.Words.{turned-twice}
 use Rattle.laws.proofs.Natural.{mapped-all}
 use Rattle.laws.proofs.Basics.{bind-is, bind-not}
-use Rattle.plan.specs.Plan.{Source, lent, planned-field}
+use Rattle.record.specs.Trees.{lent-trees}
+use Rattle.plan.specs.Plan.{Source, planned-field}
 use Rattle.update_rebuild.specs.Sources.{parent, added-source, added-tree, addition-at}
 use Rattle.update_rebuild.specs.Sources as sources
 use Rattle.update_rebuild.proofs.Paper.{fresh-fields}
@@ -39,8 +40,9 @@ use Rattle.update_schema.specs.declared.Spotted.the-variants as spotted
 use Rattle.update_schema.specs.declared.Decided.the-variants as decided
 use Rattle.update_schema.specs.Base as given
 use Rattle.update_schema.specs.Additions.{column-size, one-placed, Settled, OneSpotted, Columns, parents-in, all-placed, PlacesAll}
+use Rattle.update_schema.proofs.Deleting.{entry-here}
 
--- ---- the array
+-- ---- the row
 
 parents-more : (us : List ℕ) (k v : ℕ) → k < length us → parents-in (set us k v) (k + 1) ≡ parents-in us k ++ (parent v ∷ [])
 unfolding parents-in from
@@ -112,28 +114,21 @@ pub record Placing (t : Forest Field) (ds request added additions : List ℕ) (t
   pub within : k ≤ total
   pub read : reads 1 (kids-at added) m 16 (total - k) slot ≡ true
   pub most : end < 4294967296
-  pub us-room : length us ≡ 64
-  pub fs-room : length fs ≡ 64
-  pub st-room : length st ≡ 64
   pub under : (j : ℕ) → j < k → getD us j 0 ≤ 4294967296
   pub first : (j : ℕ) → j < k → getD fs j 0 ≤ m
   pub tree : (j : ℕ) → j < k → reads 1 (kids-at added) m 16 1 (getD fs j 0) ≡ true
-  pub arrive : (pool base : List ℕ) (qs : List (Option ℕ)) → arrivals with-id last (parents-in us k ++ qs) (fields request added (part 1 (kids-at added) m 16 total 0 .trees)) ≡ mapped-all (planned-field (lent pool base request added)) (from (addition-at added m us fs st) 0 k) ++ arrivals with-id end qs (fields request added (part 1 (kids-at added) m 16 (total - k) slot .trees))
+  pub arrive : (pool base : List ℕ) (qs : List (Option ℕ)) → arrivals with-id last (parents-in us k ++ qs) (fields request added (part 1 (kids-at added) m 16 total 0 .trees)) ≡ mapped-all (planned-field (lent-trees base pool added request)) (from (addition-at added m us fs st) 0 k) ++ arrivals with-id end qs (fields request added (part 1 (kids-at added) m 16 (total - k) slot .trees))
   pub goes : (r : Placed) → rest t ds request added additions total m end k slot ≡ ok r → all-placed t ds request added additions total m last ≡ ok (record { parents = parents-in us k ++ r .parents; last = r .last })
   pub stops : (i j s : ℕ) → rest t ds request added additions total m end k slot ≡ refused i j s → all-placed t ds request added additions total m last ≡ refused i j s
 
-pub place-starts : (t : Forest Field) (ds request added additions : List ℕ) (total m last : ℕ) (us fs st : List ℕ) → Columns request added additions total m → last < 4294967296 → (length us ≡ 64) × (length fs ≡ 64) × (length st ≡ 64)
-    → Placing t ds request added additions total m last 0 0 last us fs st
+pub place-starts : (t : Forest Field) (ds request added additions : List ℕ) (total m last : ℕ) (us fs st : List ℕ) → Columns request added additions total m → last < 4294967296 → Placing t ds request added additions total m last 0 0 last us fs st
 unfolding parents-in from all-placed
-place-starts t ds request added additions total m last us fs st h b l =
+place-starts t ds request added additions total m last us fs st h b =
     let z : total - 0 ≡ total = omega arith in
     record {
       within = omega arith;
       read = rw z (h .read);
       most = b;
-      us-room = l .0;
-      fs-room = l .1;
-      st-room = l .2;
       under = λ j c. absurd (omega arith);
       first = λ j c. absurd (omega arith);
       tree = λ j c. absurd (omega arith);
@@ -143,8 +138,8 @@ place-starts t ds request added additions total m last us fs st h b l =
     }
 
 module _ (t : Forest Field) (ds request added additions : List ℕ) (total m last k slot end : ℕ) (us fs st : List ℕ) (H : Placing t ds request added additions total m last k slot end us fs st) where
-  arrive-none : (pool base : List ℕ) → mapped-all (planned-field (lent pool base request added)) (from (addition-at added m us fs st) 0 k) ++ arrivals with-id end [] (fields request added (part 1 (kids-at added) m 16 (total - k) slot .trees)) ≡ mapped-all (planned-field (lent pool base request added)) (from (addition-at added m us fs st) 0 k)
-  arrive-none pool base = ap (λ (z : List (Addition Field)). mapped-all (planned-field (lent pool base request added)) (from (addition-at added m us fs st) 0 k) ++ z) (arrivals-none end _) ∙ append-nil _
+  arrive-none : (pool base : List ℕ) → mapped-all (planned-field (lent-trees base pool added request)) (from (addition-at added m us fs st) 0 k) ++ arrivals with-id end [] (fields request added (part 1 (kids-at added) m 16 (total - k) slot .trees)) ≡ mapped-all (planned-field (lent-trees base pool added request)) (from (addition-at added m us fs st) 0 k)
+  arrive-none pool base = ap (λ (z : List (Addition Field)). mapped-all (planned-field (lent-trees base pool added request)) (from (addition-at added m us fs st) 0 k) ++ z) (arrivals-none end _) ∙ append-nil _
 
   pub place-ends : total ≤ k → PlacesAll t ds request added additions total m last (decided.Last end) us fs st
   unfolding sources.additions
@@ -154,9 +149,9 @@ module _ (t : Forest Field) (ds request added additions : List ℕ) (total m las
       let z = H .goes (record { parents = []; last = end }) (ap (λ (y : List (Option (List ℕ))). placed-all t ds end k y (fields request added (part 1 (kids-at added) m 16 (total - k) slot .trees))) (from-done (parent-path request additions) k total l) ∙ none-left t ds end k _) in
       record { by = record { is = z ∙ rw (append-nil (parents-in us k), e); most = H .most; under = rw e at (H .under); first = rw e at (H .first); tree = rw e at (H .tree); arrive = λ pool base. arrived pool base e l } }
     where
-      arrived : (pool base : List ℕ) → k ≡ total → total ≤ k → mapped-all (planned-field (lent pool base request added)) (sources.additions added m us fs st total) ≡ arrivals with-id last (parents-in us total) (fields request added (part 1 (kids-at added) m 16 total 0 .trees))
+      arrived : (pool base : List ℕ) → k ≡ total → total ≤ k → mapped-all (planned-field (lent-trees base pool added request)) (sources.additions added m us fs st total) ≡ arrivals with-id last (parents-in us total) (fields request added (part 1 (kids-at added) m 16 total 0 .trees))
       arrived pool base e l =
-          sym (subst (λ (i : ℕ). arrivals with-id last (parents-in us i) (fields request added (part 1 (kids-at added) m 16 total 0 .trees)) ≡ mapped-all (planned-field (lent pool base request added)) (from (addition-at added m us fs st) 0 i)) e (ap (λ (z : List (Option ℕ)). arrivals with-id last z (fields request added (part 1 (kids-at added) m 16 total 0 .trees))) (sym (append-nil (parents-in us k))) ∙ H .arrive pool base [] ∙ arrive-none pool base))
+          sym (subst (λ (i : ℕ). arrivals with-id last (parents-in us i) (fields request added (part 1 (kids-at added) m 16 total 0 .trees)) ≡ mapped-all (planned-field (lent-trees base pool added request)) (from (addition-at added m us fs st) 0 i)) e (ap (λ (z : List (Option ℕ)). arrivals with-id last z (fields request added (part 1 (kids-at added) m 16 total 0 .trees))) (sym (append-nil (parents-in us k))) ∙ H .arrive pool base [] ∙ arrive-none pool base))
 
   module _ (l : k < total) where
     pub column-here : Columns request added additions total m → Standing 1 added m 15 slot
@@ -169,10 +164,9 @@ module _ (t : Forest Field) (ds request added additions : List ℕ) (total m las
         let c = column-here h in
         let th = c .there in
         let wh = c .whole in
-        let e = h .entries in
-        let ef = e .few in
-        let ew = e .whole in
-        record { few = omega arith; entry = omega arith; pathed = lowest-none (path-in (length request) additions) 0 total (e .pathed) k (omega arith) (omega arith); column = omega arith; named = lowest-none (in-pool (length request) added) 0 m (h .named) slot (omega arith) (omega arith) }
+        let ef = h .entries .few in
+        let e = entry-here request additions total k (h .entries) l in
+        record { few = omega arith; entry = e .0; pathed = e .1; column = omega arith; named = lowest-none (in-pool (length request) added) 0 m (h .named) slot (omega arith) (omega arith) }
 
     abbrev inner : Part
     inner = part 1 (kids-at added) m 15 (kids-at added slot) (slot + 1)
@@ -222,38 +216,29 @@ module _ (t : Forest Field) (ds request added additions : List ℕ) (total m las
       onward : (u : Answer Placed) → rest t ds request added additions total m (s .last) (k + 1) (s .next) ≡ u → rest t ds request added additions total m end k slot ≡ (u >>= λ r. ok (joined (parent (s .under)) r))
       onward u e =
           here ∙ bind-is _ _ (parent (s .under)) (d .goes)
-          ∙ ap (λ (z : Answer Placed). z >>= λ r. ok (joined (parent (s .under)) r)) (again ∙ e)
-        where
-          again : placed-all t ds (suc (end + size (fields request added (inner .trees)))) (suc k) (from (parent-path request additions) (k + 1) (total - (k + 1))) (fields request added (part 1 (kids-at added) m 16 (total - k - 1) (inner .next) .trees)) ≡ rest t ds request added additions total m (s .last) (k + 1) (s .next)
-          again = rw (end-is, next-is, left-is, add-one k)
+          ∙ ap (λ (z : Answer Placed). z >>= λ r. ok (joined (parent (s .under)) r)) (rw (end-is, next-is, left-is, ← (add-one k)) e)
 
       spot-joined : (r : Placed) → k < length us → _≡_ {A = Placed} (record { parents = parents-in us k ++ (parent (s .under) ∷ r .parents); last = r .last }) (record { parents = parents-in (set us k (s .under)) (k + 1) ++ r .parents; last = r .last })
       spot-joined r b = ap (λ (z : List (Option ℕ)). record { parents = z; last = r .last }) (sym (ap (λ (z : List (Option ℕ)). z ++ r .parents) (parents-more us k (s .under) b) ∙ append-assoc (parents-in us k) (parent (s .under) ∷ []) (r .parents)))
 
       -- the column, with its ids
-      column-tree : (pool base : List ℕ) → mapped (planned-field (lent pool base request added)) (added-tree added m slot (s .start)) ≡ fresh with-id (suc end) (node (field-at request added slot) (fields request added (inner .trees)) empty)
+      column-tree : (pool base : List ℕ) → mapped (planned-field (lent-trees base pool added request)) (added-tree added m slot (s .start)) ≡ fresh with-id (suc end) (node (field-at request added slot) (fields request added (inner .trees)) empty)
       unfolding added-tree column-size
       column-tree pool base =
           let th = column-here h .there in
-          let g = planned-field (lent pool base request added) in
+          let g = planned-field (lent-trees base pool added request) in
           let e = d .end in
           let b = d .most in
           let id : turned (s .start) ≡ suc end = ap turned (d .start) ∙ turned-twice (suc end) (omega arith) in
           let one : part 1 (kids-at added) m 16 1 slot .trees ≡ node slot (inner .trees) empty = ap (λ (p : Part). p .trees) (part-is 1 (kids-at added) m 16 1 slot (before slot inner (nothing (inner .next))) (row-alone th)) in
-          ap₂ (λ (i : ℕ) (z : Forest ℕ). mapped g (fresh added-source i z)) id one ∙ fresh-fields (lent pool base request added) (suc end) (node slot (inner .trees) empty) (sized (omega arith)) ∙ tree-is
-        where
-          sized : end + suc (size (inner .trees)) < 4294967296 → suc end + size (node slot (inner .trees) empty) ≤ 4294967296
-          sized h = size-node h
-
-          tree-is : fresh with-id (suc end) (fields request added (node slot (inner .trees) empty)) ≡ fresh with-id (suc end) (node (field-at request added slot) (fields request added (inner .trees)) empty)
-          tree-is = ap (fresh with-id (suc end)) (fields-node slot (inner .trees))
+          ap₂ (λ (i : ℕ) (z : Forest ℕ). mapped g (fresh added-source i z)) id one ∙ fresh-fields (lent-trees base pool added request) (suc end) (node slot (inner .trees) empty) (size-node (omega arith)) ∙ ap (fresh with-id (suc end)) (fields-node slot (inner .trees))
 
       arrive-on : (pool base : List ℕ) (qs : List (Option ℕ)) → k < length us → k < length fs → k < length st
           → arrivals with-id last (parents-in (set us k (s .under)) (k + 1) ++ qs) (fields request added (part 1 (kids-at added) m 16 total 0 .trees))
-          ≡ mapped-all (planned-field (lent pool base request added)) (from (addition-at added m (set us k (s .under)) (set fs k slot) (set st k (s .start))) 0 (k + 1)) ++ arrivals with-id (s .last) qs (fields request added (part 1 (kids-at added) m 16 (total - (k + 1)) (s .next) .trees))
+          ≡ mapped-all (planned-field (lent-trees base pool added request)) (from (addition-at added m (set us k (s .under)) (set fs k slot) (set st k (s .start))) 0 (k + 1)) ++ arrivals with-id (s .last) qs (fields request added (part 1 (kids-at added) m 16 (total - (k + 1)) (s .next) .trees))
       unfolding fields mapped
       arrive-on pool base qs lu lf ls =
-          let g = planned-field (lent pool base request added) in
+          let g = planned-field (lent-trees base pool added request) in
           let q = parent (s .under) in
           let old = mapped-all g (from (addition-at added m us fs st) 0 k) in
           ap (λ (z : List (Option ℕ)). arrivals with-id last z (fields request added (part 1 (kids-at added) m 16 total 0 .trees))) (ap (λ (z : List (Option ℕ)). z ++ qs) (parents-more us k (s .under) lu) ∙ append-assoc (parents-in us k) (q ∷ []) qs)
@@ -263,29 +248,24 @@ module _ (t : Forest Field) (ds request added additions : List ℕ) (total m las
           ∙ sym (append-assoc old (record { parent = q; tree = mapped g (added-tree added m slot (s .start)) } ∷ []) (arrivals with-id (s .last) qs (fields request added (part 1 (kids-at added) m 16 (total - (k + 1)) (s .next) .trees))))
           ∙ ap (λ (z : List (Addition Field)). z ++ arrivals with-id (s .last) qs (fields request added (part 1 (kids-at added) m 16 (total - (k + 1)) (s .next) .trees))) (sym (ap (mapped-all g) (adds-more added m us fs st k (s .under) slot (s .start) lu lf ls) ∙ all-append g (from (addition-at added m us fs st) 0 k) (record { parent = q; tree = added-tree added m slot (s .start) } ∷ [])))
 
-      settled-goes : Placing t ds request added additions total m last (k + 1) (s .next) (s .last) (set us k (s .under)) (set fs k slot) (set st k (s .start))
-      settled-goes =
-          let ru = H .us-room in
-          let rf = H .fs-room in
+      settled-goes : (length us ≡ 64) × (length fs ≡ 64) × (length st ≡ 64) → Placing t ds request added additions total m last (k + 1) (s .next) (s .last) (set us k (s .under)) (set fs k slot) (set st k (s .start))
+      settled-goes w =
+          let ru = w .0 in
+          let rf = w .1 in
+          let rs = w .2 in
           let few = h .entries .few in
           let th = column-here h .there in
           record {
             within = omega arith;
             read = rw (← left-is) (reads-rest 1 (kids-at added) m 16 (total - k) slot (H .read) (kids-at added slot) (λ z. omega arith) refl (s .next) (sym next-is));
             most = d .most;
-            us-room = length-set us k (s .under) ∙ ru;
-            fs-room = length-set fs k slot ∙ rf;
-            st-room = length-set st k (s .start) ∙ H .st-room;
             under = stored (λ v. v ≤ 4294967296) us k (s .under) (omega arith) (H .under) (d .under);
             first = stored (λ v. v ≤ m) fs k slot (omega arith) (H .first) (omega arith);
             tree = stored (λ v. reads 1 (kids-at added) m 16 1 v ≡ true) fs k slot (omega arith) (H .tree) (alone th);
-            arrive = λ pool base qs. arrive-on pool base qs (omega arith) (omega arith) (let rs = H .st-room in omega arith);
+            arrive = λ pool base qs. arrive-on pool base qs (omega arith) (omega arith) (omega arith);
             goes = λ r e. H .goes (joined (parent (s .under)) r) (onward (ok r) e ∙ bind-is (ok r) _ r refl) ∙ ap ok (spot-joined r (omega arith));
             stops = λ i j v e. H .stops i j v (onward (refused i j v) e ∙ bind-not (refused i j v) _ i j v refl);
           }
 
-    pub place-goes : (r : Spotted) (s : Spot) → Columns request added additions total m → OneSpotted t ds request added additions m end k slot r → r ≡ spotted.At s → Placing t ds request added additions total m last (k + 1) (s .next) (s .last) (set us k (s .under)) (set fs k slot) (set st k (s .start))
-    place-goes r s h d q = settled-goes h s ((rw q at d) .by)
-
-    pub slot-small : Columns request added additions total m → slot < 1024
-    slot-small h = let c = column-here h in let th = c .there in let sm = c .small in omega arith
+    pub place-goes : (r : Spotted) (s : Spot) (a : ℕ) → (length us ≡ 64) × (length fs ≡ 64) × (length st ≡ 64) → Columns request added additions total m → OneSpotted t ds request added additions m end k slot r → r ≡ spotted.At s → a ≡ s .start → Placing t ds request added additions total m last (k + 1) (s .next) (s .last) (set us k (s .under)) (set fs k slot) (set st k a)
+    place-goes r s a w h d q e = rw e (settled-goes h s ((rw q at d) .by) w)

@@ -1,5 +1,5 @@
--- Deletions one at a time: what is left of them, behind the ids that stand in the array, is the whole.
-use Prim.Native.Nat.{ℕ, suc, _+_, _-_, _<_, _≤_}
+-- Deletions one at a time: what is left of them, behind the ids that stand in the row, is the whole.
+use Prim.Native.Nat.{ℕ, suc, _+_, _-_, _*_, _%_, _<_, _≤_}
 use mathlib.Core.Path.{_≡_, refl, sym, ap, ap₂, _∙_}
 use mathlib.Core.Bool.{Bool, true, false, _||_, or-assoc, or-comm, or-false}
 use mathlib.Core.List.{List, [], _∷_, _++_, append-nil, append-assoc}
@@ -7,15 +7,16 @@ use mathlib.Core.Option.{Option, none, some}
 use native.Mathlib.Omega.{arith}
 use native.Mathlib.Numerals.{add-one}
 use lib.Dec.{eqb}
-use lib.ListN.{length, getD, set, length-set}
+use lib.ListN.{length, getD, set}
 use lib.Seq.{getD-set-same, getD-set-other}
 use Rattle.paper.specs.Answer.{Answer, ok, refused, _>>=_, among, fault-if, demand}
 use Rattle.paper.specs.Forest.{Forest}
 use Rattle.paper.specs.Field.{Field}
 use Rattle.paper.specs.Rows.{Row, look-name}
 use Rattle.paper.specs.Bytes.{turned, from}
-use Rattle.paper.specs.Lists.{path-of}
+use Rattle.paper.specs.Lists.{path-of, path-in}
 use Rattle.paper.specs.Update.{deleted}
+use Rattle.laws.proofs.Fitting.{lowest-none}
 use Rattle.laws.proofs.Words.{turned-twice}
 use Rattle.laws.proofs.Runs.{from-step, from-done, from-all, from-append, from-same}
 use Rattle.laws.proofs.Basics.{bind-is, bind-not}
@@ -29,6 +30,7 @@ use Rattle.update_dropped.specs.Set.{dropped-ids, Good, Inserted}
 use Rattle.update_decide.specs.declared.Dropping.{Dropping}
 use Rattle.update_decide.specs.declared.Dropping.the-variants as dropping
 use Rattle.update_decide.specs.Entry.{Known, dropped-id, drops, Deleted}
+use Rattle.update_schema.specs.Base.{Entries}
 use Rattle.update_schema.specs.Deletions.{gone-ids, Gathered, DropsAll}
 
 -- ---- chains and answers
@@ -46,7 +48,7 @@ gone-id : (x : FieldId) (i : ℕ) → dropping.Gone x ≡ drops (ok i) → x .0 
 unfolding drops
 gone-id x i e = let z : x ≡ record { 0 = turned i } = cc in rw z
 
--- ---- the array
+-- ---- the row
 
 gone-more : (gone : List ℕ) (k v : ℕ) → k < length gone → gone-ids (set gone k v) (k + 1) ≡ gone-ids gone k ++ (turned v ∷ [])
 unfolding gone-ids from
@@ -76,17 +78,22 @@ gone-next : (gone : List ℕ) (i : ℕ) → gone-ids gone (i + 1) ≡ gone-ids g
 unfolding gone-ids from
 gone-next gone i = let z : 0 + i ≡ i = omega arith in rw z at (from-append (λ j. turned (getD gone j 0)) 0 i 1)
 
+-- the low 32 bits say which id it is
+low-turned : (x y : ℕ) → y ≡ x % 4294967296 → turned y ≡ turned x
+unfolding turned
+low-turned x y e = omega arith
+
 module _ (gone : List ℕ) (total i : ℕ) (s : Dropped) (H : Gathering gone total i s) where
   pub gather-room : i < total → total ≤ 64 → Good s × (s .n < 64)
   gather-room l m = let f = H .few in (H .good, omega arith)
 
-  pub gather-goes : (s′ : Dropped) → i < total → Inserted (getD gone i 0) s s′ → Gathering gone total (i + 1) s′
-  gather-goes s′ l h =
+  pub gather-goes : (s′ : Dropped) (y : ℕ) → i < total → y ≡ getD gone i 0 % 4294967296 → Inserted y s s′ → Gathering gone total (i + 1) s′
+  gather-goes s′ y l e h =
       record {
         within = omega arith;
         good = h .good;
         few = omega (arith, h .few, H .few);
-        holds = λ x. h .holds x ∙ ap (λ (b : Bool). eqb x (turned (getD gone i 0)) || b) (H .holds x) ∙ or-comm (eqb x (turned (getD gone i 0))) (among x (gone-ids gone i))
+        holds = λ x. h .holds x ∙ ap₂ (λ (z : ℕ) (b : Bool). eqb x z || b) (low-turned (getD gone i 0) y e) (H .holds x) ∙ or-comm (eqb x (turned (getD gone i 0))) (among x (gone-ids gone i))
             ∙ ap (λ (b : Bool). among x (gone-ids gone i) || b) (sym (or-false (eqb x (turned (getD gone i 0))))) ∙ sym (ap (λ (z : List ℕ). among x z) (gone-next gone i) ∙ among-append x (gone-ids gone i) (turned (getD gone i 0) ∷ []));
       }
 
@@ -111,12 +118,6 @@ deleted-step t ids k p ps = go (look-name t p)
     go (some r) = tested (among (r .field .id) ids) (r .field .id) (deleted t ids (suc k) ps)
 
 -- what the answer of one deletion says of the paper's
-one-refused : (o : Option Row) (ids : List ℕ) (k : ℕ) (f : Refusal) → dropping.Refused f ≡ drops (dropped-id o ids k) → dropped-id o ids k ≡ refused (f .number) (f .list) (f .place)
-one-refused o ids k f e = go (dropped-id o ids k) e
-  where
-    go : (x : Answer ℕ) → dropping.Refused f ≡ drops x → x ≡ refused (f .number) (f .list) (f .place)
-    go x q = of-refused x f q
-
 one-gone : (P : Type 0) (o : Option Row) (ids : List ℕ) (k : ℕ) (x : FieldId) → Known o → dropping.Gone x ≡ drops (dropped-id o ids k) → ((i : ℕ) → dropped-id o ids k ≡ ok i → turned (x .0) ≡ i → P) → P
 unfolding dropped-id _>>=_ Known
 one-gone P none ids k x h e f = absurd (gone-refused x _ _ _ e)
@@ -128,20 +129,22 @@ one-gone P (some r) ids k x h e f = go (among (r .field .id) ids) refl e f
 
 -- ---- the loop
 
+pub entry-here : (request entries : List ℕ) (total k : ℕ) → Entries request entries total → k < total → (k * 8 + 8 ≤ length entries) × (path-in (length request) entries k ≡ true)
+entry-here request entries total k h l = let w = h .whole in (omega arith, lowest-none (path-in (length request) entries) 0 total (h .pathed) k (omega arith) (omega arith))
+
 abbrev rest : (t : Forest Field) (ids request deletions : List ℕ) (total k : ℕ) → Answer (List ℕ)
 rest t ids request deletions total k = deleted t ids k (from (path-of request deletions) k (total - k))
 
 pub record Deleting (t : Forest Field) (ids request deletions : List ℕ) (total k : ℕ) (gone : List ℕ) : Type 0 where
   pub within : k ≤ total
-  pub room : length gone ≡ 64
   pub goes : (ds : List ℕ) → rest t ids request deletions total k ≡ ok ds → deleted t ids 0 (from (path-of request deletions) 0 total) ≡ ok (gone-ids gone k ++ ds)
   pub stops : (n l p : ℕ) → rest t ids request deletions total k ≡ refused n l p → deleted t ids 0 (from (path-of request deletions) 0 total) ≡ refused n l p
 
-pub delete-starts : (t : Forest Field) (ids request deletions : List ℕ) (total : ℕ) (gone : List ℕ) → length gone ≡ 64 → Deleting t ids request deletions total 0 gone
+pub delete-starts : (t : Forest Field) (ids request deletions : List ℕ) (total : ℕ) (gone : List ℕ) → Deleting t ids request deletions total 0 gone
 unfolding gone-ids from
-delete-starts t ids request deletions total gone l =
+delete-starts t ids request deletions total gone =
     let e = from-all (path-of request deletions) total in
-    record { within = omega arith; room = l; goes = λ ds h. sym (ap (λ (z : List (List ℕ)). deleted t ids 0 z) e) ∙ h; stops = λ n l p h. sym (ap (λ (z : List (List ℕ)). deleted t ids 0 z) e) ∙ h }
+    record { within = omega arith; goes = λ ds h. sym (ap (λ (z : List (List ℕ)). deleted t ids 0 z) e) ∙ h; stops = λ n l p h. sym (ap (λ (z : List (List ℕ)). deleted t ids 0 z) e) ∙ h }
 
 none-left : (t : Forest Field) (ids : List ℕ) (k : ℕ) → deleted t ids k [] ≡ ok []
 unfolding deleted
@@ -161,21 +164,19 @@ module _ (t : Forest Field) (ids request deletions : List ℕ) (total k : ℕ) (
 
     pub delete-stops : (x : Refusal) (new : List ℕ) → r ≡ dropping.Refused x → DropsAll t ids request deletions total (check.Refused x) new
     delete-stops x new q =
-        let e = one-refused (look-name t p) ids k x (sym q ∙ d .says (look-name t p) h ef) in
+        let e = of-refused (dropped-id (look-name t p) ids k) x (sym q ∙ d .says (look-name t p) h ef) in
         record { by = H .stops (x .number) (x .list) (x .place) (here ∙ bind-not (dropped-id (look-name t p) ids k) _ (x .number) (x .list) (x .place) e) }
 
-    pub delete-goes : (x : FieldId) → r ≡ dropping.Gone x → total ≤ 64 → Deleting t ids request deletions total (k + 1) (set gone k (x .0))
-    delete-goes x q m =
+    pub delete-goes : (x : FieldId) (v : ℕ) → r ≡ dropping.Gone x → v ≡ x .0 → k < length gone → Deleting t ids request deletions total (k + 1) (set gone k v)
+    delete-goes x v q ev b =
         one-gone _ (look-name t p) ids k x h (sym q ∙ d .says (look-name t p) h ef) λ i ei ex.
-        let w = H .room in
         let step : (u : Answer (List ℕ)) → rest t ids request deletions total (k + 1) ≡ u → rest t ids request deletions total k ≡ (u >>= λ ds. ok (i ∷ ds))
         = λ u e. here ∙ bind-is (dropped-id (look-name t p) ids k) _ i ei ∙ ap (λ (z : Answer (List ℕ)). z >>= λ ds. ok (i ∷ ds)) e in
         record {
           within = omega arith;
-          room = length-set gone k (x .0) ∙ w;
-          goes = λ ds e. H .goes (i ∷ ds) (step (ok ds) e ∙ bind-is (ok ds) _ ds refl) ∙ ap ok (joined i ds ex (omega arith));
+          goes = λ ds e. H .goes (i ∷ ds) (step (ok ds) e ∙ bind-is (ok ds) _ ds refl) ∙ ap ok (joined i ds (ap turned ev ∙ ex));
           stops = λ n j s e. H .stops n j s (step (refused n j s) e ∙ bind-not (refused n j s) _ n j s refl);
         }
       where
-        joined : (i : ℕ) (ds : List ℕ) → turned (x .0) ≡ i → k < length gone → gone-ids gone k ++ (i ∷ ds) ≡ gone-ids (set gone k (x .0)) (k + 1) ++ ds
-        joined i ds e b = sym (ap (λ (z : List ℕ). z ++ ds) (gone-more gone k (x .0) b) ∙ append-assoc (gone-ids gone k) (turned (x .0) ∷ []) ds ∙ rw e)
+        joined : (i : ℕ) (ds : List ℕ) → turned v ≡ i → gone-ids gone k ++ (i ∷ ds) ≡ gone-ids (set gone k v) (k + 1) ++ ds
+        joined i ds e = sym (ap (λ (z : List ℕ). z ++ ds) (gone-more gone k v b) ∙ append-assoc (gone-ids gone k) (turned v ∷ []) ds ∙ rw e)

@@ -23,7 +23,8 @@ use Rattle.record.specs.declared.Check.{Check}
 use Rattle.record.specs.declared.Check.the-variants as check
 use Rattle.record.specs.Says.{refusal-of, checked}
 use Rattle.record.proofs.Testing.{checked-refused, checked-ok}
-use Rattle.plan.specs.Plan.{Lent, plan-fields}
+use Rattle.record.specs.Trees.{Trees}
+use Rattle.plan.specs.Plan.{plan-fields}
 use Rattle.update_rebuild.specs.Sources.{parent}
 use Rattle.update_parents.specs.Target.{receiving, receiver-at, members-at}
 use Rattle.update_decide.specs.declared.Going.{Going}
@@ -54,7 +55,7 @@ under-not (ok none) f e = cc
 under-not (ok (some i)) f e = cc
 under-not (refused n l p) f e = let z : f ≡ refusal-of n l p = cc in rw z
 
-module _ (l : Lent) (xs is ks : List ℕ) (n : ℕ) (b : Based l xs is ks n) (ds : List ℕ) (k : ℕ) (x : List ℕ) where
+module _ (l : Trees) (xs is ks : List ℕ) (n : ℕ) (b : Based l xs is ks n) (ds : List ℕ) (k : ℕ) (x : List ℕ) where
   small-place : (p : Option (List ℕ)) → Small (placed (plan-fields l xs is ks n) ds k x p)
   unfolding placed _>>=_ Small
   small-place none = go (root-taken (look-name (plan-fields l xs is ks n) x) ds)
@@ -68,15 +69,15 @@ module _ (l : Lent) (xs is ks : List ℕ) (n : ℕ) (b : Based l xs is ks n) (ds
       joined true i h = tt
       joined false i h = h
 
-      met : (o : Option ℕ) (r : Row) → receiver (r .field) (r .inside) (r .field .kind) ≡ receiver-at (l .pool) (l .base) n o
+      met : (o : Option ℕ) (r : Row) → receiver (r .field) (r .inside) (r .field .kind) ≡ receiver-at (l .pool) (l .records) n o
           → Small (demand 16 3 k (receiver (r .field) (r .inside) (r .field .kind)) >>= λ s. fault-if 17 3 k (not (among (s .id) ds) && member-taken (s .members) x ds) >>= λ _. ok (some (s .id)))
       met none r e = rw e tt
-      met (some j) r e = rw e (joined (not (among (turned (rec-at (l .base) j .id)) ds) && member-taken (members-at (l .pool) (l .base) n j) x ds) (turned (rec-at (l .base) j .id)) (turned-below (rec-at (l .base) j .id)))
+      met (some j) r e = rw e (joined (not (among (turned (rec-at (l .records) j .id)) ds) && member-taken (members-at (l .pool) (l .records) n j) x ds) (turned (rec-at (l .records) j .id)) (turned-below (rec-at (l .records) j .id)))
 
       go : (o : Option Row) → look-name (plan-fields l xs is ks n) p ≡ o
           → Small (demand 15 3 k o >>= λ r. demand 16 3 k (receiver (r .field) (r .inside) (r .field .kind)) >>= λ s. fault-if 17 3 k (not (among (s .id) ds) && member-taken (s .members) x ds) >>= λ _. ok (some (s .id)))
       go none e = tt
-      go (some r) e = met (receiving (l .base) n (r .slot)) r (row-stands l xs is ks n b p r e)
+      go (some r) e = met (receiving (l .records) n (r .slot)) r (row-stands l xs is ks n b p r e)
 
 -- ---- the steps
 
@@ -91,37 +92,37 @@ one-first t ds request added last k slot p m = go (fault-if 13 3 k (among 46 (na
     go (ok tt) = refl
     go (refused i j s) = refl
 
-module _ (l : Lent) (xs is ks : List ℕ) (n : ℕ) (b : Based l xs is ks n) (ds additions : List ℕ) (m last k slot : ℕ) (w : Check) (ew : w ≡ checked (unbarred (l .request) (l .added) slot k)) where
+module _ (l : Trees) (xs is ks : List ℕ) (n : ℕ) (b : Based l xs is ks n) (ds additions : List ℕ) (m last k slot : ℕ) (w : Check) (ew : w ≡ checked (unbarred (l .request-pool) (l .added-records) slot k)) where
   abbrev inner : Forest Field
-  inner = fields (l .request) (l .added) (part 1 (kids-at (l .added)) m 15 (kids-at (l .added) slot) (slot + 1) .trees)
+  inner = fields (l .request-pool) (l .added-records) (part 1 (kids-at (l .added-records)) m 15 (kids-at (l .added-records) slot) (slot + 1) .trees)
 
-  pub spot-barred : (f : Refusal) → w ≡ check.Refused f → OneSpotted (plan-fields l xs is ks n) ds (l .request) (l .added) additions m last k slot (spotted.Refused f)
+  pub spot-barred : (f : Refusal) → w ≡ check.Refused f → OneSpotted (plan-fields l xs is ks n) ds (l .request-pool) (l .added-records) additions m last k slot (spotted.Refused f)
   unfolding _>>=_
-  spot-barred f q = record { by = one-first (plan-fields l xs is ks n) ds (l .request) (l .added) last k slot (parent-path (l .request) additions k) inner ∙ rw (checked-refused (unbarred (l .request) (l .added) slot k) w f ew q) }
+  spot-barred f q = record { by = one-first (plan-fields l xs is ks n) ds (l .request-pool) (l .added-records) last k slot (parent-path (l .request-pool) additions k) inner ∙ rw (checked-refused (unbarred (l .request-pool) (l .added-records) slot k) w f ew q) }
 
-  module _ (ef : w ≡ check.Fine) (g : Going) (eg : g ≡ goes (placed (plan-fields l xs is ks n) ds k (name-of (l .request) (l .added) slot) (parent-path (l .request) additions k))) where
-    pub spot-nowhere : (f : Refusal) → g ≡ going.Refused f → OneSpotted (plan-fields l xs is ks n) ds (l .request) (l .added) additions m last k slot (spotted.Refused f)
+  module _ (ef : w ≡ check.Fine) (g : Going) (eg : g ≡ goes (placed (plan-fields l xs is ks n) ds k (name-of (l .request-pool) (l .added-records) slot) (parent-path (l .request-pool) additions k))) where
+    pub spot-nowhere : (f : Refusal) → g ≡ going.Refused f → OneSpotted (plan-fields l xs is ks n) ds (l .request-pool) (l .added-records) additions m last k slot (spotted.Refused f)
     unfolding _>>=_
     spot-nowhere f q =
         record {
-          by = one-first (plan-fields l xs is ks n) ds (l .request) (l .added) last k slot (parent-path (l .request) additions k) inner
-              ∙ rw (checked-ok (unbarred (l .request) (l .added) slot k) w ew ef, under-not (placed (plan-fields l xs is ks n) ds k (name-of (l .request) (l .added) slot) (parent-path (l .request) additions k)) f (sym q ∙ eg));
+          by = one-first (plan-fields l xs is ks n) ds (l .request-pool) (l .added-records) last k slot (parent-path (l .request-pool) additions k) inner
+              ∙ rw (checked-ok (unbarred (l .request-pool) (l .added-records) slot k) w ew ef, under-not (placed (plan-fields l xs is ks n) ds k (name-of (l .request-pool) (l .added-records) slot) (parent-path (l .request-pool) additions k)) f (sym q ∙ eg));
         }
 
     module _ (u : ℕ) (q : g ≡ going.Under u) where
-      where-to : (placed (plan-fields l xs is ks n) ds k (name-of (l .request) (l .added) slot) (parent-path (l .request) additions k) ≡ ok (parent u)) × (u ≤ 4294967296)
-      where-to = under-is _ u (small-place l xs is ks n b ds k (name-of (l .request) (l .added) slot) (parent-path (l .request) additions k)) (sym q ∙ eg)
+      where-to : (placed (plan-fields l xs is ks n) ds k (name-of (l .request-pool) (l .added-records) slot) (parent-path (l .request-pool) additions k) ≡ ok (parent u)) × (u ≤ 4294967296)
+      where-to = under-is _ u (small-place l xs is ks n b ds k (name-of (l .request-pool) (l .added-records) slot) (parent-path (l .request-pool) additions k)) (sym q ∙ eg)
 
-      size-is : suc (last + size inner) ≡ last + column-size (l .added) m slot
+      size-is : suc (last + size inner) ≡ last + column-size (l .added-records) m slot
       unfolding column-size fields
-      size-is = let e = size-mapped (field-at (l .request) (l .added)) (part 1 (kids-at (l .added)) m 15 (kids-at (l .added) slot) (slot + 1) .trees) in omega arith
+      size-is = let e = size-mapped (field-at (l .request-pool) (l .added-records)) (part 1 (kids-at (l .added-records)) m 15 (kids-at (l .added-records) slot) (slot + 1) .trees) in omega arith
 
-      pub spot-goes : (r : Spotted) → r ≡ numbered u last k slot (column-size (l .added) m slot) → OneSpotted (plan-fields l xs is ks n) ds (l .request) (l .added) additions m last k slot r
+      pub spot-goes : (r : Spotted) → r ≡ numbered u last k slot (column-size (l .added-records) m slot) → OneSpotted (plan-fields l xs is ks n) ds (l .request-pool) (l .added-records) additions m last k slot r
       unfolding numbered _>>=_
-      spot-goes r er = rw er (go (ltb highest (last + column-size (l .added) m slot)) refl (one-first (plan-fields l xs is ks n) ds (l .request) (l .added) last k slot (parent-path (l .request) additions k) inner ∙ rw (checked-ok (unbarred (l .request) (l .added) slot k) w ew ef, where-to .0, size-is)))
+      spot-goes r er = rw er (go (ltb highest (last + column-size (l .added-records) m slot)) refl (one-first (plan-fields l xs is ks n) ds (l .request-pool) (l .added-records) last k slot (parent-path (l .request-pool) additions k) inner ∙ rw (checked-ok (unbarred (l .request-pool) (l .added-records) slot k) w ew ef, where-to .0, size-is)))
         where
-          go : (c : Bool) → ltb highest (last + column-size (l .added) m slot) ≡ c
-              → one-placed (plan-fields l xs is ks n) ds last k (parent-path (l .request) additions k) (field-at (l .request) (l .added) slot) inner ≡ (fault-if 18 3 k c >>= λ _. ok (parent u))
-              → OneSpotted (plan-fields l xs is ks n) ds (l .request) (l .added) additions m last k slot (cond c (spotted.Refused (refusal-of 18 3 k)) (spotted.At (record { under = u; start = turned (suc last); last = last + column-size (l .added) m slot; next = slot + column-size (l .added) m slot })))
+          go : (c : Bool) → ltb highest (last + column-size (l .added-records) m slot) ≡ c
+              → one-placed (plan-fields l xs is ks n) ds last k (parent-path (l .request-pool) additions k) (field-at (l .request-pool) (l .added-records) slot) inner ≡ (fault-if 18 3 k c >>= λ _. ok (parent u))
+              → OneSpotted (plan-fields l xs is ks n) ds (l .request-pool) (l .added-records) additions m last k slot (cond c (spotted.Refused (refusal-of 18 3 k)) (spotted.At (record { under = u; start = turned (suc last); last = last + column-size (l .added-records) m slot; next = slot + column-size (l .added-records) m slot })))
           go true ec e = record { by = e }
-          go false ec e = record { by = record { goes = e; under = where-to .1; start = refl; end = refl; most = let z = ltb-false highest (last + column-size (l .added) m slot) ec in omega arith; next = refl } }
+          go false ec e = record { by = record { goes = e; under = where-to .1; start = refl; end = refl; most = let z = ltb-false highest (last + column-size (l .added-records) m slot) ec in omega arith; next = refl } }

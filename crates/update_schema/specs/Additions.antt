@@ -18,8 +18,14 @@ use Rattle.record.specs.Says.{refusal-of}
 use Rattle.tree.specs.Read.{part, reads}
 use Rattle.paper.specs.Rebuild.{arrivals}
 use Rattle.laws.proofs.Natural.{mapped-all}
-use Rattle.plan.specs.Plan.{lent, planned-field}
+use Rattle.record.specs.Trees.{Trees, lent-trees}
+use Rattle.plan.specs.Plan.{planned-field}
+use Rattle.plan.specs.Table.{fields-in}
+use Rattle.update_dropped.specs.declared.Dropped.{Dropped}
+use Rattle.update_dropped.specs.Set.{dropped-ids}
+use Rattle.update_rebuild.specs.declared.Given.{Given}
 use Rattle.update_rebuild.specs.Sources.{parent, additions}
+use Rattle.update_rebuild.specs.Planned.{gone-in, unders-in, firsts-in, starts-in}
 use Rattle.update_schema.specs.declared.Decided.{Decided}
 use Rattle.update_schema.specs.declared.Decided.the-variants as decided
 use Rattle.update_schema.specs.Base.{Entries}
@@ -38,10 +44,10 @@ numbered under last k slot records =
 
 -- One step of the paper's `placed-all`: 13, 14, 15 to 17, 18.
 unfoldable pub one-placed : Forest Field → List ℕ → (last k : ℕ) → Option (List ℕ) → Field → Forest Field → Answer (Option ℕ)
-one-placed t ds last k p f m = do
+one-placed t dropped last k p f m = do
   dotless k (among 46 (f .name))
   fillable k (eqb (f .flags) 1)
-  q ← placed t ds k (f .name) p
+  q ← placed t dropped k (f .name) p
   ids-left 3 k (ltb highest (suc (last + size m)))
   ok q
 
@@ -58,8 +64,8 @@ abbrev pub SpottedBy : Spotted → (a : Answer (Option ℕ)) (last slot records 
 SpottedBy (spotted.At s) a last slot records = Settled a last slot records s
 SpottedBy (spotted.Refused r) a last slot records = a ≡ refused (r .number) (r .list) (r .place)
 
-pub record OneSpotted (t : Forest Field) (ds request added additions : List ℕ) (m last k slot : ℕ) (r : Spotted) : Type 0 where
-  pub by : SpottedBy r (one-placed t ds last k (parent-path request additions k) (field-at request added slot) (fields request added (part 1 (kids-at added) m 15 (kids-at added slot) (slot + 1) .trees))) last slot (column-size added m slot)
+pub record OneSpotted (t : Forest Field) (dropped request added additions : List ℕ) (m last k slot : ℕ) (r : Spotted) : Type 0 where
+  pub by : SpottedBy r (one-placed t dropped last k (parent-path request additions k) (field-at request added slot) (fields request added (part 1 (kids-at added) m 15 (kids-at added slot) (slot + 1) .trees))) last slot (column-size added m slot)
 
 -- ---- all additions
 
@@ -71,26 +77,35 @@ pub record Columns (request added additions : List ℕ) (total m : ℕ) : Type 0
   pub read : reads 1 (kids-at added) m 16 total 0 ≡ true
   pub named : lowest (in-pool (length request) added) 0 m ≡ none
 
--- The places in the first array, as the paper has them.
+-- The places in the first row, as the paper has them.
 unfoldable pub parents-in : List ℕ → ℕ → List (Option ℕ)
-parents-in us total = from (λ j. parent (getD us j 0)) 0 total
+parents-in unders total = from (λ j. parent (getD unders j 0)) 0 total
 
 -- What the paper says of all additions.
-unfoldable pub all-placed : Forest Field → (ds request added additions : List ℕ) (total m last : ℕ) → Answer Placed
-all-placed t ds request added additions total m last = placed-all t ds last 0 (from (parent-path request additions) 0 total) (fields request added (part 1 (kids-at added) m 16 total 0 .trees))
+unfoldable pub all-placed : Forest Field → (dropped request added additions : List ℕ) (total m last : ℕ) → Answer Placed
+all-placed t dropped request added additions total m last = placed-all t dropped last 0 (from (parent-path request additions) 0 total) (fields request added (part 1 (kids-at added) m 16 total 0 .trees))
 
--- The places in the array and the last id consumed are the paper's, each addition's tree was read, and the three arrays are the paper's arrivals.
-pub record Placings (a : Answer Placed) (request added : List ℕ) (total m given last : ℕ) (us fs st : List ℕ) : Type 0 where
-  pub is : a ≡ ok (record { parents = parents-in us total; last = last })
+-- The places in the row and the last id consumed are the paper's, each addition's tree was read, and the three rows are the paper's arrivals.
+pub record Placings (a : Answer Placed) (request added : List ℕ) (total m given last : ℕ) (unders firsts starts : List ℕ) : Type 0 where
+  pub is : a ≡ ok (record { parents = parents-in unders total; last = last })
   pub most : last < 4294967296
-  pub under : (j : ℕ) → j < total → getD us j 0 ≤ 4294967296
-  pub first : (j : ℕ) → j < total → getD fs j 0 ≤ m
-  pub tree : (j : ℕ) → j < total → reads 1 (kids-at added) m 16 1 (getD fs j 0) ≡ true
-  pub arrive : (pool base : List ℕ) → mapped-all (planned-field (lent pool base request added)) (additions added m us fs st total) ≡ arrivals with-id given (parents-in us total) (fields request added (part 1 (kids-at added) m 16 total 0 .trees))
+  pub under : (j : ℕ) → j < total → getD unders j 0 ≤ 4294967296
+  pub first : (j : ℕ) → j < total → getD firsts j 0 ≤ m
+  pub tree : (j : ℕ) → j < total → reads 1 (kids-at added) m 16 1 (getD firsts j 0) ≡ true
+  pub arrive : (pool base : List ℕ) → mapped-all (planned-field (lent-trees base pool added request)) (additions added m unders firsts starts total) ≡ arrivals with-id given (parents-in unders total) (fields request added (part 1 (kids-at added) m 16 total 0 .trees))
 
-abbrev pub PlacesBy : Decided → Answer Placed → (request added : List ℕ) (total m given : ℕ) (us fs st : List ℕ) → Type 0
-PlacesBy (decided.Last e) a request added total m given us fs st = Placings a request added total m given e us fs st
-PlacesBy (decided.Refused r) a request added total m given us fs st = a ≡ refused (r .number) (r .list) (r .place)
+abbrev pub PlacesBy : Decided → Answer Placed → (request added : List ℕ) (total m given : ℕ) (unders firsts starts : List ℕ) → Type 0
+PlacesBy (decided.Last e) a request added total m given unders firsts starts = Placings a request added total m given e unders firsts starts
+PlacesBy (decided.Refused r) a request added total m given unders firsts starts = a ≡ refused (r .number) (r .list) (r .place)
 
-pub record PlacesAll (t : Forest Field) (ds request added additions : List ℕ) (total m last : ℕ) (r : Decided) (us fs st : List ℕ) : Type 0 where
-  pub by : PlacesBy r (all-placed t ds request added additions total m last) request added total m last us fs st
+pub record PlacesAll (t : Forest Field) (dropped request added additions : List ℕ) (total m last : ℕ) (r : Decided) (unders firsts starts : List ℕ) : Type 0 where
+  pub by : PlacesBy r (all-placed t dropped request added additions total m last) request added total m last unders firsts starts
+
+-- The same of the tables; the row of the dropped ids is as it was.
+abbrev pub ColumnsIn : Trees → (additions : List ℕ) → Given → Type 0
+ColumnsIn l additions given = Columns (l .request-pool) (l .added-records) additions (given .additions) (given .added)
+
+pub record PlacesIn (l : Trees) (additions : List ℕ) (given : Given) (plan : List (List ℕ)) (dropped : Dropped) (r : Decided) (old new : List (List ℕ)) : Type 0 where
+  pub places : PlacesAll (fields-in l plan (given .base)) (dropped-ids dropped) (l .request-pool) (l .added-records) additions
+      (given .additions) (given .added) (given .last) r (unders-in new) (firsts-in new) (starts-in new)
+  pub gone : gone-in new ≡ gone-in old

@@ -10,17 +10,20 @@ use Rattle.paper.specs.Bytes.{kids-at, ok-bytes, in-pool}
 use Rattle.paper.specs.Decode.{fields}
 use Rattle.paper.specs.Layout.{Part, roots}
 use Rattle.paper.specs.Lists.{path-in}
-use Rattle.plan.specs.Plan.{Lent, plan-fields, Plan}
+use Rattle.record.specs.Trees.{Trees}
+use Rattle.plan.specs.Plan.{plan-fields, Plan}
+use Rattle.plan.specs.Table.{sources, numbers, members}
+use Rattle.update_rebuild.specs.Planned.{gone-in, unders-in, firsts-in, starts-in}
 
 -- The n records of the base, with their trees, are the plan.
-pub record Based (l : Lent) (xs is ks : List ℕ) (n : ℕ) : Type 0 where
+pub record Based (l : Trees) (xs is ks : List ℕ) (n : ℕ) : Type 0 where
   pub plan : Plan l xs is ks n
   pub trees : Part
-  pub read : roots 0 (kids-at (l .base)) n n 0 ≡ ok trees
-  pub tree : plan-fields l xs is ks n ≡ fields (l .pool) (l .base) (trees .trees)
-  pub whole : n * 24 ≤ length (l .base)
-  pub bytes : lowest (ok-bytes (l .base)) 0 n ≡ none
-  pub named : lowest (in-pool (length (l .pool)) (l .base)) 0 n ≡ none
+  pub read : roots 0 (kids-at (l .records)) n n 0 ≡ ok trees
+  pub tree : plan-fields l xs is ks n ≡ fields (l .pool) (l .records) (trees .trees)
+  pub whole : n * 24 ≤ length (l .records)
+  pub bytes : lowest (ok-bytes (l .records)) 0 n ≡ none
+  pub named : lowest (in-pool (length (l .pool)) (l .records)) 0 n ≡ none
 
 -- So many entries, whose paths are in the request pool.
 pub record Entries (request entries : List ℕ) (total : ℕ) : Type 0 where
@@ -35,3 +38,18 @@ pub record Addition (request added additions : List ℕ) (k slot : ℕ) : Type 0
   pub pathed : path-in (length request) additions k ≡ true
   pub column : slot * 24 + 24 ≤ length added
   pub named : in-pool (length request) added slot ≡ true
+
+-- The same of the tables.
+abbrev pub BasedIn : Trees → (plan : List (List ℕ)) (n : ℕ) → Type 0
+BasedIn l plan n = Based l (sources plan) (numbers plan) (members plan) n
+
+abbrev pub AdditionIn : Trees → (additions : List ℕ) (k slot : ℕ) → Type 0
+AdditionIn l additions k slot = Addition (l .request-pool) (l .added-records) additions k slot
+
+-- Four rows of 64 numbers.
+pub record DecisionsRoom (decisions : List (List ℕ)) : Type 0 where
+  pub rows : length decisions ≡ 4
+  pub gone-room : length (gone-in decisions) ≡ 64
+  pub unders-room : length (unders-in decisions) ≡ 64
+  pub firsts-room : length (firsts-in decisions) ≡ 64
+  pub starts-room : length (starts-in decisions) ≡ 64

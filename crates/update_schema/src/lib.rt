@@ -1,8 +1,21 @@
 // update_schema.rs: deletions and additions decided one at a time, the rebuilt tree, its tests, and the answer.
 use index::look_name;
+use index_ids::IndexRows;
+use plan::PlanRows;
+use record::ADDED_RECORDS;
+use record::ADDITIONS;
 use record::Check;
+use record::DELETIONS;
 use record::FieldId;
+use record::IDENTIFIERS;
+use record::Lists;
+use record::POOL;
+use record::RECORDS;
+use record::REQUEST_POOL;
 use record::Refusal;
+use record::Trees;
+use record::long;
+use record::low_32;
 use record::name_at;
 use record_entries::has_path;
 use record_entries::path_at;
@@ -16,21 +29,34 @@ use update_decide::drop_one;
 use update_decide::place_at_root;
 use update_decide::place_under;
 use update_dropped::Dropped;
+use update_rebuild::Decisions;
+use update_rebuild::FIRSTS;
+use update_rebuild::GONE;
+use update_rebuild::Given;
+use update_rebuild::STARTS;
+use update_rebuild::UNDERS;
 ghost use mathlib.Core.Path.{_≡_};
-ghost use Prim.Native.Nat.{_+_, _≤_, _<_};
-ghost use lib.ListN.{length};
+ghost use Prim.Native.Nat.{_≤_, _<_};
 ghost use Rattle.paper.specs.Bytes.{name-of};
-ghost use Rattle.paper.specs.Lists.{id-list, parent-path};
+ghost use Rattle.paper.specs.Lists.{parent-path};
 ghost use Rattle.paper.specs.Update.{placed};
 ghost use Rattle.tree.specs.Read.{Standing};
 ghost use Rattle.update_dropped.specs.Set.{dropped-ids, Good};
 ghost use Rattle.update_decide.specs.Entry.{goes};
-ghost use Rattle.plan.specs.Plan.{lent, plan-fields};
+ghost use Rattle.record.specs.Trees.{trees-in, lists-in};
+ghost use Rattle.plan.specs.Table.{fields-in};
 ghost use Rattle.index.specs.Index.{Index};
-ghost use Rattle.update_schema.specs.Base.{Based, Entries, Addition};
-ghost use Rattle.update_schema.specs.Additions.{column-size, numbered, OneSpotted, Columns, PlacesAll};
-ghost use Rattle.update_schema.specs.Changes.{Decides};
-ghost use Rattle.update_schema.specs.Deletions.{Gathered, DropsAll};
+ghost use Rattle.update_rebuild.specs.Planned.{gone-in};
+ghost use Rattle.update_schema.specs.Base.{BasedIn, AdditionIn, DecisionsRoom};
+ghost use Rattle.update_schema.specs.Additions.{
+  column-size,
+  numbered,
+  OneSpotted,
+  ColumnsIn,
+  PlacesIn,
+};
+ghost use Rattle.update_schema.specs.Changes.{Asked, DecidesIn};
+ghost use Rattle.update_schema.specs.Deletions.{Gathered, DropsIn};
 
 // An addition that is accepted: where it goes, the bits of its first id, the last id consumed, and the slot behind its column.
 pub struct Spot {
@@ -53,14 +79,14 @@ pub enum Decided {
 }
 
 // The dropped ids as a set.
-pub fn gather(gone: &[u32; 64], total: usize) -> Dropped
+pub fn gather(decisions: &Decisions, total: usize) -> Dropped
     requires { ⌜ total ≤ 64 ⌝ }
-    ensures { λ r. ⌜ Gathered (now (gone .entry)) total r ⌝ }
+    ensures { λ r. ⌜ Gathered (gone-in (now (decisions .entry))) total r ⌝ }
 {
     let mut i = 0;
     let mut dropped = Dropped::empty();
     while i < total {
-        let id = gone[i];
+        let id = low_32(decisions[GONE][i]);
         dropped = dropped.insert(FieldId(id));
         i += 1;
     }
@@ -69,55 +95,26 @@ pub fn gather(gone: &[u32; 64], total: usize) -> Dropped
 
 // The deletions, one at a time: refusal 11 or 12, or the ids that they drop.
 fn drop_columns<'a>(
-    pool: &'a [u8],
-    base: &[u8],
-    request: &'a [u8],
-    added: &[u8],
-    slots: &[u16; 1024],
-    ids: &[u32; 1024],
-    kids: &[u16; 1024],
-    n: usize,
-    id_heads: &[u16; 1024],
-    id_next: &[u16; 1024],
-    ups: &[u16; 1024],
-    lens: &[u16; 1024],
-    hashes: &[u32; 1024],
-    name_heads: &[u16; 1024],
-    name_next: &[u16; 1024],
-    identifiers: &[u8],
-    deletions: &[u8],
-    total: usize,
-    gone: &mut [u32; 64],
+    trees: &Trees<'a>,
+    lists: &Lists<'a>,
+    given: Given,
+    plan: &PlanRows,
+    index: &IndexRows,
+    decisions: &mut Decisions,
 ) -> Check
-    requires { ⌜ Based (lent (now pool) (now base) (now request) (now added)) (now slots) (now ids) (now kids) n
-        × Index (lent (now pool) (now base) (now request) (now added)) (now slots) (now ids) (now kids) n (now «id_heads») (now «id_next») (now ups) (now lens) (now hashes) (now «name_heads») (now «name_next»)
-        × (length (now identifiers) ≤ 256) × Entries (now request) (now deletions) total × (length (now gone) ≡ 64) ⌝ }
-    ensures { λ r. ⌜ DropsAll (plan-fields (lent (now (pool .entry)) (now (base .entry)) (now (request .entry)) (now (added .entry))) (now (slots .entry)) (now (ids .entry)) (now (kids .entry)) n) (id-list (now (identifiers .entry))) (now (request .entry)) (now (deletions .entry)) total r (now (gone .exit)) ⌝ }
+    requires { ⌜ Asked (trees-in (now trees)) (lists-in (now lists)) given (now plan) (now index)
+        × DecisionsRoom (now decisions) ⌝ }
+    ensures { λ r. ⌜ DropsIn (trees-in (now (trees .entry))) (lists-in (now (lists .entry))) given
+        (now (plan .entry)) r (now (decisions .exit)) ⌝ }
 {
+    let deletions = lists[DELETIONS];
     let mut k = 0;
-    while k < total {
-        let path = path_at(request, deletions, k);
-        let found = look_name(
-            pool,
-            base,
-            request,
-            added,
-            slots,
-            ids,
-            kids,
-            n,
-            id_heads,
-            id_next,
-            ups,
-            lens,
-            hashes,
-            name_heads,
-            name_next,
-            path,
-        );
-        match drop_one(found, identifiers, k as u32) {
+    while k < given.deletions {
+        let path = path_at(trees[REQUEST_POOL], deletions, k);
+        let found = look_name(trees, plan, given.base, index, path);
+        match drop_one(found, lists[IDENTIFIERS], k as u32) {
             Dropping::Gone(id) => {
-                gone[k] = id.0;
+                decisions[GONE][k] = long(id.0);
             }
             Dropping::Refused(r) => {
                 return Check::Refused(r);
@@ -130,79 +127,47 @@ fn drop_columns<'a>(
 
 // Where the addition k goes, whose column is at a slot of the additions tree: refusals 15 to 17.
 fn find_place<'a>(
-    pool: &'a [u8],
-    base: &[u8],
-    request: &'a [u8],
-    added: &[u8],
-    slots: &[u16; 1024],
-    ids: &[u32; 1024],
-    kids: &[u16; 1024],
-    n: usize,
-    id_heads: &[u16; 1024],
-    id_next: &[u16; 1024],
-    ups: &[u16; 1024],
-    lens: &[u16; 1024],
-    hashes: &[u32; 1024],
-    name_heads: &[u16; 1024],
-    name_next: &[u16; 1024],
+    trees: &Trees<'a>,
     additions: &[u8],
+    n: usize,
+    plan: &PlanRows,
+    index: &IndexRows,
     k: usize,
     slot: usize,
     dropped: Dropped,
 ) -> Going
-    requires { ⌜ Based (lent (now pool) (now base) (now request) (now added)) (now slots) (now ids) (now kids) n
-        × Index (lent (now pool) (now base) (now request) (now added)) (now slots) (now ids) (now kids) n (now «id_heads») (now «id_next») (now ups) (now lens) (now hashes) (now «name_heads») (now «name_next»)
-        × Addition (now request) (now added) (now additions) k slot × Good dropped ⌝ }
-    ensures { λ r. ⌜ r ≡ goes (placed (plan-fields (lent (now (pool .entry)) (now (base .entry)) (now (request .entry)) (now (added .entry))) (now (slots .entry)) (now (ids .entry)) (now (kids .entry)) n) (dropped-ids dropped) k (name-of (now (request .entry)) (now (added .entry)) slot) (parent-path (now (request .entry)) (now (additions .entry)) k)) ⌝ }
+    requires { ⌜ BasedIn (trees-in (now trees)) (now plan) n
+        × Index (trees-in (now trees)) (now plan) n (now index)
+        × AdditionIn (trees-in (now trees)) (now additions) k slot × Good dropped ⌝ }
+    ensures { λ r. ⌜ r ≡ goes (placed (fields-in (trees-in (now (trees .entry)))
+        (now (plan .entry)) n) (dropped-ids dropped) k
+        (name-of (trees-in (now (trees .entry)) .request-pool)
+        (trees-in (now (trees .entry)) .added-records) slot)
+        (parent-path (trees-in (now (trees .entry)) .request-pool) (now (additions .entry)) k)) ⌝ }
 {
-    let name = name_at(request, added, slot);
+    let name = name_at(trees[REQUEST_POOL], trees[ADDED_RECORDS], slot);
     if has_path(additions, k) {
-        let path = path_at(request, additions, k);
-        let parent = look_name(
-            pool,
-            base,
-            request,
-            added,
-            slots,
-            ids,
-            kids,
+        let path = path_at(trees[REQUEST_POOL], additions, k);
+        let parent = look_name(trees, plan, n, index, path);
+        return place_under(
+            parent,
+            trees[RECORDS],
+            trees[POOL],
             n,
-            id_heads,
-            id_next,
-            ups,
-            lens,
-            hashes,
-            name_heads,
-            name_next,
-            path,
+            name,
+            k as u32,
+            dropped,
         );
-        return place_under(parent, base, pool, n, name, k as u32, dropped);
     }
-    let taken = look_name(
-        pool,
-        base,
-        request,
-        added,
-        slots,
-        ids,
-        kids,
-        n,
-        id_heads,
-        id_next,
-        ups,
-        lens,
-        hashes,
-        name_heads,
-        name_next,
-        name,
-    );
+    let taken = look_name(trees, plan, n, index, name);
     place_at_root(taken, k as u32, dropped)
 }
 
 // The ids of an addition that has its place: refusal 18.
 fn number(added: &[u8], m: usize, slot: usize, under: u64, place: u32, last: u64) -> Spotted
     requires { ⌜ Standing 1 (now added) m 15 slot × (last < 4294967296) ⌝ }
-    ensures { λ r. ⌜ r ≡ numbered under last place slot (column-size (now (added .entry)) m slot) ⌝ }
+    ensures { λ r. ⌜ r ≡ numbered under last place slot
+        (column-size (now (added .entry)) m slot) ⌝ }
 {
     let next = tree_end(added, m, slot, 15, 1);
     match assign_fresh_ids(last, next - slot, place) {
@@ -216,131 +181,67 @@ fn number(added: &[u8], m: usize, slot: usize, under: u64, place: u32, last: u64
     }
 }
 
-// The addition k, whole: refusals 13 and 14, its place, its ids.
+// The addition k, whole: refusals 13 and 14, its place, its ids behind the given last one.
 fn place_one<'a>(
-    pool: &'a [u8],
-    base: &[u8],
-    request: &'a [u8],
-    added: &[u8],
-    slots: &[u16; 1024],
-    ids: &[u32; 1024],
-    kids: &[u16; 1024],
-    n: usize,
-    id_heads: &[u16; 1024],
-    id_next: &[u16; 1024],
-    ups: &[u16; 1024],
-    lens: &[u16; 1024],
-    hashes: &[u32; 1024],
-    name_heads: &[u16; 1024],
-    name_next: &[u16; 1024],
+    trees: &Trees<'a>,
     additions: &[u8],
+    given: Given,
+    plan: &PlanRows,
+    index: &IndexRows,
     k: usize,
-    m: usize,
     slot: usize,
     dropped: Dropped,
-    last: u64,
 ) -> Spotted
-    requires { ⌜ Based (lent (now pool) (now base) (now request) (now added)) (now slots) (now ids) (now kids) n
-        × Index (lent (now pool) (now base) (now request) (now added)) (now slots) (now ids) (now kids) n (now «id_heads») (now «id_next») (now ups) (now lens) (now hashes) (now «name_heads») (now «name_next»)
-        × Addition (now request) (now added) (now additions) k slot × Good dropped × Standing 1 (now added) m 15 slot × (last < 4294967296) ⌝ }
-    ensures { λ r. ⌜ OneSpotted (plan-fields (lent (now (pool .entry)) (now (base .entry)) (now (request .entry)) (now (added .entry))) (now (slots .entry)) (now (ids .entry)) (now (kids .entry)) n) (dropped-ids dropped) (now (request .entry)) (now (added .entry)) (now (additions .entry)) m last k slot r ⌝ }
+    requires { ⌜ BasedIn (trees-in (now trees)) (now plan) (given .base)
+        × Index (trees-in (now trees)) (now plan) (given .base) (now index)
+        × AdditionIn (trees-in (now trees)) (now additions) k slot × Good dropped
+        × Standing 1 (trees-in (now trees) .added-records) (given .added) 15 slot
+        × (given .last < 4294967296) ⌝ }
+    ensures { λ r. ⌜ OneSpotted (fields-in (trees-in (now (trees .entry))) (now (plan .entry))
+        (given .base)) (dropped-ids dropped) (trees-in (now (trees .entry)) .request-pool)
+        (trees-in (now (trees .entry)) .added-records) (now (additions .entry)) (given .added)
+        (given .last) k slot r ⌝ }
 {
-    if let Check::Refused(r) = check_added(added, request, slot, k as u32) {
+    let added = trees[ADDED_RECORDS];
+    if let Check::Refused(r) = check_added(added, trees[REQUEST_POOL], slot, k as u32) {
         return Spotted::Refused(r);
     }
-    let going = find_place(
-        pool,
-        base,
-        request,
-        added,
-        slots,
-        ids,
-        kids,
-        n,
-        id_heads,
-        id_next,
-        ups,
-        lens,
-        hashes,
-        name_heads,
-        name_next,
-        additions,
-        k,
-        slot,
-        dropped,
-    );
+    let going = find_place(trees, additions, given.base, plan, index, k, slot, dropped);
     match going {
-        Going::Under(under) => number(added, m, slot, under, k as u32, last),
+        Going::Under(under) => number(added, given.added, slot, under, k as u32, given.last),
         Going::Refused(r) => Spotted::Refused(r),
     }
 }
 
 // The additions, one at a time: where each goes, its first slot, the bits of its first id.
 fn place_columns<'a>(
-    pool: &'a [u8],
-    base: &[u8],
-    request: &'a [u8],
-    added: &[u8],
-    slots: &[u16; 1024],
-    ids: &[u32; 1024],
-    kids: &[u16; 1024],
-    n: usize,
-    id_heads: &[u16; 1024],
-    id_next: &[u16; 1024],
-    ups: &[u16; 1024],
-    lens: &[u16; 1024],
-    hashes: &[u32; 1024],
-    name_heads: &[u16; 1024],
-    name_next: &[u16; 1024],
+    trees: &Trees<'a>,
     additions: &[u8],
-    total: usize,
-    m: usize,
+    given: Given,
+    plan: &PlanRows,
+    index: &IndexRows,
     dropped: Dropped,
-    last: u64,
-    unders: &mut [u64; 64],
-    firsts: &mut [u16; 64],
-    starts: &mut [u32; 64],
+    decisions: &mut Decisions,
 ) -> Decided
-    requires { ⌜ Based (lent (now pool) (now base) (now request) (now added)) (now slots) (now ids) (now kids) n
-        × Index (lent (now pool) (now base) (now request) (now added)) (now slots) (now ids) (now kids) n (now «id_heads») (now «id_next») (now ups) (now lens) (now hashes) (now «name_heads») (now «name_next»)
-        × Columns (now request) (now added) (now additions) total m × Good dropped × (last < 4294967296)
-        × (length (now unders) ≡ 64) × (length (now firsts) ≡ 64) × (length (now starts) ≡ 64) ⌝ }
-    ensures { λ r. ⌜ PlacesAll (plan-fields (lent (now (pool .entry)) (now (base .entry)) (now (request .entry)) (now (added .entry))) (now (slots .entry)) (now (ids .entry)) (now (kids .entry)) n) (dropped-ids dropped) (now (request .entry)) (now (added .entry)) (now (additions .entry)) total m last r (now (unders .exit)) (now (firsts .exit)) (now (starts .exit)) ⌝ }
+    requires { ⌜ BasedIn (trees-in (now trees)) (now plan) (given .base)
+        × Index (trees-in (now trees)) (now plan) (given .base) (now index)
+        × ColumnsIn (trees-in (now trees)) (now additions) given × Good dropped
+        × (given .last < 4294967296) × DecisionsRoom (now decisions) ⌝ }
+    ensures { λ r. ⌜ PlacesIn (trees-in (now (trees .entry))) (now (additions .entry)) given
+        (now (plan .entry)) dropped r (now (decisions .entry)) (now (decisions .exit)) ⌝ }
 {
     let mut k = 0;
     let mut slot = 0;
-    let mut end = last;
-    while k < total {
-        let one = place_one(
-            pool,
-            base,
-            request,
-            added,
-            slots,
-            ids,
-            kids,
-            n,
-            id_heads,
-            id_next,
-            ups,
-            lens,
-            hashes,
-            name_heads,
-            name_next,
-            additions,
-            k,
-            m,
-            slot,
-            dropped,
-            end,
-        );
-        match one {
+    let mut last = given.last;
+    while k < given.additions {
+        let so_far = Given { last, ..given };
+        match place_one(trees, additions, so_far, plan, index, k, slot, dropped) {
             Spotted::At(spot) => {
-                unders[k] = spot.under;
-                firsts[k] = slot as u16;
-                starts[k] = spot.start;
+                decisions[UNDERS][k] = spot.under;
+                decisions[FIRSTS][k] = slot as u64;
+                decisions[STARTS][k] = long(spot.start);
                 slot = spot.next;
-                end = spot.last;
+                last = spot.last;
             }
             Spotted::Refused(r) => {
                 return Decided::Refused(r);
@@ -348,93 +249,35 @@ fn place_columns<'a>(
         }
         k += 1;
     }
-    Decided::Last(end)
+    Decided::Last(last)
 }
 
 // Deletions one at a time, then additions one at a time: refusals 11 to 18, or all that the rebuild needs.
 pub fn decide_changes<'a>(
-    pool: &'a [u8],
-    base: &[u8],
-    request: &'a [u8],
-    added: &[u8],
-    slots: &[u16; 1024],
-    ids: &[u32; 1024],
-    kids: &[u16; 1024],
-    n: usize,
-    id_heads: &[u16; 1024],
-    id_next: &[u16; 1024],
-    ups: &[u16; 1024],
-    lens: &[u16; 1024],
-    hashes: &[u32; 1024],
-    name_heads: &[u16; 1024],
-    name_next: &[u16; 1024],
-    identifiers: &[u8],
-    deletions: &[u8],
-    deleted: usize,
-    gone: &mut [u32; 64],
-    additions: &[u8],
-    total: usize,
-    m: usize,
-    last: u64,
-    unders: &mut [u64; 64],
-    firsts: &mut [u16; 64],
-    starts: &mut [u32; 64],
+    trees: &Trees<'a>,
+    lists: &Lists<'a>,
+    given: Given,
+    plan: &PlanRows,
+    index: &IndexRows,
+    decisions: &mut Decisions,
 ) -> Decided
-    requires { ⌜ Based (lent (now pool) (now base) (now request) (now added)) (now slots) (now ids) (now kids) n
-        × Index (lent (now pool) (now base) (now request) (now added)) (now slots) (now ids) (now kids) n (now «id_heads») (now «id_next») (now ups) (now lens) (now hashes) (now «name_heads») (now «name_next»)
-        × (length (now identifiers) ≤ 256) × Entries (now request) (now deletions) deleted × (length (now gone) ≡ 64)
-        × Columns (now request) (now added) (now additions) total m × (last < 4294967296)
-        × (length (now unders) ≡ 64) × (length (now firsts) ≡ 64) × (length (now starts) ≡ 64) ⌝ }
-    ensures { λ r. ⌜ Decides (plan-fields (lent (now (pool .entry)) (now (base .entry)) (now (request .entry)) (now (added .entry))) (now (slots .entry)) (now (ids .entry)) (now (kids .entry)) n) (id-list (now (identifiers .entry))) (now (request .entry)) (now (deletions .entry)) deleted (now (added .entry)) (now (additions .entry)) total m last r (now (gone .exit)) (now (unders .exit)) (now (firsts .exit)) (now (starts .exit)) ⌝ }
+    requires { ⌜ Asked (trees-in (now trees)) (lists-in (now lists)) given (now plan) (now index)
+        × DecisionsRoom (now decisions) ⌝ }
+    ensures { λ r. ⌜ DecidesIn (trees-in (now (trees .entry))) (lists-in (now (lists .entry)))
+        given (now (plan .entry)) r (now (decisions .exit)) ⌝ }
 {
-    let check = drop_columns(
-        pool,
-        base,
-        request,
-        added,
-        slots,
-        ids,
-        kids,
-        n,
-        id_heads,
-        id_next,
-        ups,
-        lens,
-        hashes,
-        name_heads,
-        name_next,
-        identifiers,
-        deletions,
-        deleted,
-        gone,
-    );
+    let check = drop_columns(trees, lists, given, plan, index, decisions);
     if let Check::Refused(r) = check {
         return Decided::Refused(r);
     }
-    let dropped = gather(gone, deleted);
+    let dropped = gather(decisions, given.deletions);
     place_columns(
-        pool,
-        base,
-        request,
-        added,
-        slots,
-        ids,
-        kids,
-        n,
-        id_heads,
-        id_next,
-        ups,
-        lens,
-        hashes,
-        name_heads,
-        name_next,
-        additions,
-        total,
-        m,
+        trees,
+        lists[ADDITIONS],
+        given,
+        plan,
+        index,
         dropped,
-        last,
-        unders,
-        firsts,
-        starts,
+        decisions,
     )
 }

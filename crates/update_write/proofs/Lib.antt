@@ -1,2 +1,1 @@
-pub mod Sounding
-pub mod Carrying
+pub mod Ending

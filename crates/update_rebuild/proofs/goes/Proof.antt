@@ -9,7 +9,7 @@ goes-spec =
     tie.close
     (tie.spec
     (λ c κs. search needs)  -- id-bits-at-requires
-    (λ c κs. search needs)  -- contains-requires
+    (λ c κs. search needs)  -- holds-requires
     (λ c. search (gone-asked, needs))  -- returns
     (λ c. search needs)  -- returns-2
     )

@@ -1,6 +1,6 @@
 -- The root list is a row with 16 levels left for it.
-use native.Mathlib.Omega.{arith}
-use Rattle.update_rebuild.proofs.Whole.{base-reads, base-rebuilt, root-planned}
+use borrow.Author.Needs.{needs}
+use Rattle.update_rebuild.proofs.Whole.{base-reads, base-rebuilt}
 use Rattle.update_rebuild.proofs.rebuild.Statement.{statement}
 use Rattle.update_rebuild.proofs.rebuild.Tie as tie
 
@@ -8,6 +8,6 @@ pub rebuild-spec : {M : Type 1} → statement M
 rebuild-spec =
     tie.close
     (tie.spec
-    (λ c κs. let p = c .before .before .before .before .before .pre in (base-reads _ _ _ (p .0), omega arith, p .1, p .2, omega arith))  -- rebuild-fields-requires
-    (λ c. base-rebuilt _ _ _ (c .before .before .before .before .before .before .pre .0) _ _ _ _ _ _ _ _ _ (root-planned _ _ _ _ _ _ _ _ _ _ _ _ _ (c .rebuild-fields .ensures)))  -- returns
+    (λ c κs. search (base-reads, needs))  -- rebuild-fields-requires
+    (λ c. search (base-rebuilt, needs))  -- returns
     )

@@ -8,10 +8,13 @@ pub check-lists-spec : {M : Type 1} → statement M
 check-lists-spec =
     tie.close
     (tie.spec
-    (λ c κs. search needs)  -- check-deletions-requires
-    (λ c. search needs)  -- enum-known-r
+    (λ c. search needs)  -- element-copy-out-request-pool
+    (λ c. search needs)  -- element-copy-out-check-entries
+    (λ c κs. search needs)  -- check-entries-requires
+    (λ c. search needs)  -- enum-known-deletions
     (λ c. search (openings, needs))  -- returns
     (λ c. search needs)  -- enum-told
-    (λ c κs. search needs)  -- check-additions-requires
+    (λ c. search needs)  -- element-copy-out-check-entries-2
+    (λ c κs. search needs)  -- check-entries-requires-2
     (λ c. search (openings, needs))  -- returns-2
     )

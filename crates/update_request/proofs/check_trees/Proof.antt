@@ -8,8 +8,12 @@ pub check-trees-spec : {M : Type 1} → statement M
 check-trees-spec =
     tie.close
     (tie.spec
+    (λ c. search needs)  -- element-copy-out-check-tree
+    (λ c. search needs)  -- element-copy-out-check-tree-2
     (λ c κs. search needs)  -- check-tree-requires
     (λ c. search needs)  -- enum-known-roots
+    (λ c. search needs)  -- element-copy-out-check-tree-3
+    (λ c. search needs)  -- element-copy-out-check-tree-4
     (λ c κs. search needs)  -- check-tree-requires-2
     (λ c. search needs)  -- enum-known-columns
     (λ c. search needs)  -- enum-known-r

@@ -10,9 +10,10 @@ decide-changes-spec =
     (tie.spec
     (λ c κs. search needs)  -- drop-columns-requires
     (λ c. search needs)  -- enum-known-check
-    (λ c. changes-stop _ _ _ _ _ _ _ _ _ _ _ _ (c .before .before .before .drop-columns .ensures) _ _ _ _ (c .before .check .given .1))  -- returns
+    (λ c. changes-stop _ _ _ _ _ _ _ _ _ _ _ _ (c .before .before .before .drop-columns .ensures .drops) _ _ _ _ (c .before .check .given .1))  -- returns
     (λ c. search needs)  -- enum-told
     (λ c κs. search needs)  -- gather-requires
+    (λ c. search needs)  -- element-copy-out-place-columns
     (λ c κs. search needs)  -- place-columns-requires
-    (λ c. changes-go _ _ _ _ _ _ _ _ _ _ _ _ (c .before .before .before .before .before .before .before .before .drop-columns .ensures) _ _ _ _ _ (c .before .before .before .before .before .before .enum-told .given .1) (search needs) (c .place-columns .ensures))  -- returns-2
+    (λ c. changes-go _ _ _ _ _ _ _ _ _ _ _ _ (c .before .before .before .before .before .before .before .drop-columns .ensures .drops) _ _ _ _ _ _ (c .before .before .before .before .before .enum-told .given .1) (c .before .before .before .gather .ensures) (c .place-columns .ensures .places) (c .place-columns .ensures .gone))  -- returns-2
     )

@@ -1,15 +1,16 @@
--- After each turn the set holds one id more of the array.
+-- After each turn the set holds one id more of the row.
 use Prim.Native.Nat.{_-_}
+use Rattle.update_rebuild.specs.Planned.{gone-in}
 use Rattle.update_schema.proofs.Deleting.{Gathering, gathering}
 use borrow.Author.Needs.{needs}
 use Rattle.update_schema.proofs.gather.Statement.{statement}
 use Rattle.update_schema.proofs.gather.Tie as tie
 
 abbrev Inv-loop : tie.InvT-loop
-Inv-loop gone total i₀ dropped₀ i dropped = Gathering gone total i dropped
+Inv-loop decisions total i₀ dropped₀ i dropped = Gathering (gone-in decisions) total i dropped
 
 abbrev μ-loop : tie.MeasureT-loop
-μ-loop gone total i₀ dropped₀ i dropped = total - i
+μ-loop decisions total i₀ dropped₀ i dropped = total - i
 
 pub gather-spec : {M : Type 1} → statement M
 gather-spec =
@@ -19,8 +20,10 @@ gather-spec =
     μ-loop
     (λ c κs. search (gathering, needs))  -- empty-requires
     (λ c. search (gathering, needs))  -- loop-holds
-    (λ c. search (gathering, needs))  -- mul-id
-    (λ c. search (gathering, needs))  -- element-copy-out-id
+    (λ c. search (gathering, needs))  -- mul-low-32
+    (λ c. search (gathering, needs))  -- index-1-low-32
+    (λ c. search (gathering, needs))  -- index-2-low-32
+    (λ c κs. search (gathering, needs))  -- low-32-requires
     (λ c κs. search (gathering, needs))  -- insert-requires
     (λ c. search (gathering, needs))  -- add-i
     (λ c. search (gathering, needs))  -- loop-less

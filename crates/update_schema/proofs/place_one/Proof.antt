@@ -8,16 +8,18 @@ pub place-one-spec : {M : Type 1} → statement M
 place-one-spec =
     tie.close
     (tie.spec
+    (λ c. search needs)  -- element-copy-out-added
+    (λ c. search needs)  -- element-copy-out-check-added
     (λ c. search needs)  -- cast-check-added
     (λ c κs. search needs)  -- check-added-requires
     (λ c. search needs)  -- enum-known-r
-    (λ c. spot-barred _ _ _ _ _ (c .before .before .before .before .before .before .before .before .before .pre .0) _ _ _ _ _ _ _ (c .before .before .before .check-added .ensures) _ (c .before .r .given .1))  -- returns
+    (λ c. spot-barred _ _ _ _ _ (c .before .before .before .before .before .before .before .pre .0) _ _ _ _ _ _ _ (c .before .before .before .check-added .ensures) _ (search needs))  -- returns
     (λ c. search needs)  -- enum-told
     (λ c κs. search needs)  -- find-place-requires
     (λ c. search needs)  -- enum-known-going
     (λ c. search needs)  -- cast-number
     (λ c κs. search needs)  -- number-requires
     (λ c. search needs)  -- enum-known-going-2
-    (λ c. spot-goes _ _ _ _ _ (c .before .before .before .before .before .before .before .before .before .before .before .before .before .pre .0) _ _ _ _ _ _ _ (c .before .before .before .before .before .before .before .check-added .ensures) (c .before .before .before .before .before .enum-told .given .1) _ (c .before .before .before .before .find-place .ensures) _ (c .before .before .going .given .1) _ (c .number .ensures))  -- returns-2
-    (λ c. spot-nowhere _ _ _ _ _ (c .before .before .before .before .before .before .before .before .before .before .before .before .pre .0) _ _ _ _ _ _ _ (c .before .before .before .before .before .before .check-added .ensures) (c .before .before .before .before .enum-told .given .1) _ (c .before .before .before .find-place .ensures) _ (c .before .going2 .given .1))  -- returns-3
+    (λ c. spot-goes _ _ _ _ _ (c .before .before .before .before .before .before .before .before .before .before .before .pre .0) _ _ _ _ _ _ _ (c .before .before .before .before .before .before .before .check-added .ensures) (search needs) _ (c .before .before .before .before .find-place .ensures) _ (search needs) _ (c .number .ensures))  -- returns-2
+    (λ c. spot-nowhere _ _ _ _ _ (c .before .before .before .before .before .before .before .before .before .before .pre .0) _ _ _ _ _ _ _ (c .before .before .before .before .before .before .check-added .ensures) (search needs) _ (c .before .before .before .find-place .ensures) _ (search needs))  -- returns-3
     )

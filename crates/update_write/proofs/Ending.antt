@@ -1,0 +1,246 @@
+-- The rebuilt tree is a plan where it fits: its sources are slots of the two trees that were read. Where it does not fit it passes a limit.
+-- Then the index answers 7 to 9 of it, and the writer leaves its bytes.
+use mathlib.Core.Path.{_≡_, refl, sym, ap, _∙_}
+use mathlib.Core.Bool.{Bool, true, false, not, _&&_}
+use mathlib.Core.List.{List, [], _∷_}
+use mathlib.Core.Option.{none}
+use Prim.Native.Nat.{ℕ, zero, suc, _+_, _≤_, _<_}
+use native.Mathlib.Nat.{zero-add}
+use native.Mathlib.Omega.{arith}
+use borrow.Author.Tests.{not-true, not-false, le-leb}
+use lib.Dec.{leb}
+use lib.ListN.{length, getD}
+use Rattle.paper.specs.Answer.{ok, _>>=_}
+use Rattle.paper.specs.Forest.{Forest, empty, node, size, siblings, levels, mapped}
+use Rattle.paper.specs.Field.{Field}
+use Rattle.paper.specs.Bytes.{turned, kids-at, from}
+use Rattle.paper.specs.Layout.{Part, roots}
+use Rattle.paper.specs.Decode.{fields, decode}
+use Rattle.paper.specs.Lists.{id-list}
+use Rattle.paper.specs.Rebuild.{fresh}
+use Rattle.paper.specs.Sound.{name-bytes, within, sound}
+use Rattle.paper.specs.Outcome.{for-records, for-names, leaves}
+use Rattle.record.specs.declared.Refusal.{Refusal}
+use Rattle.record.specs.declared.Check.{Check}
+use Rattle.record.specs.declared.Check.the-variants as check
+use Rattle.record.specs.declared.Changed.{Changed}
+use Rattle.record.specs.declared.Changed.the-variants as changed
+use Rattle.record.specs.Says.{refusal-of, changes}
+use Rattle.record.specs.Trees.{Trees}
+use Rattle.record.proofs.Testing.{checked-ok, checked-refused, refuses}
+use Rattle.laws.proofs.Basics.{unbind, ok-is}
+use Rattle.laws.proofs.Fitting.{sized-slots}
+use Rattle.laws.proofs.Preorder.{size-mapped, siblings-mapped, levels-mapped}
+use Rattle.laws.proofs.Pointwise.{Each, each-more, each-mapped, each-slot, All, each-rebuilt}
+use Rattle.laws.proofs.RoundTrip.{length-pool}
+use Rattle.laws.proofs.Taken as taken
+use Rattle.tree.specs.Read.{part, got}
+use Rattle.tree.specs.Says.{rooted}
+use Rattle.tree.specs.declared.Shaped.the-variants.{Roots}
+use Rattle.tree.proofs.Steps.{was-read}
+use Rattle.plan.specs.Plan.{Source, planned-field, Sits}
+use Rattle.plan.specs.Draft.{Drawn}
+use Rattle.plan.specs.Sources.{Summed, Written}
+use Rattle.plan.specs.Table.{sources, PlanIn, DraftIn, InsideIn, fields-in}
+use Rattle.plan.proofs.Laying.{laid-fields, laid-draft}
+use Rattle.plan.proofs.Standing.{fields-size}
+use Rattle.plan.proofs.Summing.{draft-inside, summed-plan, summed-over}
+use Rattle.plan.proofs.Taking.{base-sits, added-sits}
+use Rattle.index_ids.specs.Table.{Rooms}
+use Rattle.index.specs.Index.{Indexing}
+use Rattle.update_dropped.specs.declared.Dropped.{Dropped}
+use Rattle.update_dropped.specs.Set.{dropped-ids, Good}
+use Rattle.update_rebuild.specs.declared.Given.{Given}
+use Rattle.update_rebuild.specs.declared.Place.{Place}
+use Rattle.update_rebuild.specs.declared.Step.{Step}
+use Rattle.update_rebuild.specs.declared.Step.the-variants.{Went, Full}
+use Rattle.update_rebuild.specs.Sources.{base-source, added-source, source-id, source-kind, added-tree, addition-at, additions, rebuilt-row, rebuilt-base}
+use Rattle.update_rebuild.specs.Planned.{unders-in, firsts-in, starts-in, gone-in, ResolvedIn, additions-in, Based, fits, verdict, Rebuilds}
+use Rattle.update_rebuild.proofs.Paper.{rebuilt-fields}
+use Rattle.update_rebuild.proofs.Whole.{of-fits}
+use Rattle.update_schema.specs.Deletions.{gone-ids, Gathered}
+use Rattle.update_write.specs.Ending.{sounded, limited-sounded, Rebuildable, rebuilt-tree, Ends}
+
+-- ---- sources
+
+abbrev Seated : Trees → Source → Type 0
+Seated l a = Sits l (a .slot)
+
+drawn-each : (l : Trees) (t : Forest Source) → Each (Seated l) t → Drawn l t
+drawn-each l empty h = tt
+drawn-each l (node a m n) h = (h .0, drawn-each l m (h .1), drawn-each l n (h .2))
+
+each-fresh : (l : Trees) (c : ℕ) (t : Forest ℕ) → Each (λ k. Sits l (1024 + k)) t → Each (Seated l) (fresh added-source c t)
+unfolding fresh
+each-fresh l c empty h = tt
+each-fresh l c (node k m n) h = (h .0, each-fresh l (suc c) m (h .1), each-fresh l (suc (c + size m)) n (h .2))
+
+-- ---- the verdict
+
+verdict-went : (n : ℕ) (t : Forest Source) (r : Step) (w : Place) → r ≡ verdict n t → r ≡ Went w → (fits t ≡ true) × (w .at ≡ size t)
+unfolding verdict
+verdict-went n t r w e d = go (fits t) refl
+  where
+    go : (f : Bool) → fits t ≡ f → (fits t ≡ true) × (w .at ≡ size t)
+    go true q = let z : Went w ≡ Went (record { next = n; at = size t; count = siblings t }) = sym d ∙ (rw q at e) in (q, cc)
+    go false q = let z : Went w ≡ Full = sym d ∙ (rw q at e) in absurd (let y : _≡_ {A = ℕ} 0 1 = cc in omega arith)
+
+verdict-full : (n : ℕ) (t : Forest Source) (r : Step) → r ≡ verdict n t → r ≡ Full → fits t ≡ false
+unfolding verdict
+verdict-full n t r e d = go (fits t) refl
+  where
+    go : (f : Bool) → fits t ≡ f → fits t ≡ false
+    go false q = q
+    go true q = let z : Full ≡ Went (record { next = n; at = size t; count = siblings t }) = sym d ∙ (rw q at e) in absurd (let y : _≡_ {A = ℕ} 0 1 = cc in omega arith)
+
+and-and : (a b c : Bool) → (a && (b && c)) ≡ ((a && b) && c)
+and-and true b c = refl
+and-and false b c = refl
+
+within-fits : (g : Source → Field) (t : Forest Source) → within (mapped g t) ≡ (fits t && leb (name-bytes (mapped g t)) 32768)
+unfolding within fits
+within-fits g t = rw (size-mapped g t, levels-mapped g t) (and-and (leb (size t) 1024) (leb (levels t) 16) (leb (name-bytes (mapped g t)) 32768))
+
+module _ (l : Trees) (i : List ℕ) (given : Given) (c : ℕ) (decisions plan index : List (List ℕ)) (out text : List ℕ) (h : Rebuildable l i given c decisions plan index out text) where
+  abbrev Ending : Changed → List ℕ → List ℕ → Type 0
+  Ending r out′ text′ = Ends l i given decisions out text r out′ text′
+
+  few : given .base ≤ 1024
+  few = let e = h .base-count in let w = sized-slots (l .records) (l .pool) (h .base-limits) .0 in omega arith
+
+  read : (P : Type 0) → ((u : Part) → roots 0 (kids-at (l .records)) (given .base) (given .base) 0 ≡ ok u → fields (l .pool) (l .records) (u .trees) ≡ h .base → P) → P
+  unfolding decode
+  read P f =
+      unbind _ _ (h .base-read) λ _ e₁ a₁. unbind _ _ a₁ λ _ e₂ a₂. unbind _ _ a₂ λ u e₃ a₃. unbind _ _ a₃ λ _ e₄ a₄.
+      f u (rw (h .base-count) e₃) (ok-is a₄)
+
+  based : Based (l .records) (given .base) c
+  unfolding rooted fields
+  based = read _ λ u e q.
+      let n = h .base-count in
+      let z : c ≡ siblings (u .trees) = h .root-count ∙ ap siblings (sym q) ∙ siblings-mapped _ (u .trees) in
+      record { whole = omega arith; small = few; rooted = rw (e, z) (ap Roots (sym (zero-add (siblings (u .trees))))) }
+
+  base-seated : Each (Seated l) (mapped (base-source (l .records)) (got (roots 0 (kids-at (l .records)) (given .base) (given .base) 0) .trees))
+  base-seated = read _ λ u e q.
+      let n = h .base-count in
+      rw e
+      (each-mapped (Seated l) (base-source (l .records)) (u .trees) (each-more _ _ (λ j k. base-sits 0 l (h .base) (h .base-read) (omega (arith, few)) j (omega arith)) (u .trees)
+      (each-slot (kids-at (l .records)) (given .base) 0 (u .trees) (taken.roots-take 0 (kids-at (l .records)) (given .base) (given .base) 0 u e .laid))))
+
+  tree-seated : (j : ℕ) → j < given .additions → Each (Seated l) (added-tree (l .added-records) (given .added) (getD (firsts-in decisions) j 0) (getD (starts-in decisions) j 0))
+  unfolding added-tree
+  tree-seated j k =
+      let n = h .added-count in
+      let b = l .added-records in
+      let first = getD (firsts-in decisions) j 0 in
+      let e = was-read 1 (kids-at b) (given .added) 16 1 first (h .resolved .tree j k) in
+      let u = part 1 (kids-at b) (given .added) 16 1 first .trees in
+      each-fresh l _ u (each-more _ _ (λ x y. added-sits 1 l (h .added) (h .added-read) x (omega arith)) u
+      (each-slot (kids-at b) (given .added) first u (taken.row-take 1 (kids-at b) (given .added) 16 1 first _ e .took .laid)))
+
+  all-seated : (ds : List ℕ) (j k : ℕ) → j + k ≤ given .additions → All (Seated l) source-id (source-kind (l .records)) ds (from (addition-at (l .added-records) (given .added) (unders-in decisions) (firsts-in decisions) (starts-in decisions)) j k)
+  unfolding from
+  all-seated ds j zero q = tt
+  all-seated ds j (suc k) q = (tree-seated j (omega arith), all-seated ds (suc j) k (omega arith))
+
+  module _ (gone : Dropped) (g : Gathered (gone-in decisions) (given .deletions) gone) where
+    abbrev t : Forest Source
+    t = rebuilt-base (l .records) (given .base) (dropped-ids gone) (additions-in (l .added-records) given decisions)
+
+    drawn : Drawn l t
+    unfolding rebuilt-base rebuilt-row additions
+    drawn =
+        drawn-each l t
+        (each-rebuilt (Seated l) source-id (source-kind (l .records)) (dropped-ids gone) _ (all-seated (dropped-ids gone) 0 (given .additions) (omega arith)) none true
+        (mapped (base-source (l .records)) (got (roots 0 (kids-at (l .records)) (given .base) (given .base) 0) .trees)) base-seated)
+
+    pub rebuild-asks : Based (l .records) (given .base) c × Good gone × ResolvedIn (l .added-records) given decisions × (length plan ≡ 3)
+    rebuild-asks = (based, g .good, h .resolved, h .plan-room .rows)
+
+    -- the planned tree is the paper's
+    tree-is : (base : Forest Field) → decode 0 (l .records) (l .pool) ≡ ok base → mapped (planned-field l) t ≡ rebuilt-tree l given decisions base
+    unfolding rebuilt-tree
+    tree-is base e =
+        read _ λ u r q. rebuilt-fields l (given .base) u (dropped-ids gone) (gone-ids (gone-in decisions) (given .deletions)) (additions-in (l .added-records) given decisions) few r (g .holds)
+        ∙ rw (q ∙ ok-is (sym (h .base-read) ∙ e))
+
+    over : within (mapped (planned-field l) t) ≡ false → Ending (changed.Refused (refusal-of 19 4 0)) out text
+    unfolding limited-sounded _>>=_
+    over e = record { ends = λ base d. refuses _ (refusal-of 19 4 0) (for-records out ∷ for-names text ∷ []) (rw (← (tree-is base d), e)) }
+
+    module _ (y : Step) (plan′ : List (List ℕ)) (v : Rebuilds t (given .base) plan y plan′) where
+      pub full-stops : y ≡ Full → Ending (changed.Refused (refusal-of 19 4 0)) out text
+      full-stops d = over (within-fits (planned-field l) t ∙ rw (verdict-full (given .base) t y (v .answer) d))
+
+      module _ (w : Place) (d : y ≡ Went w) where
+        went : (fits t ≡ true) × (w .at ≡ size t)
+        went = verdict-went (given .base) t y w (v .answer) d
+
+        draft : DraftIn l plan′ (w .at)
+        draft =
+            let f = of-fits t (went .0) in
+            let f₁ = f .1 in
+            let e = went .1 in
+            laid-draft t plan plan′ (w .at) (h .plan-room) (v .laid (went .0)) e (omega arith) (f .0) l drawn
+
+        planned : fields-in l plan′ (w .at) ≡ mapped (planned-field l) t
+        planned =
+            let f = of-fits t (went .0) in
+            let f₁ = f .1 in
+            let e = went .1 in
+            laid-fields t plan plan′ (w .at) (h .plan-room) (v .laid (went .0)) e (omega arith) (f .0) l
+
+        pub names-asks : InsideIn l plan′ (w .at)
+        names-asks = draft-inside l plan′ (w .at) draft
+
+        module _ (z : Bool) (k : Summed (l .records) (l .added-records) (sources plan′) (w .at) z) where
+          pub names-stop : not z ≡ true → Ending (changed.Refused (refusal-of 19 4 0)) out text
+          names-stop q =
+              let e = summed-over l plan′ (w .at) draft z k (not-true z q) in
+              over (within-fits (planned-field l) t ∙ rw (went .0) (rw planned at e))
+
+          module _ (q : not z ≡ false) where
+            pub the-plan : PlanIn l plan′ (w .at)
+            the-plan = summed-plan l plan′ (w .at) draft z k (not-false z q)
+
+            fitting : within (mapped (planned-field l) t) ≡ true
+            fitting = let e = the-plan .sum in within-fits (planned-field l) t ∙ rw (went .0) (ap (λ (x : Forest Field). leb (name-bytes x) 32768) (sym planned) ∙ le-leb _ 32768 e)
+
+            pub test-asks : PlanIn l plan′ (w .at) × (Rooms index × (length i ≤ 256))
+            test-asks = (the-plan, (h .index-room, h .few))
+
+            pub write-asks : PlanIn l plan′ (w .at) × (24576 ≤ length out) × (32768 ≤ length text)
+            write-asks = (the-plan, h .records-room, h .names-room)
+
+            pub records-fit : w .at < 4294967296
+            records-fit = let f = the-plan .few in omega arith
+
+            -- what the index says of the planned tree is said of the paper's
+            limited-is : (base : Forest Field) → decode 0 (l .records) (l .pool) ≡ ok base → (last : ℕ)
+                → limited-sounded (rebuilt-tree l given decisions base) (id-list i) last ≡ sounded (fields-in l plan′ (w .at)) (id-list i) last
+            unfolding limited-sounded _>>=_
+            limited-is base e last = rw (← (tree-is base e), fitting, planned)
+
+            module _ (x : Check) (index′ : List (List ℕ)) (s : Indexing l plan′ (w .at) 4 i x index index′) where
+              pub sound-stops : (f : Refusal) → x ≡ check.Refused f → Ending (changed.Refused f) out text
+              unfolding sounded _>>=_
+              sound-stops f o =
+                  record { ends = λ base e. refuses _ f (for-records out ∷ for-names text ∷ []) (limited-is base e _ ∙ rw (checked-refused (sound 4 (fields-in l plan′ (w .at)) (id-list i)) x f (s .answer) o)) }
+
+              module _ (used : ℕ) (out′ text′ : List ℕ) (b : Written (fields-in l plan′ (w .at)) out text used out′ text′) where
+                pub names-fit : used < 4294967296
+                names-fit = let e = b .bytes in let p = length-pool (fields-in l plan′ (w .at)) in let f = the-plan .sum in omega arith
+
+                pub all-written : x ≡ check.Fine → (bits : ℕ) → bits ≡ turned (given .last)
+                    → Ending (changed.Done (record { records = w .at; names = used; «last_id» = bits })) out′ text′
+                unfolding sounded _>>=_ changes leaves
+                all-written o bits eb =
+                    record {
+                      ends = λ base e.
+                          let z = checked-ok (sound 4 (fields-in l plan′ (w .at)) (id-list i)) x (s .answer) o in
+                          let n = fields-size plan′ (w .at) (the-plan .shaped) l in
+                          rw (limited-is base e (turned (given .last)), z) record { told = rw (b .bytes, n, eb); left = rw (b .rows, b .pool) refl };
+                    }
+
+pub ruleset ending = (full-stops, names-stop, sound-stops)
