@@ -1,15 +1,13 @@
 -- The numbers that the code lays out are the paper's: a found slot is below 1,024, so its 32 bits are the slot.
 use Prim.Native.Nat.{ℕ, _%_, _<_}
 use mathlib.Core.Path.{_≡_, refl, ap, _∙_}
-use mathlib.Core.Bool.{Bool}
 use mathlib.Core.List.{List}
 use mathlib.Core.Option.{Option, none, some}
 use native.Mathlib.Omega.{arith}
 use Rattle.paper.specs.Answer.{Answer, ok, refused}
 use Rattle.paper.specs.Rows.{Row}
-use lib.ListN.{length}
-use Rattle.paper.specs.Entries.{Result, find-name, find-id, find-parent, prune-entry, renumber-entry}
-use Rattle.paper.specs.Outcome.{found, changed}
+use Rattle.paper.specs.Entries.{Result, find-name, find-id, find-parent}
+use Rattle.paper.specs.Outcome.{found, changed, Buffer, Answers}
 use Rattle.laws.proofs.Fitting.{sized-slots}
 use Rattle.record.specs.declared.Refusal.{Refusal}
 use Rattle.record.specs.declared.FieldId.{FieldId}
@@ -24,12 +22,9 @@ use Rattle.record.specs.declared.Changed.the-variants as changing
 use Rattle.record.specs.Says.{found-row, looked, changes}
 use Rattle.index.specs.Finds.{FoundIn, by-name, by-id, by-parent}
 use Rattle.index.proofs.Standing.{row-here}
-use Rattle.prune.specs.Pruning.{Prunes}
-use Rattle.update_write.specs.Ending.{Answers}
-use Rattle.renumber.specs.Renumbering.{Renumbers}
 use Rattle.braidhurdle.specs.declared.ChangedNumbers.{ChangedNumbers}
 use Rattle.braidhurdle.specs.declared.FoundNumbers.{FoundNumbers}
-use Rattle.braidhurdle.specs.Numbers.{found-in, found-numbers, sought-numbers, changed-in, changed-numbers, Left, LeftThree}
+use Rattle.braidhurdle.specs.Numbers.{found-in, found-numbers, sought-numbers, changed-in, laid, changed-numbers}
 
 -- A row that a look-up finds stands in the first 1,024 slots.
 found-small : (s pool : List ℕ) (r : Row) → FoundIn s pool r → r .slot < 1024
@@ -87,19 +82,9 @@ unfolding changes changed
 changed-told (ok r) = refl
 changed-told (refused n l p) = refl
 
-pub tells-changed : (a : Answer Result) (c : Changed) (r : ChangedNumbers) → c ≡ changes a → r ≡ changed-numbers c → r ≡ changed-in (changed a)
-tells-changed a c r e h = h ∙ ap changed-numbers e ∙ changed-told a
+-- the numbers are laid out, and the buffers are the entry's
+pub left-told : (a : Answer Result) (buffers : List Buffer) (c : Changed) (r : ChangedNumbers) (news : List (List ℕ))
+    → Answers changes a buffers c news → r ≡ changed-numbers c → Answers laid a buffers r news
+left-told a buffers c r news h e = record { told = e ∙ ap changed-numbers (h .told) ∙ changed-told a; left = h .left }
 
-pub prune-left : (s p sel : List ℕ) (full : Bool) (out text : List ℕ) (c : Changed) (r : ChangedNumbers) (out′ text′ : List ℕ) → Prunes s p sel full out text c out′ text′ → r ≡ changed-numbers c
-    → Left (prune-entry s p sel full (length out) (length text)) r out text out′ text′
-prune-left s p sel full out text c r out′ text′ h e = record { answer = tells-changed (prune-entry s p sel full (length out) (length text)) c r (h .answer) e; records = h .records; names = h .names }
-
-pub renumber-left : (s p i : List ℕ) (start : ℕ) (out text is : List ℕ) (c : Changed) (r : ChangedNumbers) (out′ text′ is′ : List ℕ) → Renumbers s p i start out text is c out′ text′ is′ → r ≡ changed-numbers c
-    → LeftThree (renumber-entry s p i start (length out) (length text) (length is)) r out text is out′ text′ is′
-renumber-left s p i start out text is c r out′ text′ is′ h e =
-    record { left = record { answer = tells-changed (renumber-entry s p i start (length out) (length text) (length is)) c r (h .answer) e; records = h .records; names = h .names }; identifiers = h .identifiers }
-
-pub update-left : (a : Answer Result) (out text : List ℕ) (c : Changed) (r : ChangedNumbers) (out′ text′ : List ℕ) → Answers a out text c out′ text′ → r ≡ changed-numbers c → Left a r out text out′ text′
-update-left a out text c r out′ text′ h e = record { answer = tells-changed a c r (h .answer) e; records = h .records; names = h .names }
-
-pub ruleset telling = (tells-name, tells-id, tells-parent, lay-at, lay-nothing, lay-refused, lay-looked, lay-done, lay-turned-down, prune-left, renumber-left, update-left)
+pub ruleset telling = (tells-name, tells-id, tells-parent, lay-at, lay-nothing, lay-refused, lay-looked, lay-done, lay-turned-down)

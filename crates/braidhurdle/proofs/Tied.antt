@@ -1,7 +1,7 @@
 -- The C boundary by place. Contracts and code follow names: two parameters of one type, or two fields of a result, could
 -- change places and all would still be proved. Here each C function is held to the order of include/braidhurdle.h.
 use mathlib.Core.Path.{_≡_, refl}
-use mathlib.Core.List.{List, _++_}
+use mathlib.Core.List.{List, [], _∷_, _++_}
 use Prim.Native.Nat.{ℕ}
 use lib.ListN.{length}
 use mir.Syntax.{w32, tyInt}
@@ -14,9 +14,10 @@ use denote.Ref.{now}
 use denote.Triple.Clauses.{AtExit}
 use Rattle.paper.specs.Entries.{update-entry, prune-entry, renumber-entry, find-name, find-id, find-parent}
 use Rattle.paper.specs.Outcome as outcome
-use Rattle.paper.specs.Outcome.{found}
+use Rattle.paper.specs.Outcome.{found, for-records, for-names, for-identifiers, Answers}
 use Rattle.braidhurdle.specs.declared.NameNumbers.{NameNumbers}
-use Rattle.braidhurdle.specs.Numbers.{found-in, changed-in, full-mode, Left, LeftThree}
+use Rattle.braidhurdle.specs.Numbers.{found-in, changed-in, laid, full-mode}
+use Rattle.braidhurdle.specs.Lent.{stored, lent}
 use Rattle.braidhurdle.specs.Name.{found-name, name-numbers}
 use Rattle.braidhurdle.proofs.ChangedNumbers.Laws as changed-laws
 use Rattle.braidhurdle.proofs.FoundNumbers.Laws as found-laws
@@ -60,45 +61,47 @@ name-laid n = refl
 -- ---- arguments: what a caller learns of the arguments `a`, the result r and the same arguments after the call, `s`, is
 -- what the paper says of the first, the second, and so on
 
-module _ (κs : Lfts 8) (a : ArgsD update.signature κs) (r : ResD update.signature κs) (s : AtExit update.ended κs) where
+module _ (κs : Lfts 3) (a : ArgsD update.signature κs) (r : ResD update.signature κs) (s : AtExit update.ended κs) where
   pub update-says : update-reads.Learnt κs a r s
-      ≡ Left
-      (update-entry (now (a .0)) (now (a .1 .0)) (now (a .1 .1 .0)) (a .1 .1 .1 .0) (now (a .1 .1 .1 .1 .0))
-      (now (a .1 .1 .1 .1 .1 .0)) (now (a .1 .1 .1 .1 .1 .1 .0)) (now (a .1 .1 .1 .1 .1 .1 .1 .0))
-      (length (now (a .1 .1 .1 .1 .1 .1 .1 .1 .0))) (length (now (a .1 .1 .1 .1 .1 .1 .1 .1 .1 .0))))
-      r (now (a .1 .1 .1 .1 .1 .1 .1 .1 .0)) (now (a .1 .1 .1 .1 .1 .1 .1 .1 .1 .0))
-      (now (s .1 .1 .1 .1 .1 .1 .1 .1 .0)) (now (s .1 .1 .1 .1 .1 .1 .1 .1 .1 .0))
+      ≡ Answers laid
+      (update-entry (stored (now (a .0)) (now (a .1 .0)) (a .1 .1 .1 .0))
+      (lent (now (a .1 .1 .0)) (now (a .1 .1 .1 .1 .0)) (now (a .1 .1 .1 .1 .1 .0))
+      (now (a .1 .1 .1 .1 .1 .1 .0)) (now (a .1 .1 .1 .1 .1 .1 .1 .0))
+      (length (now (a .1 .1 .1 .1 .1 .1 .1 .1 .0))) (length (now (a .1 .1 .1 .1 .1 .1 .1 .1 .1 .0)))))
+      (for-records (now (a .1 .1 .1 .1 .1 .1 .1 .1 .0)) ∷ for-names (now (a .1 .1 .1 .1 .1 .1 .1 .1 .1 .0)) ∷ []) r
+      (now (s .1 .1 .1 .1 .1 .1 .1 .1 .0) ∷ now (s .1 .1 .1 .1 .1 .1 .1 .1 .1 .0) ∷ [])
   update-says = refl
 
-module _ (κs : Lfts 5) (a : ArgsD prune.signature κs) (r : ResD prune.signature κs) (s : AtExit prune.ended κs) where
+module _ (κs : Lfts 4) (a : ArgsD prune.signature κs) (r : ResD prune.signature κs) (s : AtExit prune.ended κs) where
   pub prune-says : prune-reads.Learnt κs a r s
-      ≡ Left
+      ≡ Answers laid
       (prune-entry (now (a .0)) (now (a .1 .0)) (now (a .1 .1 .0)) (full-mode (a .1 .1 .1 .0))
       (length (now (a .1 .1 .1 .1 .0))) (length (now (a .1 .1 .1 .1 .1 .0))))
-      r (now (a .1 .1 .1 .1 .0)) (now (a .1 .1 .1 .1 .1 .0)) (now (s .1 .1 .1 .1 .0)) (now (s .1 .1 .1 .1 .1 .0))
+      (for-records (now (a .1 .1 .1 .1 .0)) ∷ for-names (now (a .1 .1 .1 .1 .1 .0)) ∷ []) r
+      (now (s .1 .1 .1 .1 .0) ∷ now (s .1 .1 .1 .1 .1 .0) ∷ [])
   prune-says = refl
 
-module _ (κs : Lfts 6) (a : ArgsD renumber.signature κs) (r : ResD renumber.signature κs)
+module _ (κs : Lfts 5) (a : ArgsD renumber.signature κs) (r : ResD renumber.signature κs)
     (s : AtExit renumber.ended κs) where
   pub renumber-says : renumber-reads.Learnt κs a r s
-      ≡ LeftThree
+      ≡ Answers laid
       (renumber-entry (now (a .0)) (now (a .1 .0)) (now (a .1 .1 .0)) (a .1 .1 .1 .0)
       (length (now (a .1 .1 .1 .1 .0))) (length (now (a .1 .1 .1 .1 .1 .0))) (length (now (a .1 .1 .1 .1 .1 .1 .0))))
-      r (now (a .1 .1 .1 .1 .0)) (now (a .1 .1 .1 .1 .1 .0)) (now (a .1 .1 .1 .1 .1 .1 .0))
-      (now (s .1 .1 .1 .1 .0)) (now (s .1 .1 .1 .1 .1 .0)) (now (s .1 .1 .1 .1 .1 .1 .0))
+      (for-records (now (a .1 .1 .1 .1 .0)) ∷ for-names (now (a .1 .1 .1 .1 .1 .0)) ∷ for-identifiers (now (a .1 .1 .1 .1 .1 .1 .0)) ∷ []) r
+      (now (s .1 .1 .1 .1 .0) ∷ now (s .1 .1 .1 .1 .1 .0) ∷ now (s .1 .1 .1 .1 .1 .1 .0) ∷ [])
   renumber-says = refl
 
-module _ (κs : Lfts 3) (a : ArgsD by-name.signature κs) (r : ResD by-name.signature κs) (s : AtExit by-name.ended κs) where
+module _ (κs : Lfts 2) (a : ArgsD by-name.signature κs) (r : ResD by-name.signature κs) (s : AtExit by-name.ended κs) where
   pub find-name-says : by-name-reads.Learnt κs a r s
       ≡ (r ≡ found-in (found (find-name (now (a .0)) (now (a .1 .0)) (now (a .1 .1 .0)))))
   find-name-says = refl
 
-module _ (κs : Lfts 2) (a : ArgsD by-id.signature κs) (r : ResD by-id.signature κs) (s : AtExit by-id.ended κs) where
+module _ (κs : Lfts 1) (a : ArgsD by-id.signature κs) (r : ResD by-id.signature κs) (s : AtExit by-id.ended κs) where
   pub find-id-says : by-id-reads.Learnt κs a r s
       ≡ (r ≡ found-in (found (find-id (now (a .0)) (now (a .1 .0)) (a .1 .1 .0))))
   find-id-says = refl
 
-module _ (κs : Lfts 2) (a : ArgsD by-parent.signature κs) (r : ResD by-parent.signature κs)
+module _ (κs : Lfts 1) (a : ArgsD by-parent.signature κs) (r : ResD by-parent.signature κs)
     (s : AtExit by-parent.ended κs) where
   pub find-parent-says : by-parent-reads.Learnt κs a r s
       ≡ (r ≡ found-in (found (find-parent (now (a .0)) (now (a .1 .0)) (a .1 .1 .0))))

@@ -18,17 +18,17 @@ pub record Part : Type 0 where
   pub size : ℕ
 
 abbrev pub part-at : List ℕ → ℕ → Part
-part-at s k = record { offset = rec-at s k .name-at; size = rec-at s k .name-len }
+part-at records k = record { offset = rec-at records k .name-at; size = rec-at records k .name-len }
 
 -- 4 is asked of the one record.
 abbrev pub part-in : (records pool : List ℕ) (slot : ℕ) → Answer (Option Part)
-part-in s pool k = do
-  pooled 0 (lowest (in-pool (length pool) s) k 1)
-  ok (some (part-at s k))
+part-in records pool k = do
+  pooled 0 (lowest (in-pool (length pool) records) k 1)
+  ok (some (part-at records k))
 
 -- Nothing for a slot behind the last record.
 unfoldable pub found-name : (records pool : List ℕ) (slot : ℕ) → Answer (Option Part)
-found-name s pool k = cond (ltb k (slots s)) (part-in s pool k) (ok none)
+found-name records pool k = cond (ltb k (slots records)) (part-in records pool k) (ok none)
 
 -- Where there is no name, or on a refusal, offset and length are 0.
 unfoldable pub name-numbers : Answer (Option Part) → NameNumbers
@@ -38,7 +38,7 @@ name-numbers (ok none) = record { refusal = 0; list = 0; place = 0; found = 0; o
 name-numbers (refused n l p) = record { refusal = n; list = l; place = p; found = 0; offset = 0; length = 0 }
 
 -- p is where the name of a row lies: the answer is p, it lies in the pool, and its bytes are the pool's own there.
-pub record Shows (s pool : List ℕ) (r : Row) (p : Part) : Type 0 where
-  pub answer : found-name s pool (r .slot) ≡ ok (some p)
+pub record Shows (records pool : List ℕ) (r : Row) (p : Part) : Type 0 where
+  pub answer : found-name records pool (r .slot) ≡ ok (some p)
   pub inside : p .offset + p .size ≤ length pool
   pub bytes : take (p .size) (drop (p .offset) pool) ≡ r .field .name

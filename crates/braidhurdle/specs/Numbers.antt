@@ -1,12 +1,10 @@
 -- The six numbers of an answer, as the C structs hold them.
 use Prim.Native.Nat.{ℕ, _%_}
-use mathlib.Core.Path.{_≡_}
 use mathlib.Core.Bool.{Bool, not}
-use mathlib.Core.List.{List}
 use lib.Dec.{eqb}
 use Rattle.paper.specs.Answer.{Answer}
 use Rattle.paper.specs.Entries.{Result}
-use Rattle.paper.specs.Outcome.{changed, out-records, out-names, out-identifiers, leaves}
+use Rattle.paper.specs.Outcome.{changed}
 use Rattle.paper.specs.Outcome as outcome
 use Rattle.record.specs.declared.Changed.{Changed}
 use Rattle.record.specs.declared.Changed.the-variants as changes
@@ -34,6 +32,10 @@ sought-numbers (seeks.Refused r) = record { refusal = r .number; list = r .list;
 abbrev pub changed-in : outcome.Changed → ChangedNumbers
 changed-in c = record { refusal = c .refusal; list = c .list; place = c .place; records = c .records; names = c .names; «last_id» = c .last-id }
 
+-- How a C function tells the paper's answer.
+abbrev pub laid : Answer Result → ChangedNumbers
+laid answer = changed-in (changed answer)
+
 abbrev pub changed-numbers : Changed → ChangedNumbers
 changed-numbers (changes.Done s) = record { refusal = 0; list = 0; place = 0; records = s .records; names = s .names; «last_id» = s .«last_id» }
 changed-numbers (changes.Refused r) = record { refusal = r .number; list = r .list; place = r .place; records = 0; names = 0; «last_id» = 0 }
@@ -41,14 +43,3 @@ changed-numbers (changes.Refused r) = record { refusal = r .number; list = r .li
 -- A number that is not 0 asks for full mode.
 abbrev pub full-mode : ℕ → Bool
 full-mode full = not (eqb full 0)
-
--- What a call leaves where the paper answers a: its numbers, and the bytes of both buffers.
-pub record Left (a : Answer Result) (r : ChangedNumbers) (out text out′ text′ : List ℕ) : Type 0 where
-  pub answer : r ≡ changed-in (changed a)
-  pub records : out′ ≡ leaves out-records a out
-  pub names : text′ ≡ leaves out-names a text
-
--- And of the buffer of identifiers.
-pub record LeftThree (a : Answer Result) (r : ChangedNumbers) (out text is out′ text′ is′ : List ℕ) : Type 0 where
-  pub left : Left a r out text out′ text′
-  pub identifiers : is′ ≡ leaves out-identifiers a is

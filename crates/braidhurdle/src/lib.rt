@@ -13,10 +13,12 @@ use record::wide;
 use renumber::renumber;
 use update::update;
 ghost use mathlib.Core.Path.{_≡_};
+ghost use mathlib.Core.List.{[], _∷_};
 ghost use lib.ListN.{length};
 ghost use Rattle.paper.specs.Entries.{find-name, find-id, find-parent, prune-entry, renumber-entry, update-entry};
-ghost use Rattle.paper.specs.Outcome.{found};
-ghost use Rattle.braidhurdle.specs.Numbers.{found-in, found-numbers, sought-numbers, changed-numbers, full-mode, Left, LeftThree};
+ghost use Rattle.paper.specs.Outcome.{found, for-records, for-names, for-identifiers, Answers};
+ghost use Rattle.braidhurdle.specs.Numbers.{found-in, found-numbers, sought-numbers, changed-numbers, laid, full-mode};
+ghost use Rattle.braidhurdle.specs.Lent.{stored, lent};
 ghost use Rattle.braidhurdle.specs.Name.{found-name, name-numbers};
 
 // The answer of update, pruning and renumbering. On a refusal the last three are 0.
@@ -126,45 +128,45 @@ pub extern "C" fn braidhurdle_abi_2() -> u32
 // Drops and adds columns; ids are handed out from `last_id` + 1.
 #[no_mangle]
 pub extern "C" fn braidhurdle_update<'a>(
-    records: &[u8],
+    records: &'a [u8],
     pool: &'a [u8],
-    identifiers: &[u8],
+    identifiers: &'a [u8],
     last_id: u32,
-    deletions: &[u8],
-    additions: &[u8],
-    added_records: &[u8],
+    deletions: &'a [u8],
+    additions: &'a [u8],
+    added_records: &'a [u8],
     request_pool: &'a [u8],
     out_records: &mut [u8],
     out_names: &mut [u8],
 ) -> ChangedNumbers
-    ensures { λ r. ⌜ Left (update-entry (now (records .entry)) (now (pool .entry)) (now (identifiers .entry)) «last_id» (now (deletions .entry)) (now (additions .entry)) (now («added_records» .entry)) (now («request_pool» .entry)) (length (now («out_records» .entry))) (length (now («out_names» .entry)))) r (now («out_records» .entry)) (now («out_names» .entry)) (now («out_records» .exit)) (now («out_names» .exit)) ⌝ }
+    ensures { λ r. ⌜ Answers laid
+        (update-entry (stored (now (records .entry)) (now (pool .entry)) «last_id»)
+        (lent (now (identifiers .entry)) (now (deletions .entry)) (now (additions .entry))
+        (now («added_records» .entry)) (now («request_pool» .entry))
+        (length (now («out_records» .entry))) (length (now («out_names» .entry)))))
+        (for-records (now («out_records» .entry)) ∷ for-names (now («out_names» .entry)) ∷ []) r
+        (now («out_records» .exit) ∷ now («out_names» .exit) ∷ []) ⌝ }
 {
-    let changed = update(
-        records,
-        pool,
-        identifiers,
-        last_id,
-        deletions,
-        additions,
-        added_records,
-        request_pool,
-        out_records,
-        out_names,
-    );
-    lay_changed(changed)
+    let trees = [records, pool, added_records, request_pool];
+    let lists = [identifiers, deletions, additions];
+    lay_changed(update(&trees, &lists, last_id, out_records, out_names))
 }
 
 // Keeps the selected columns; not 0 for full mode.
 #[no_mangle]
-pub extern "C" fn braidhurdle_prune(
-    records: &[u8],
-    pool: &[u8],
+pub extern "C" fn braidhurdle_prune<'a>(
+    records: &'a [u8],
+    pool: &'a [u8],
     selected: &[u8],
     full: u32,
     out_records: &mut [u8],
     out_names: &mut [u8],
 ) -> ChangedNumbers
-    ensures { λ r. ⌜ Left (prune-entry (now (records .entry)) (now (pool .entry)) (now (selected .entry)) (full-mode full) (length (now («out_records» .entry))) (length (now («out_names» .entry)))) r (now («out_records» .entry)) (now («out_names» .entry)) (now («out_records» .exit)) (now («out_names» .exit)) ⌝ }
+    ensures { λ r. ⌜ Answers laid
+        (prune-entry (now (records .entry)) (now (pool .entry)) (now (selected .entry)) (full-mode full)
+        (length (now («out_records» .entry))) (length (now («out_names» .entry))))
+        (for-records (now («out_records» .entry)) ∷ for-names (now («out_names» .entry)) ∷ []) r
+        (now («out_records» .exit) ∷ now («out_names» .exit) ∷ []) ⌝ }
 {
     let changed = prune(records, pool, selected, full != 0, out_records, out_names);
     lay_changed(changed)
@@ -172,16 +174,23 @@ pub extern "C" fn braidhurdle_prune(
 
 // Numbers every column anew from `start` on; identifiers are mapped in the order given.
 #[no_mangle]
-pub extern "C" fn braidhurdle_renumber(
-    records: &[u8],
-    pool: &[u8],
+pub extern "C" fn braidhurdle_renumber<'a>(
+    records: &'a [u8],
+    pool: &'a [u8],
     identifiers: &[u8],
     start: u32,
     out_records: &mut [u8],
     out_names: &mut [u8],
     out_identifiers: &mut [u8],
 ) -> ChangedNumbers
-    ensures { λ r. ⌜ LeftThree (renumber-entry (now (records .entry)) (now (pool .entry)) (now (identifiers .entry)) start (length (now («out_records» .entry))) (length (now («out_names» .entry))) (length (now («out_identifiers» .entry)))) r (now («out_records» .entry)) (now («out_names» .entry)) (now («out_identifiers» .entry)) (now («out_records» .exit)) (now («out_names» .exit)) (now («out_identifiers» .exit)) ⌝ }
+    ensures { λ r. ⌜ Answers laid
+        (renumber-entry (now (records .entry)) (now (pool .entry)) (now (identifiers .entry)) start
+        (length (now («out_records» .entry))) (length (now («out_names» .entry)))
+        (length (now («out_identifiers» .entry))))
+        (for-records (now («out_records» .entry)) ∷ for-names (now («out_names» .entry))
+        ∷ for-identifiers (now («out_identifiers» .entry)) ∷ []) r
+        (now («out_records» .exit) ∷ now («out_names» .exit) ∷ now («out_identifiers» .exit) ∷ [])
+        ⌝ }
 {
     let changed = renumber(
         records,
@@ -197,15 +206,24 @@ pub extern "C" fn braidhurdle_renumber(
 
 // The column of a full name, or else of a short name.
 #[no_mangle]
-pub extern "C" fn braidhurdle_find_name(records: &[u8], pool: &[u8], name: &[u8]) -> FoundNumbers
-    ensures { λ r. ⌜ r ≡ found-in (found (find-name (now (records .entry)) (now (pool .entry)) (now (name .entry)))) ⌝ }
+pub extern "C" fn braidhurdle_find_name<'a>(
+    records: &'a [u8],
+    pool: &'a [u8],
+    name: &[u8],
+) -> FoundNumbers
+    ensures { λ r. ⌜ r ≡ found-in (found (find-name (now (records .entry)) (now (pool .entry))
+        (now (name .entry)))) ⌝ }
 {
     lay_sought(find_name(records, pool, name))
 }
 
 // The slot of an id.
 #[no_mangle]
-pub extern "C" fn braidhurdle_find_id(records: &[u8], pool: &[u8], id: u32) -> FoundNumbers
+pub extern "C" fn braidhurdle_find_id<'a>(
+    records: &'a [u8],
+    pool: &'a [u8],
+    id: u32,
+) -> FoundNumbers
     ensures { λ r. ⌜ r ≡ found-in (found (find-id (now (records .entry)) (now (pool .entry)) id)) ⌝ }
 {
     lay_sought(find_id(records, pool, FieldId(id)))
@@ -213,8 +231,13 @@ pub extern "C" fn braidhurdle_find_id(records: &[u8], pool: &[u8], id: u32) -> F
 
 // The column above that of an id.
 #[no_mangle]
-pub extern "C" fn braidhurdle_find_parent(records: &[u8], pool: &[u8], id: u32) -> FoundNumbers
-    ensures { λ r. ⌜ r ≡ found-in (found (find-parent (now (records .entry)) (now (pool .entry)) id)) ⌝ }
+pub extern "C" fn braidhurdle_find_parent<'a>(
+    records: &'a [u8],
+    pool: &'a [u8],
+    id: u32,
+) -> FoundNumbers
+    ensures { λ r. ⌜ r ≡ found-in (found (find-parent (now (records .entry)) (now (pool .entry))
+        id)) ⌝ }
 {
     lay_sought(find_parent(records, pool, FieldId(id)))
 }
@@ -222,7 +245,8 @@ pub extern "C" fn braidhurdle_find_parent(records: &[u8], pool: &[u8], id: u32) 
 // The name of the record at a slot, as a part of the lent pool. That record alone is read; the tree is not tested.
 #[no_mangle]
 pub extern "C" fn braidhurdle_found_name(records: &[u8], pool: &[u8], slot: u32) -> NameNumbers
-    ensures { λ r. ⌜ r ≡ name-numbers (found-name (now (records .entry)) (now (pool .entry)) slot) ⌝ }
+    ensures { λ r. ⌜ r ≡ name-numbers (found-name (now (records .entry)) (now (pool .entry)) slot)
+        ⌝ }
 {
     let k = slot as usize;
     if records.len() / 24 <= k {

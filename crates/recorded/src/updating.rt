@@ -77,7 +77,9 @@ struct Request {
 // Puts the inputs of the request into the buffer from `from` on, one after the other.
 fn decode_request(line: &[u8], buffer: &mut [u8], from: usize) -> Request
     requires { ⌜ from ≤ length (now buffer) ⌝ }
-    ensures { λ r. ⌜ (from ≤ r .deletions) × (r .deletions ≤ r .additions) × (r .additions ≤ r .added) × (r .added ≤ r .pool) × (r .pool ≤ length (now (buffer .exit))) ⌝ }
+    ensures { λ r. ⌜ (from ≤ r .deletions) × (r .deletions ≤ r .additions)
+        × (r .additions ≤ r .added) × (r .added ≤ r .pool)
+        × (r .pool ≤ length (now (buffer .exit))) ⌝ }
 {
     let deletions = decode(field(line, 6), buffer, from);
     let additions = decode(field(line, 7), buffer, deletions);
@@ -113,20 +115,23 @@ fn call(
     records: &mut [u8],
     names: &mut [u8],
 ) -> Changed
-    requires { ⌜ (base .records ≤ base .pool) × (base .pool ≤ base .third) × (base .third ≤ request .deletions) × (request .deletions ≤ request .additions) × (request .additions ≤ request .added) × (request .added ≤ request .pool) × (request .pool ≤ length (now inputs)) ⌝ }
+    requires { ⌜ (base .records ≤ base .pool) × (base .pool ≤ base .third)
+        × (base .third ≤ request .deletions) × (request .deletions ≤ request .additions)
+        × (request .additions ≤ request .added) × (request .added ≤ request .pool)
+        × (request .pool ≤ length (now inputs)) ⌝ }
 {
-    update(
+    let trees = [
         part(inputs, 0, base.records),
         part(inputs, base.records, base.pool),
-        part(inputs, base.pool, base.third),
-        last_id,
-        part(inputs, base.third, request.deletions),
-        part(inputs, request.deletions, request.additions),
         part(inputs, request.additions, request.added),
         part(inputs, request.added, request.pool),
-        records,
-        names,
-    )
+    ];
+    let lists = [
+        part(inputs, base.pool, base.third),
+        part(inputs, base.third, request.deletions),
+        part(inputs, request.deletions, request.additions),
+    ];
+    update(&trees, &lists, last_id, records, names)
 }
 
 // Whether the last id consumed is the recorded one.

@@ -200,7 +200,8 @@ pub struct Base {
 
 // Puts the first three inputs into the buffer, one after the other.
 pub fn decode_base(line: &[u8], buffer: &mut [u8]) -> Base
-    ensures { λ r. ⌜ (r .records ≤ r .pool) × (r .pool ≤ r .third) × (r .third ≤ length (now (buffer .exit))) ⌝ }
+    ensures { λ r. ⌜ (r .records ≤ r .pool) × (r .pool ≤ r .third)
+        × (r .third ≤ length (now (buffer .exit))) ⌝ }
 {
     let records = decode(field(line, 2), buffer, 0);
     let pool = decode(field(line, 3), buffer, records);

@@ -2,36 +2,38 @@
 use Prim.Native.Nat.{ℕ}
 use mathlib.Core.Path.{_≡_}
 use mathlib.Core.Option.{some}
-use Rattle.theorems.specs.Stored.{Stored, Lent, run-stored, BeginsStored}
+use Rattle.paper.specs.Lent.{Stored, Lent}
+use Rattle.theorems.specs.Stored.{LendsBytes, run-stored, BeginsStored}
 use Rattle.theorems.proofs.Beginning.{T-stored, T-requests}
 use Rattle.theorems.proofs.Promises.{runs-begin, runs-go-on}
 use Rattle.record.specs.declared.Sizes.{Sizes}
 use Rattle.record.specs.declared.Changed.{Changed}
 use Rattle.braidhurdle.specs.declared.ChangedNumbers.{ChangedNumbers}
 use Rattle.update_lasts.specs.Calls.{Call, of-update, of-c-update, Calls, LastingCalls}
-use Rattle.update_lasts.proofs.Kept as Kept
-use Rattle.update_lasts.proofs.Going as Going
-use Rattle.update_lasts.proofs.Going.{calls-of, c-calls-of}
+use Rattle.update_lasts.proofs.Kept.{update-reads, c-update-reads, calls-last}
+use Rattle.update_lasts.proofs.Going.{calls-of, calls-run, shown-accepted}
 
 -- Whoever calls `update` again and again and stores what it answers has demand 3 of all that was stored.
 -- That `of-update` is the function's own `ensures` is `update-says` (Tied.antt).
 pub update-lasts : (at : ℕ → Stored) (calls : ℕ → Call Changed) → BeginsStored (at 0) → Calls of-update at calls
     → LastingCalls of-update at calls
-update-lasts = Kept.update-lasts
+update-lasts = calls-last of-update update-reads
 
 -- So has whoever calls the C function; `c-update-says` is the tie.
 pub c-update-lasts : (at : ℕ → Stored) (calls : ℕ → Call ChangedNumbers) → BeginsStored (at 0)
     → Calls of-c-update at calls → LastingCalls of-c-update at calls
-c-update-lasts = Kept.c-update-lasts
+c-update-lasts = calls-last of-c-update c-update-reads
 
 -- Neither is empty: whatever is stored and lent, there are such calls;
-pub updates-run : (s : Stored) (requests : ℕ → Lent)
-    → Calls of-update (run-stored s requests) (calls-of s requests)
-    × Calls of-c-update (run-stored s requests) (c-calls-of s requests)
-updates-run s requests = (Going.update-runs s requests, Going.c-update-runs s requests)
+pub updates-run : (s : Stored) (requests : ℕ → Lent) → LendsBytes requests
+    → Calls of-update (run-stored s requests) (calls-of of-update s requests)
+    × Calls of-c-update (run-stored s requests) (calls-of of-c-update s requests)
+updates-run s requests b =
+    (calls-run of-update update-reads s requests b, calls-run of-c-update c-update-reads s requests b)
 
 -- and T begins a run whose first two calls are accepted.
-pub updates-go-on : BeginsStored T-stored
-    × ((z : Sizes) × (of-update .sizes (calls-of T-stored T-requests 0 .answer) ≡ some z))
-    × ((z : Sizes) × (of-update .sizes (calls-of T-stored T-requests 1 .answer) ≡ some z))
-updates-go-on = (runs-begin .1, Going.T-accepts 0 _ _ (runs-go-on .0), Going.T-accepts 1 _ _ (runs-go-on .1))
+pub updates-go-on : BeginsStored T-stored × LendsBytes T-requests
+    × ((z : Sizes) × (of-update .sizes (calls-of of-update T-stored T-requests 0 .answer) ≡ some z))
+    × ((z : Sizes) × (of-update .sizes (calls-of of-update T-stored T-requests 1 .answer) ≡ some z))
+updates-go-on =
+    (runs-begin .1, runs-begin .2, shown-accepted _ _ _ (runs-go-on .0), shown-accepted _ _ _ (runs-go-on .1))

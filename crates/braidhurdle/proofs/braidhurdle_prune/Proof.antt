@@ -1,17 +1,16 @@
 -- The entry leaves what the paper says; its numbers are laid out.
 -- Assumes nothing.
-use Rattle.braidhurdle.proofs.Telling.{telling}
+use Rattle.braidhurdle.proofs.Telling.{left-told}
 use borrow.Author.Needs.{needs}
 use Rattle.braidhurdle.proofs.braidhurdle_prune.Statement.{statement}
 use Rattle.braidhurdle.proofs.braidhurdle_prune.Tie as tie
 
 pub braidhurdle-prune-spec : {M : Type 1} → statement M
 braidhurdle-prune-spec =
-    tie.close
-    (tie.spec
-    (λ c κs. search (telling, needs))  -- prune-requires
-    (λ c κs. search (telling, needs))  -- lay-changed-requires
-    (λ c. search (telling, needs))  -- same-length
-    (λ c. search (telling, needs))  -- same-length-2
-    (λ c. search (telling, needs))  -- returns
+    tie.close (tie.spec
+    (λ c κs. search needs)  -- prune-requires
+    (λ c κs. search needs)  -- lay-changed-requires
+    (λ c. search needs)  -- same-length
+    (λ c. search needs)  -- same-length-2
+    (λ c. search (left-told, needs))  -- returns
     )

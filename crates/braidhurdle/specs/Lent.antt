@@ -1,0 +1,19 @@
+-- What an update's C function is lent, in the order of its parameters.
+use Prim.Native.Nat.{ℕ}
+use mathlib.Core.List.{List}
+use Rattle.paper.specs.Lent.{Stored, Lent}
+
+abbrev pub stored : (records pool : List ℕ) (last : ℕ) → Stored
+stored records pool last = record { records = records; pool = pool; last = last }
+
+abbrev pub lent : (identifiers deletions additions added-records request-pool : List ℕ) (room-records room-names : ℕ) → Lent
+lent identifiers deletions additions added-records request-pool room-records room-names =
+    record {
+      identifiers = identifiers;
+      deletions = deletions;
+      additions = additions;
+      added-records = added-records;
+      request-pool = request-pool;
+      room-records = room-records;
+      room-names = room-names;
+    }
