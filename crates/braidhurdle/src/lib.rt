@@ -163,8 +163,8 @@ pub extern "C" fn braidhurdle_prune<'a>(
     out_names: &mut [u8],
 ) -> ChangedNumbers
     ensures { λ r. ⌜ Answers laid
-        (prune-entry (now (records .entry)) (now (pool .entry)) (now (selected .entry)) (full-mode full)
-        (length (now («out_records» .entry))) (length (now («out_names» .entry))))
+        (prune-entry (now (records .entry)) (now (pool .entry)) (now (selected .entry))
+        (full-mode full) (length (now («out_records» .entry))) (length (now («out_names» .entry))))
         (for-records (now («out_records» .entry)) ∷ for-names (now («out_names» .entry)) ∷ []) r
         (now («out_records» .exit) ∷ now («out_names» .exit) ∷ []) ⌝ }
 {
@@ -224,7 +224,8 @@ pub extern "C" fn braidhurdle_find_id<'a>(
     pool: &'a [u8],
     id: u32,
 ) -> FoundNumbers
-    ensures { λ r. ⌜ r ≡ found-in (found (find-id (now (records .entry)) (now (pool .entry)) id)) ⌝ }
+    ensures { λ r. ⌜ r ≡ found-in
+        (found (find-id (now (records .entry)) (now (pool .entry)) id)) ⌝ }
 {
     lay_sought(find_id(records, pool, FieldId(id)))
 }

@@ -16,7 +16,6 @@ use record::under_of;
 use tree::Walked;
 use tree::row_end;
 use tree::tree_end;
-use update_dropped::Dropped;
 use update_dropped::holds;
 ghost use mathlib.Core.Path.{_≡_};
 ghost use mathlib.Core.Bool.{true, not, _&&_};
@@ -372,16 +371,20 @@ pub fn rebuild<'a>(
     trees: &Trees<'a>,
     given: Given,
     roots: u32,
-    dropped: Dropped,
+    dropped: &[u32; 64],
+    drops: usize,
     decisions: &Decisions,
     plan: &mut PlanRows,
 ) -> Step
-    requires { ⌜ Based (trees-in (now trees) .records) (given .base) roots × Good dropped
+    requires { ⌜ Based (trees-in (now trees) .records) (given .base) roots
+        × Good (set-of (now dropped) drops)
         × ResolvedIn (trees-in (now trees) .added-records) given (now decisions)
         × (length (now plan) ≡ 3) ⌝ }
     ensures { λ r. ⌜ Rebuilds (rebuilt-base (trees-in (now (trees .entry)) .records) (given .base)
-        (dropped-ids dropped) (additions-in (trees-in (now (trees .entry)) .added-records) given
-        (now (decisions .entry)))) (given .base) (now (plan .entry)) r (now (plan .exit)) ⌝ }
+        (dropped-ids (set-of (now (dropped .entry)) drops))
+        (additions-in (trees-in (now (trees .entry)) .added-records) given
+        (now (decisions .entry))))
+        (given .base) (now (plan .entry)) r (now (plan .exit)) ⌝ }
 {
     let all = Siblings {
         slot: 0,
@@ -389,15 +392,5 @@ pub fn rebuild<'a>(
         levels: 16,
     };
     let under = Under { opens: true, q: 0 };
-    rebuild_fields(
-        trees,
-        given,
-        all,
-        under,
-        &dropped.ids,
-        dropped.n,
-        decisions,
-        plan,
-        0,
-    )
+    rebuild_fields(trees, given, all, under, dropped, drops, decisions, plan, 0)
 }

@@ -243,4 +243,4 @@ module _ (l : Trees) (i : List ℕ) (given : Given) (c : ℕ) (decisions plan in
                           rw (limited-is base e (turned (given .last)), z) record { told = rw (b .bytes, n, eb); left = rw (b .rows, b .pool) refl };
                     }
 
-pub ruleset ending = (full-stops, names-stop, sound-stops)
+pub ruleset ending = (full-stops, names-stop)

@@ -39,7 +39,15 @@ pub fn write_rebuilt<'a>(
 {
     // plan
     let dropped = gather(decisions, given.deletions);
-    let step = rebuild(trees, given, roots, dropped, decisions, plan);
+    let step = rebuild(
+        trees,
+        given,
+        roots,
+        &dropped.ids,
+        dropped.n,
+        decisions,
+        plan,
+    );
     let Step::Went(place) = step else {
         // refusal 19: records or levels
         return Changed::Refused(Refusal {
