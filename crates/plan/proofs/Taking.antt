@@ -90,7 +90,7 @@ module _ (list : ℕ) (l : Trees) (t : Forest Field) where
 
 -- ---- what it is a plan of
 
-own-field : (l : Trees) (k : ℕ) → k < 1024 → planned-field l (own-source (l .records) k) ≡ field-at (l .pool) (l .records) k
+pub own-field : (l : Trees) (k : ℕ) → k < 1024 → planned-field l (own-source (l .records) k) ≡ field-at (l .pool) (l .records) k
 unfolding planned-field source-field field-at
 own-field l k b = rw (lt-ltb k 1024 b)
 

@@ -5,7 +5,6 @@ use mathlib.Core.List.{List}
 use Prim.Native.Nat.{ℕ, _≤_, _<_}
 use native.Mathlib.Nat.{zero-add}
 use native.Mathlib.Omega.{arith}
-use borrow.Author.Tests.{lt-ltb}
 use Rattle.paper.specs.declared.Role.the-variants.{Member}
 use Rattle.paper.specs.Forest.{Forest, empty, node, size, levels, mapped}
 use Rattle.paper.specs.Bytes.{field-at, kind-at, kids-at, slots}
@@ -13,22 +12,18 @@ use Rattle.paper.specs.Decode.{fields}
 use Rattle.laws.proofs.Fitting.{size-mapped, levels-mapped}
 use Rattle.laws.proofs.Preorder.{mapped-mapped}
 use Rattle.record.specs.Trees.{Trees, alone}
-use Rattle.plan.specs.Plan.{planned-field, source-field, Sits}
+use Rattle.plan.specs.Plan.{planned-field, Sits}
 use Rattle.plan.specs.Draft.{Drawn}
 use Rattle.plan.specs.Sources.{own-source}
 use Rattle.plan.specs.Table.{Roomy, PlanIn, fields-in}
 use Rattle.plan.proofs.Laying.{laid-fields, laid-draft, draft-plan}
-use Rattle.plan.proofs.Taking.{base-sits}
+use Rattle.plan.proofs.Taking.{base-sits, own-field}
 use Rattle.tree_walk.specs.There.{row-of}
 use Rattle.tree_walk.proofs.Opening.{Opened}
 use Rattle.prune_columns.specs.declared.Step.{Step}
 use Rattle.prune_columns.specs.Split.{projected}
 use Rattle.prune_columns.specs.Projected.{marked, Kept}
 use Rattle.prune.proofs.Parts.{Below, laid-below, Within, projected-within}
-
-own-field : (l : Trees) (k : ℕ) → k < 1024 → planned-field l (own-source (l .records) k) ≡ field-at (l .pool) (l .records) k
-unfolding planned-field source-field field-at
-own-field l k b = rw (lt-ltb k 1024 b)
 
 mapped-below : {B : Type 0} (f g : ℕ → B) (n : ℕ) (t : Forest ℕ) → Below n t → ((j : ℕ) → j < n → f j ≡ g j) → mapped f t ≡ mapped g t
 unfolding mapped
