@@ -2,6 +2,7 @@
 use index_identifiers::check_identifiers;
 use index_ids::IndexRows;
 use index_ids::UPS;
+use index_ids::cell;
 use index_ids::check_ids;
 use index_names::Prefix;
 use index_names::check_names;
@@ -23,7 +24,6 @@ use record::Slot;
 use record::Sought;
 use record::Trees;
 use record::has_dot;
-use record::place;
 use tree::Shaped;
 use tree::read_tree;
 ghost use mathlib.Core.Path.{_≡_};
@@ -161,7 +161,7 @@ pub fn look_parent(plan: &PlanRows, m: usize, index: &IndexRows, id: FieldId) ->
         return Found::Nothing;
     };
     let k = slot.0;
-    let up = place(index[UPS][k]);
+    let up = cell(index, UPS, k);
     if up == 0 {
         return Found::Nothing;
     }

@@ -4,18 +4,17 @@ use plan::PlanRows;
 use record::Check;
 use record::FoundSlot;
 use record::Refusal;
-use record::place;
 use record::slot_before;
 ghost use mathlib.Core.Path.{_≡_};
 ghost use lib.Dec.{eqb};
 ghost use Prim.Native.Nat.{_-_, _≤_, _<_};
-ghost use lib.ListN.{length};
+ghost use lib.ListN.{length, getD};
 ghost use Rattle.paper.specs.Bytes.{turned};
 ghost use Rattle.record.specs.Says.{slot-before};
 ghost use Rattle.plan.specs.Table.{numbers};
 ghost use Rattle.index_ids.specs.Chain.{pick, lowest-below, Cleared};
 ghost use Rattle.index_ids.specs.Ids.{bucket-of, id-in, is-id, new-id};
-ghost use Rattle.index_ids.specs.Table.{Rooms, EnteredIn, IdsChained, IndexedIn};
+ghost use Rattle.index_ids.specs.Table.{row, Rooms, EnteredIn, IdsChained, IndexedIn};
 
 // An index's rows. A place is one more than a slot, or 0 for none: the heads of the chains of ids and their links; of each slot the
 // place above it, and the length and the tag of its full name; the heads of the chains of full names and their links.
@@ -40,6 +39,21 @@ pub fn bucket_of(key: u32) -> usize
     ensures { λ r. ⌜ (r ≡ bucket-of (turned key)) × (r < 1024) ⌝ }
 {
     (key as u64 * 2654435761 / 4194304 % 1024) as usize
+}
+
+// A number of 16 bits as a place, a length or a tag.
+fn place(x: u16) -> usize
+    ensures { λ r. ⌜ (r ≡ x) × (r < 65536) ⌝ }
+{
+    x as usize
+}
+
+// What a row keeps at k.
+pub fn cell(index: &IndexRows, line: usize, k: usize) -> usize
+    requires { ⌜ (line < 7) × (k < 1024) ⌝ }
+    ensures { λ r. ⌜ (r ≡ getD (row (now (index .entry)) line) k 0) × (r < 65536) ⌝ }
+{
+    place(index[line][k])
 }
 
 // All chains are made empty.
@@ -89,10 +103,10 @@ pub fn find_id(plan: &PlanRows, index: &IndexRows, k: usize, id: u32) -> FoundSl
 {
     let b = bucket_of(id);
     let mut best = 0;
-    let mut at = place(index[ID_HEADS][b]);
+    let mut at = cell(index, ID_HEADS, b);
     while 0 < at {
         best = better(plan, id, at, best);
-        at = place(index[ID_NEXT][at - 1]);
+        at = cell(index, ID_NEXT, at - 1);
     }
     slot_before(best)
 }

@@ -11,13 +11,15 @@ use Rattle.paper.specs.Forest.{Forest, empty, node, size}
 use Rattle.paper.specs.Layout.{Part, nothing, before}
 use Rattle.paper.specs.Rows.{dotted}
 use Rattle.laws.proofs.Runs.{sets-append, map-append}
+use Rattle.record.specs.Trees.{Trees}
 use Rattle.index_ids.specs.Table.{row, Within}
 use Rattle.index_ids.proofs.Tables.{within-same, within-both, within-wider, within-cell, row-left}
+use Rattle.index_names.specs.declared.Prefix.{Prefix}
 use Rattle.index_names.specs.Walk.{walk}
 use Rattle.index_names.specs.Hash.{mix, hash-on, hash-of, tag, tag-of}
 use Rattle.index_names.specs.Full.{fulls, ups}
-use Rattle.index_names.specs.Told.{Marked}
-use Rattle.index_names.specs.Table.{MarkedIn}
+use Rattle.index_names.specs.Told.{Sources, Marked}
+use Rattle.index_names.specs.Table.{inside, PutIn, OneIn, MarkedIn}
 use Rattle.index_names.proofs.Hashing.{hash-append}
 use Rattle.index_names.proofs.Walks.{walk-none, walk-deep, walk-past, walk-in, filled}
 
@@ -88,22 +90,19 @@ module _ (t : List (List ℕ)) (k u own x : ℕ) where
   abbrev third : List (List ℕ)
   third = set second 4 (set (row second 4) k x)
 
-  third-ups : row third 2 ≡ set (row t 2) k u
-  third-ups = row-left second 4 _ 2 (λ z. omega arith) ∙ row-left first 3 _ 2 (λ z. omega arith) ∙ cell-stored t 2 k u
-
-  third-lens : row third 3 ≡ set (row t 3) k own
-  third-lens = row-left second 4 _ 3 (λ z. omega arith) ∙ cell-stored first 3 k own ∙ ap (λ (z : List ℕ). set z k own) (row-left t 2 _ 3 (λ z. omega arith))
-
-  third-tags : row third 4 ≡ set (row t 4) k x
-  third-tags = cell-stored second 4 k x ∙ ap (λ (z : List ℕ). set z k x) (row-left first 3 _ 4 (λ z. omega arith) ∙ row-left t 2 _ 4 (λ z. omega arith))
-
-  third-within : Within 2 5 t third
-  third-within =
-      within-both 2 5 t first third
-      (within-wider 2 3 2 5 t first (within-cell t 2 k u) (omega arith) (omega arith))
-      (within-both 2 5 first second third
-      (within-wider 3 4 2 5 first second (within-cell first 3 k own) (omega arith) (omega arith))
-      (within-wider 4 5 2 5 second third (within-cell second 4 k x) (omega arith) (omega arith)))
+  pub put-three : PutIn k u own x t third
+  put-three =
+      record {
+        ups-put = row-left second 4 _ 2 (λ z. omega arith) ∙ row-left first 3 _ 2 (λ z. omega arith) ∙ cell-stored t 2 k u;
+        lens-put = row-left second 4 _ 3 (λ z. omega arith) ∙ cell-stored first 3 k own ∙ ap (λ (z : List ℕ). set z k own) (row-left t 2 _ 3 (λ z. omega arith));
+        tags-put = cell-stored second 4 k x ∙ ap (λ (z : List ℕ). set z k x) (row-left first 3 _ 4 (λ z. omega arith) ∙ row-left t 2 _ 4 (λ z. omega arith));
+        within =
+            within-both 2 5 t first third
+            (within-wider 2 3 2 5 t first (within-cell t 2 k u) (omega arith) (omega arith))
+            (within-both 2 5 first second third
+            (within-wider 3 4 2 5 first second (within-cell first 3 k own) (omega arith) (omega arith))
+            (within-wider 4 5 2 5 second third (within-cell second 4 k x) (omega arith) (omega arith)));
+      }
 
 module _ (name : ℕ → List ℕ) (kids : ℕ → ℕ) (n lv c k u l h : ℕ) (t : List (List ℕ)) where
   nothing-in : walk kids n lv c k ≡ nothing k → MarkedIn name (walk kids n lv c k) k u l h t t k
@@ -118,15 +117,15 @@ module _ (name : ℕ → List ℕ) (kids : ℕ → ℕ) (n lv c k u l h : ℕ) (
   mark-past : n ≤ k → MarkedIn name (walk kids n lv c k) k u l h t t k
   mark-past e = nothing-in (walk-past kids n lv c k e)
 
-  mark-turn : (m own h₁ h₂ x j r : ℕ) (t₁ t₂ : List (List ℕ)) → (lv ≡ 0 → ⊥) → (c ≡ 0 → ⊥) → k < n → m ≡ kids k → own ≡ l + length (name k) → h₁ ≡ hash-on h (name k) → h₂ ≡ mix h₁ 46 → x ≡ tag h₁
-      → MarkedIn name (walk kids n (lv - 1) m (k + 1)) (k + 1) (k + 1) (own + 1) h₂ (third t k u own x) t₁ j
+  mark-turn : (m own h₁ h₂ x j r : ℕ) (t₀ t₁ t₂ : List (List ℕ)) → (lv ≡ 0 → ⊥) → (c ≡ 0 → ⊥) → k < n → m ≡ kids k → own ≡ l + length (name k) → h₁ ≡ hash-on h (name k) → h₂ ≡ mix h₁ 46 → x ≡ tag h₁ → PutIn k u own x t t₀
+      → MarkedIn name (walk kids n (lv - 1) m (k + 1)) (k + 1) (k + 1) (own + 1) h₂ t₀ t₁ j
       → MarkedIn name (walk kids n lv (c - 1) j) j u l h t₁ t₂ r → MarkedIn name (walk kids n lv c k) k u l h t t₂ r
-  mark-turn m own h₁ h₂ x j r t₁ t₂ e f q em eo eh eh₂ ex w v =
+  mark-turn m own h₁ h₂ x j r t₀ t₁ t₂ e f q em eo eh eh₂ ex put w v =
       record {
         marked = joined-marked name (walk kids n lv c k) (walk kids n (lv - 1) m (suc k)) (walk kids n lv (c - 1) j) k u l h own h₁ j r _ _ _ _ _ _ _ _ _
             (rw (← (w .marked .next), add-one k) at (walk-in kids n lv c k m e f q em)) eo eh (rw (add-one k) at (w .marked .next ∙ filled kids n (lv - 1) m (k + 1) (omega arith) .count))
-            (rw (third-ups t k u own x, third-lens t k u own x, third-tags t k u own x, ex, eh₂, add-one k) at (w .marked)) (v .marked);
-        within = within-both 2 5 t _ t₂ (third-within t k u own x) (within-both 2 5 _ t₁ t₂ (w .within) (v .within));
+            (rw (put .ups-put, put .lens-put, put .tags-put, ex, eh₂, add-one k) at (w .marked)) (v .marked);
+        within = within-both 2 5 t t₀ t₂ (put .within) (within-both 2 5 t₀ t₁ t₂ (w .within) (v .within));
       }
 
 -- the next slot is within the list
@@ -148,23 +147,33 @@ module _ (name : ℕ → List ℕ) (kids : ℕ → ℕ) (n lv c k u l h : ℕ) (
   pub onward-done : c′ ≤ 0 → MarkedIn name (walk kids n lv c k) k u l h old t k′
   onward-done e = on .go k′ t (mark-none name kids n lv c′ k′ u l h t (omega arith))
 
-  pub onward-goes : (m x h₁ h₂ tg j : ℕ) (t₁ : List (List ℕ)) → (lv ≡ 0 → ⊥) → 0 < c′ → k′ < n → m ≡ kids k′ → x ≡ length (name k′) → h₁ ≡ hash-on h (name k′) → h₂ ≡ mix h₁ 46 → tg ≡ tag h₁
-      → MarkedIn name (walk kids n (lv - 1) m (k′ + 1)) (k′ + 1) (k′ + 1) (l + x + 1) h₂ (third t k′ u (l + x) tg) t₁ j
-      → Onward name kids n lv c k u l h old (c′ - 1) j t₁
-  onward-goes m x h₁ h₂ tg j t₁ e f q em ex eh eh₂ et w =
+-- One record is marked, and what is inside it.
+pub one-marked : (name : ℕ → List ℕ) (k x h h₂ tg : ℕ) (p : Prefix) (t t₀ : List (List ℕ)) → x ≡ length (name k) → x ≤ 255 → h ≡ hash-on (p .hash) (name k) → tg ≡ tag h → h₂ ≡ mix h 46 → PutIn k (p .up) (p .len + x) tg t t₀ → OneIn name k p record { up = k + 1; len = p .len + x + 1; hash = h₂ } t t₀
+one-marked name k x h h₂ tg p t t₀ ex lx eh et eh₂ put = record { put = rw (← eh, ← et, ← ex) put; inner = rw (ex, eh₂, eh); room = omega arith }
+
+module _ (name : ℕ → List ℕ) (kids : ℕ → ℕ) (n lv c k : ℕ) (p : Prefix) (old : List (List ℕ)) (c′ k′ : ℕ) (t : List (List ℕ)) (on : Onward name kids n lv c k (p .up) (p .len) (p .hash) old c′ k′ t) (r : Prefix) (t₀ : List (List ℕ)) (e : lv ≡ 0 → ⊥) (f : 0 < c′) (q : k′ < n) (one : OneIn name k′ p r t t₀) where
+  pub onward-goes : (m j : ℕ) (t₁ : List (List ℕ)) → m ≡ kids k′ → MarkedIn name (walk kids n (lv - 1) m (k′ + 1)) (k′ + 1) (r .up) (r .len) (r .hash) t₀ t₁ j → Onward name kids n lv c k (p .up) (p .len) (p .hash) old (c′ - 1) j t₁
+  onward-goes m j t₁ em w =
+      let i = inside name k′ p in
+      let w′ : MarkedIn name (walk kids n (lv - 1) m (k′ + 1)) (k′ + 1) (i .up) (i .len) (i .hash) t₀ t₁ j = rw (one .inner) at w in
       record {
-        small = mark-room name kids n (lv - 1) m (k′ + 1) (k′ + 1) (l + x + 1) h₂ j _ t₁ w (omega arith);
-        go = λ r t₂ v. on .go r t₂ (mark-turn name kids n lv c′ k′ u l h t m (l + x) h₁ h₂ tg j r t₁ t₂ e (λ z. omega arith) q em (ap (λ z. l + z) ex) eh eh₂ et w v);
+        small = mark-room name kids n (lv - 1) m (k′ + 1) (i .up) (i .len) (i .hash) j t₀ t₁ w′ (omega arith);
+        go = λ s t₂ v. on .go s t₂ (mark-turn name kids n lv c′ k′ (p .up) (p .len) (p .hash) t m (p .len + length (name k′)) (hash-on (p .hash) (name k′)) (i .hash) (tag (hash-on (p .hash) (name k′))) j s t₀ t₁ t₂ e (λ z. omega arith) q em refl refl refl refl (one .put) w′ v);
       }
 
   -- Inside a leaf there is nothing to mark.
-  pub onward-leaf : (x h₁ tg : ℕ) → (lv ≡ 0 → ⊥) → 0 < c′ → k′ < n → kids k′ ≡ 0 → x ≡ length (name k′) → h₁ ≡ hash-on h (name k′) → tg ≡ tag h₁
-      → Onward name kids n lv c k u l h old (c′ - 1) (k′ + 1) (third t k′ u (l + x) tg)
-  onward-leaf x h₁ tg e f q none ex eh et =
-      onward-goes _ x h₁ _ tg (k′ + 1) _ e f q refl ex eh refl et (mark-none name kids n (lv - 1) _ (k′ + 1) (k′ + 1) (l + x + 1) _ _ none)
+  pub onward-leaf : kids k′ ≡ 0 → Onward name kids n lv c k (p .up) (p .len) (p .hash) old (c′ - 1) (k′ + 1) t₀
+  onward-leaf none = onward-goes _ (k′ + 1) t₀ refl (mark-none name kids n (lv - 1) _ (k′ + 1) (r .up) (r .len) (r .hash) t₀ none)
 
 pub level-falls : (lv t : ℕ) → lv ≡ t → (lv ≡ 0 → ⊥) → lv - 1 < t
 level-falls lv t e h = omega arith
 
-pub room-in : (lv len x : ℕ) → (lv ≡ 0 → ⊥) → x ≤ 255 → len + lv * 256 ≤ 4096 → len + x + 1 + (lv - 1) * 256 ≤ 4096
-room-in lv len x e l h = omega arith
+pub room-here : (lv len : ℕ) → (lv ≡ 0 → ⊥) → len + lv * 256 ≤ 4096 → len + 255 ≤ 4096
+room-here lv len e h = omega arith
+
+module _ (name : ℕ → List ℕ) (k : ℕ) (p r : Prefix) (t t₀ : List (List ℕ)) (one : OneIn name k p r t t₀) where
+  pub room-in : (lv : ℕ) → (lv ≡ 0 → ⊥) → p .len + lv * 256 ≤ 4096 → r .len + (lv - 1) * 256 ≤ 4096
+  room-in lv e h = omega (arith, one .room)
+
+  pub up-in : (l : Trees) (xs : List ℕ) (n : ℕ) → Sources l xs n → k < n → r .up ≤ 1024
+  up-in l xs n s q = omega (arith, s .few, ap (λ (z : Prefix). z .up) (one .inner))

@@ -273,11 +273,8 @@ and-false true d e = e
 and-false false d e = refl
 
 module _ (l : Trees) (xs : List ℕ) (m : ℕ) (us ls : List ℕ) (sp : Spelt l xs m us ls) (a b : ℕ) where
-  pub climb-differs : a < m → b < m → (getD ls a 0 ≡ getD ls b 0 → ⊥) → false ≡ same-name l xs us a b
-  climb-differs qa qb d = names-differ l xs m us ls sp a b _ _ qa qb refl refl d
-
-  pub climb-starts : (u v : ℕ) → a < m → b < m → getD ls a 0 ≡ getD ls b 0 → u ≡ getD us a 0 → v ≡ getD us b 0 → Climbing (name-in l xs) us m a b a b u v
-  climb-starts u v qa qb e eu ev = record { left = qa; right = qb; up-left = eu; up-right = ev; near-left = few-above l xs m us ls sp a u qa eu; near-right = few-above l xs m us ls sp b v qb ev; long = sym (sp .len a qa) ∙ e ∙ sp .len b qb; whole = refl }
+  pub climb-starts : (la lb u v : ℕ) → a < m → b < m → la ≡ getD ls a 0 → lb ≡ getD ls b 0 → la ≡ lb → u ≡ getD us a 0 → v ≡ getD us b 0 → Climbing (name-in l xs) us m a b a b u v
+  climb-starts la lb u v qa qb ea eb e eu ev = record { left = qa; right = qb; up-left = eu; up-right = ev; near-left = few-above l xs m us ls sp a u qa eu; near-right = few-above l xs m us ls sp b v qb ev; long = sym (ea ∙ sp .len a qa) ∙ e ∙ eb ∙ sp .len b qb; whole = refl }
 
   module _ (s t u v : ℕ) (h : Climbing (name-in l xs) us m a b s t u v) where
     pub climb-apart : (r : Bool) → r ≡ same-name l xs us s t → r ≡ same-name l xs us a b
@@ -322,7 +319,7 @@ module _ (l : Trees) (xs : List ℕ) (m : ℕ) (us ls : List ℕ) (sp : Spelt l 
           pub climb-goes : (u′ v′ : ℕ) → not r ≡ false → u′ ≡ getD us (u - 1) 0 → v′ ≡ getD us (v - 1) 0 → Climbing (name-in l xs) us m a b (u - 1) (v - 1) u′ v′
           climb-goes u′ v′ n eu ev = record { left = climb-under; right = climb-over; up-left = eu; up-right = ev; near-left = few-above l xs m us ls sp (u - 1) u′ climb-under eu; near-right = few-above l xs m us ls sp (v - 1) v′ climb-over ev; long = parts .0; whole = h .whole ∙ parts .1 ∙ and-true (same-name l xs us (u - 1) (v - 1)) r (not-false r n) }
 
-pub ruleset climbing = (climb-differs, climb-starts, climb-apart, climb-ends, climb-left, climb-right, climb-falls, climb-over, climb-under, climb-stops, climb-goes)
+pub ruleset climbing = (names-differ, climb-starts, climb-apart, climb-ends, climb-left, climb-right, climb-falls, climb-over, climb-under, climb-stops, climb-goes)
 
 -- ---- comparing with asked bytes: the name is x exactly where the name of s is x up to `end`
 

@@ -1,5 +1,6 @@
 -- The same, said of a plan's table and an index's.
-use Prim.Native.Nat.{ℕ}
+use Prim.Native.Nat.{ℕ, _+_, _≤_}
+use mathlib.Core.Path.{_≡_}
 use mathlib.Core.List.{List}
 use Rattle.paper.specs.declared.Kind.{Kind}
 use Rattle.paper.specs.Layout.{Part}
@@ -8,8 +9,11 @@ use Rattle.record.specs.Trees.{Trees}
 use Rattle.plan.specs.Plan.{kids-in}
 use Rattle.plan.specs.Table.{sources, members}
 use Rattle.index_ids.specs.Chain.{Chained}
+use lib.ListN.{length, set}
 use Rattle.index_ids.specs.Table.{ups-in, lens-in, tags-in, name-heads, name-next, Within}
+use Rattle.index_names.specs.declared.Prefix.{Prefix}
 use Rattle.index_names.specs.Walk.{walk}
+use Rattle.index_names.specs.Hash.{mix, hash-on, tag}
 use Rattle.index_names.specs.Full.{full-at}
 use Rattle.index_names.specs.Told.{name-in, kind-in, Sources, Marked, Spelt, Tagged, name-bucket, Unequal}
 
@@ -38,6 +42,23 @@ TaggedIn l plan m index = Tagged l (sources plan) m (ups-in index) (tags-in inde
 
 abbrev pub NamesChained : Trees → (plan index : List (List ℕ)) (m : ℕ) → Type 0
 NamesChained l plan index m = Chained (name-bucket l (sources plan) (ups-in index)) (name-heads index) (name-next index) m
+
+-- What is kept of one slot is put into the three rows of the names, and no other is written.
+pub record PutIn (k up len tag : ℕ) (old new : List (List ℕ)) : Type 0 where
+  pub ups-put : ups-in new ≡ set (ups-in old) k up
+  pub lens-put : lens-in new ≡ set (lens-in old) k len
+  pub tags-put : tags-in new ≡ set (tags-in old) k tag
+  pub within : Within 2 5 old new
+
+-- What stands before the names inside the record k.
+abbrev pub inside : (name : ℕ → List ℕ) (k : ℕ) → Prefix → Prefix
+inside name k p = record { up = k + 1; len = p .len + length (name k) + 1; hash = mix (hash-on (p .hash) (name k)) 46 }
+
+-- One record is marked.
+pub record OneIn (name : ℕ → List ℕ) (k : ℕ) (p r : Prefix) (old new : List (List ℕ)) : Type 0 where
+  pub put : PutIn k (p .up) (p .len + length (name k)) (tag (hash-on (p .hash) (name k))) old new
+  pub inner : r ≡ inside name k p
+  pub room : r .len ≤ p .len + 256
 
 -- What a walk over a row leaves: the three rows of the names, and no other, are written.
 pub record MarkedIn (name : ℕ → List ℕ) (p : Part) (slot up len hash : ℕ) (old new : List (List ℕ)) (r : ℕ) : Type 0 where

@@ -3,6 +3,7 @@ use index::open_base;
 use index_ids::IndexRows;
 use index_ids::LENS;
 use index_ids::UPS;
+use index_ids::cell;
 use index_names::name_of;
 use plan::NUMBERS;
 use plan::PlanRows;
@@ -10,7 +11,6 @@ use plan::put_bytes;
 use record::Check;
 use record::Refusal;
 use record::Trees;
-use record::place;
 ghost use mathlib.Core.Path.{_≡_};
 ghost use Prim.Native.Nat.{_+_, _-_, _<_, _≤_};
 ghost use lib.ListN.{length, take, drop};
@@ -74,13 +74,6 @@ fn put_signed(out: &mut [u8], at: usize, id: u32) -> usize
     put_decimal(out, at + 1, 4294967295 - id + 1)
 }
 
-// A length, which a u16 keeps below 65,536.
-fn span(x: u16) -> usize
-    ensures { λ r. ⌜ (r ≡ x) × (r < 65536) ⌝ }
-{
-    place(x)
-}
-
 // The full name of a slot from `at` on: its own name at the end, then the names above it, each before a dot.
 fn put_full<'a>(
     trees: &Trees<'a>,
@@ -96,14 +89,14 @@ fn put_full<'a>(
     ensures { λ r. ⌜ Put (full-in (trees-in (now (trees .entry))) (now (plan .entry))
         (now (index .entry)) slot) at (now (out .entry)) r (now (out .exit)) × (r ≤ at + 65535) ⌝ }
 {
-    let stop = at + span(index[LENS][slot]);
+    let stop = at + cell(index, LENS, slot);
     let mut end = stop;
     let mut here = slot;
     loop {
         let name = name_of(trees, plan, m, here);
         let from = end - name.len();
         put_bytes(out, from, name);
-        let up = place(index[UPS][here]);
+        let up = cell(index, UPS, here);
         if up == 0 {
             return stop;
         }
@@ -155,7 +148,7 @@ fn put_line<'a>(
     ensures { λ r. ⌜ Put (line-at (trees-in (now (trees .entry))) (now (plan .entry))
         (now (index .entry)) slot) 0 (now (out .entry)) r (now (out .exit)) × (r ≤ 65571) ⌝ }
 {
-    let named = put_numbers(out, plan, slot, place(index[UPS][slot]));
+    let named = put_numbers(out, plan, slot, cell(index, UPS, slot));
     let end = put_full(trees, plan, m, index, slot, out, named);
     out[end] = 10;
     end + 1

@@ -101,13 +101,6 @@ fn length_of(x: u8) -> usize
     x as usize
 }
 
-// A number of 16 bits as a place, a slot or a length. A place is one more than a slot, or 0 for none.
-pub fn place(x: u16) -> usize
-    ensures { λ r. ⌜ r ≡ x ⌝ }
-{
-    x as usize
-}
-
 // A number of 32 bits as a place or a length.
 fn size(x: u32) -> usize
     ensures { λ r. ⌜ r ≡ x ⌝ }

@@ -12,15 +12,12 @@ look-parent-spec =
     (λ c. search (looks, needs))  -- enum-known-found
     (λ c. search (looks, needs))  -- enum-told
     (λ c. search (looks, needs))  -- returns
-    (λ c. scaled-fits _ 1024 _ (search (looks, needs)) (search needs))  -- mul-place
-    (λ c. search (looks, needs))  -- index-1-place
-    (λ c. search (looks, needs))  -- index-2-place
-    (λ c κs. search (looks, needs))  -- place-requires
+    (λ c κs. search (looks, needs))  -- cell-requires
     (λ c. search (looks, needs))  -- returns-2
-    (λ c. search (looks, needs))  -- sub-t12
-    (λ c. scaled-fits _ 1024 _ (search (looks, needs)) (search needs))  -- mul-t19
-    (λ c. search (looks, needs))  -- index-1-t22
-    (λ c. search (looks, needs))  -- index-2-t22
+    (λ c. search (looks, needs))  -- sub-t11
+    (λ c. search (looks, needs))  -- mul-t14
+    (λ c. search (looks, needs))  -- index-1-t17
+    (λ c. search (looks, needs))  -- index-2-t17
     (λ c κs. search (looks, needs))  -- look-id-requires
     (λ c. search (looks, needs))  -- returns-3
     )

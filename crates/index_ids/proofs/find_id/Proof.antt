@@ -23,17 +23,11 @@ find-id-spec =
     Inv-loop
     μ-loop
     (λ c κs. search (ids, needs))  -- bucket-of-requires
-    (λ c. search (ids, needs))  -- mul-place
-    (λ c. search (ids, needs))  -- index-1-place
-    (λ c. search (ids, needs))  -- index-2-place
-    (λ c κs. search (ids, needs))  -- place-requires
+    (λ c κs. search (ids, needs))  -- cell-requires
     (λ c. search (ids, needs))  -- loop-holds
     (λ c κs. search (ids, needs))  -- better-requires
-    (λ c. search (ids, needs))  -- sub-place
-    (λ c. search (ids, needs))  -- mul-place-2
-    (λ c. search (ids, needs))  -- index-1-place-2
-    (λ c. search (ids, needs))  -- index-2-place-2
-    (λ c κs. search (ids, needs))  -- place-requires-2
+    (λ c. search (ids, needs))  -- sub-cell
+    (λ c κs. search (ids, needs))  -- cell-requires-2
     (λ c. search (ids, needs))  -- loop-less
     (λ c. search (ids, needs))  -- loop-again
     (λ c κs. search needs)  -- slot-before-requires

@@ -21,15 +21,9 @@ is-named-spec =
     (tie.spec
     Inv-loop
     μ-loop
-    (λ c. search (matching, needs))  -- mul-place
-    (λ c. search (matching, needs))  -- index-1-place
-    (λ c. search (matching, needs))  -- index-2-place
-    (λ c κs. search (matching, needs))  -- place-requires
+    (λ c κs. search (matching, needs))  -- cell-requires
     (λ c. search (matching, needs))  -- returns
-    (λ c. search (matching, needs))  -- mul-place-2
-    (λ c. search (matching, needs))  -- index-1-place-2
-    (λ c. search (matching, needs))  -- index-2-place-2
-    (λ c κs. search (matching, needs))  -- place-requires-2
+    (λ c κs. search (matching, needs))  -- cell-requires-2
     (λ c. search (matching, needs))  -- loop-holds
     (λ c κs. search (matching, needs))  -- name-of-requires
     (λ c. search (matching, needs))  -- sub-from
@@ -43,10 +37,7 @@ is-named-spec =
     (λ c. search (matching, needs))  -- returns-3
     (λ c. search (matching, needs))  -- sub-s
     (λ c. search (matching, needs))  -- sub-end
-    (λ c. search (matching, needs))  -- mul-place-3
-    (λ c. search (matching, needs))  -- index-1-place-3
-    (λ c. search (matching, needs))  -- index-2-place-3
-    (λ c κs. search (matching, needs))  -- place-requires-3
+    (λ c κs. search (matching, needs))  -- cell-requires-3
     (λ c. search (matching, needs))  -- loop-less
     (λ c. search (matching, needs))  -- loop-again
     (λ c κs. search (matching, needs))  -- name-of-requires-2

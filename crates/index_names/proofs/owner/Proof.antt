@@ -23,12 +23,9 @@ owner-spec =
     (λ c. search (reading, needs))  -- loop-holds
     (λ c. search (reading, needs))  -- sub-if1
     (λ c. search (reading, needs))  -- returns
-    (λ c. search (reading, needs))  -- mul-place
-    (λ c. search (reading, needs))  -- index-1-place
-    (λ c. search (reading, needs))  -- index-2-place
-    (λ c κs. search (reading, needs))  -- place-requires
+    (λ c κs. search (reading, needs))  -- cell-requires
     (λ c. search (reading, needs))  -- sub-s
-    (λ c κs. let s = c .before .before .before .before .before .before .pre .1 .1 in (read-small _ _ _ _ _ s _ _ _ _ (c .before .before .before .before .loop .inv) _ (c .place .ensures) (c .before .before .before .loop-test .taken), s))  -- start-of-requires-2
+    (λ c κs. let s = c .before .before .before .before .before .pre .1 .1 in (read-small _ _ _ _ _ s _ _ _ _ (c .before .before .before .loop .inv) _ (c .cell .ensures .0) (c .before .before .loop-test .taken), s))  -- start-of-requires-2
     (λ c. search (reading, needs))  -- loop-less
     (λ c. search (reading, needs))  -- loop-again
     (λ c. search (reading, needs))  -- returns-2

@@ -19,14 +19,8 @@ same-apart-spec =
     (tie.spec
     Inv-loop
     μ-loop
-    (λ c. search (comparing, needs))  -- mul-place
-    (λ c. search (comparing, needs))  -- index-1-place
-    (λ c. search (comparing, needs))  -- index-2-place
-    (λ c κs. search (comparing, needs))  -- place-requires
-    (λ c. search (comparing, needs))  -- mul-place-2
-    (λ c. search (comparing, needs))  -- index-1-place-2
-    (λ c. search (comparing, needs))  -- index-2-place-2
-    (λ c κs. search (comparing, needs))  -- place-requires-2
+    (λ c κs. search (comparing, needs))  -- cell-requires
+    (λ c κs. search (comparing, needs))  -- cell-requires-2
     (λ c. search (comparing, needs))  -- returns
     (λ c. search (comparing, needs))  -- loop-holds
     (λ c. search (comparing, needs))  -- sub-owner

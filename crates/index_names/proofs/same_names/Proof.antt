@@ -19,21 +19,11 @@ same-names-spec =
     (tie.spec
     Inv-loop
     μ-loop
-    (λ c. search (climbing, needs))  -- mul-if1
-    (λ c. search (climbing, needs))  -- index-1-if1
-    (λ c. search (climbing, needs))  -- index-2-if1
-    (λ c. search (climbing, needs))  -- mul-if1-2
-    (λ c. search (climbing, needs))  -- index-1-if1-2
-    (λ c. search (climbing, needs))  -- index-2-if1-2
+    (λ c κs. search (climbing, needs))  -- cell-requires
+    (λ c κs. search (climbing, needs))  -- cell-requires-2
     (λ c. search (climbing, needs))  -- returns
-    (λ c. search (climbing, needs))  -- mul-place
-    (λ c. search (climbing, needs))  -- index-1-place
-    (λ c. search (climbing, needs))  -- index-2-place
-    (λ c κs. search (climbing, needs))  -- place-requires
-    (λ c. search (climbing, needs))  -- mul-place-2
-    (λ c. search (climbing, needs))  -- index-1-place-2
-    (λ c. search (climbing, needs))  -- index-2-place-2
-    (λ c κs. search (climbing, needs))  -- place-requires-2
+    (λ c κs. search (climbing, needs))  -- cell-requires-3
+    (λ c κs. search (climbing, needs))  -- cell-requires-4
     (λ c. search (climbing, needs))  -- loop-holds
     (λ c κs. search (climbing, needs))  -- name-of-requires
     (λ c κs. search (climbing, needs))  -- name-of-requires-2
@@ -43,14 +33,8 @@ same-names-spec =
     (λ c. search (climbing, needs))  -- returns-3
     (λ c. search (climbing, needs))  -- sub-s
     (λ c. search (climbing, needs))  -- sub-t
-    (λ c. search (climbing, needs))  -- mul-place-3
-    (λ c. search (climbing, needs))  -- index-1-place-3
-    (λ c. search (climbing, needs))  -- index-2-place-3
-    (λ c κs. search (climbing, needs))  -- place-requires-3
-    (λ c. search (climbing, needs))  -- mul-place-4
-    (λ c. search (climbing, needs))  -- index-1-place-4
-    (λ c. search (climbing, needs))  -- index-2-place-4
-    (λ c κs. search (climbing, needs))  -- place-requires-4
+    (λ c κs. search (climbing, needs))  -- cell-requires-5
+    (λ c κs. search (climbing, needs))  -- cell-requires-6
     (λ c. search (climbing, needs))  -- loop-less
     (λ c. search (climbing, needs))  -- loop-again
     (λ c κs. search (climbing, needs))  -- name-of-requires-3

@@ -8,10 +8,7 @@ pub start-of-spec : {M : Type 1} → statement M
 start-of-spec =
     tie.close
     (tie.spec
-    (λ c. search (starting, needs))  -- mul-place
-    (λ c. search (starting, needs))  -- index-1-place
-    (λ c. search (starting, needs))  -- index-2-place
-    (λ c κs. search (starting, needs))  -- place-requires
+    (λ c κs. search (starting, needs))  -- cell-requires
     (λ c κs. search (starting, needs))  -- name-len-requires
     (λ c. search (starting, needs))  -- sub-result
     (λ c. search (starting, needs))  -- returns

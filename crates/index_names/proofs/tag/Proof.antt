@@ -8,6 +8,5 @@ pub tag-spec : {M : Type 1} → statement M
 unfolding tag
 tag-spec = tie.close (tie.spec
     (λ c. search needs)  -- mul-result
-    (λ c. search needs)  -- cast-result
     (λ c. search needs)  -- returns
     )

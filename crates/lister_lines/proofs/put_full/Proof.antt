@@ -17,23 +17,17 @@ put-full-spec =
     (tie.spec
     Inv-loop
     μ-loop
-    (λ c. search (climbing, needs))  -- mul-span
-    (λ c. search (climbing, needs))  -- index-1-span
-    (λ c. search (climbing, needs))  -- index-2-span
-    (λ c κs. search (climbing, needs))  -- span-requires
+    (λ c κs. search (climbing, needs))  -- cell-requires
     (λ c. search (climbing, needs))  -- add-stop
     (λ c. search (climbing, needs))  -- loop-holds
     (λ c κs. search (climbing, needs))  -- name-of-requires
     (λ c. search (climbing, needs))  -- sub-from
     (λ c κs. search (climbing, needs))  -- put-bytes-requires
-    (λ c. search (climbing, needs))  -- mul-place
-    (λ c. search (climbing, needs))  -- index-1-place
-    (λ c. search (climbing, needs))  -- index-2-place
-    (λ c κs. search (climbing, needs))  -- place-requires
+    (λ c κs. search (climbing, needs))  -- cell-requires-2
     (λ c. search (climbing, needs))  -- same-length
     (λ c. (search (climbing, needs), search needs))  -- returns
-    (λ c. climb-dot _ _ _ _ _ _ _ _ _ _ _ (c .before .before .before .before .before .before .before .before .loop .inv) _ (c .before .before .before .before .before .before .before .name-of .ensures) _ (c .before .place .ensures) (c .if1 .left))  -- sub-end
-    (λ c. climb-write _ _ _ _ _ _ _ _ _ _ _ (c .before .before .before .before .before .before .before .before .loop .inv) _ (c .before .before .before .before .before .before .before .name-of .ensures) _ (c .before .place .ensures) (c .if1 .left) _ (c .before .before .before .before .before .put-bytes .ensures))  -- slice-write-out
+    (λ c. climb-dot _ _ _ _ _ _ _ _ _ _ _ (c .before .before .before .before .before .before .before .loop .inv) _ (c .before .before .before .before .before .before .name-of .ensures) _ (c .before .cell2 .ensures .0) (c .if1 .left))  -- sub-end
+    (λ c. climb-write _ _ _ _ _ _ _ _ _ _ _ (c .before .before .before .before .before .before .before .loop .inv) _ (c .before .before .before .before .before .before .name-of .ensures) _ (c .before .cell2 .ensures .0) (c .if1 .left) _ (c .before .before .before .before .put-bytes .ensures))  -- slice-write-out
     (λ c. search needs)  -- sub-here
     (λ c. search (climb-falls, needs))  -- loop-less
     (λ c. search (climb-goes, needs))  -- loop-again

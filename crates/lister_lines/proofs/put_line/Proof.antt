@@ -11,12 +11,9 @@ pub put-line-spec : {M : Type 1} → statement M
 put-line-spec =
     tie.close
     (tie.spec
-    (λ c. search needs)  -- mul-place
-    (λ c. search needs)  -- index-1-place
-    (λ c. search needs)  -- index-2-place
-    (λ c κs. search needs)  -- place-requires
-    (λ c κs. let p = c .before .before .before .before .pre in (omega (arith, p .1 .0 .sources .few), (omega (arith, p .1 .0 .sources .few, p .1 .0 .falls _ (p .0), c .place .ensures), omega arith)))  -- put-numbers-requires
-    (λ c κs. let p = c .before .before .before .before .before .before .before .before .pre in (p .0, (p .1 .0, omega arith)))  -- put-full-requires
+    (λ c κs. search needs)  -- cell-requires
+    (λ c κs. let p = c .before .before .before .pre in (omega (arith, p .1 .0 .sources .few), (omega (arith, p .1 .0 .sources .few, p .1 .0 .falls _ (p .0), c .cell .ensures .0), omega arith)))  -- put-numbers-requires
+    (λ c κs. let p = c .before .before .before .before .before .before .before .pre in (p .0, (p .1 .0, omega arith)))  -- put-full-requires
     (λ c. search needs)  -- slice-write-out
     (λ c. search needs)  -- add-result
     (λ c. simp length-set (c .before .before .put-full .kept .1 .1 .1 .1 .1 .0 ∙ c .before .before .before .before .before .before .put-numbers .kept .0))  -- same-length
