@@ -26,7 +26,7 @@ use Rattle.record.specs.declared.Found.{Found}
 use Rattle.record.specs.declared.Check.the-variants as check
 use Rattle.record.specs.Says.{found-row, refusal-of}
 use Rattle.update_dropped.specs.declared.Dropped.{Dropped}
-use Rattle.update_dropped.specs.Set.{dropped-ids, Good, Inserted}
+use Rattle.update_dropped.specs.Set.{dropped-ids, set-of, Sorted, Words, Good, Inserted}
 use Rattle.update_decide.specs.declared.Dropping.{Dropping}
 use Rattle.update_decide.specs.declared.Dropping.the-variants as dropping
 use Rattle.update_decide.specs.Entry.{Known, dropped-id, drops, Deleted}
@@ -70,9 +70,9 @@ pub record Gathering (gone : List ℕ) (total i : ℕ) (s : Dropped) : Type 0 wh
   pub few : s .n ≤ i
   pub holds : (x : ℕ) → among x (dropped-ids s) ≡ among x (gone-ids gone i)
 
-pub gather-starts : (gone : List ℕ) (total : ℕ) (s : Dropped) → (s .n ≡ 0) × Good s → Gathering gone total 0 s
-unfolding gone-ids from dropped-ids
-gather-starts gone total s h = record { within = omega arith; good = h .1; few = omega (arith, h .0); holds = λ x. rw (h .0) }
+pub gather-starts : (gone : List ℕ) (total : ℕ) (ids : List ℕ) → length ids ≡ 64 → Gathering gone total 0 (set-of ids 0)
+unfolding gone-ids from dropped-ids Sorted Words
+gather-starts gone total ids h = record { within = omega arith; good = record { whole = h; few = omega arith; sorted = tt; words = tt }; few = omega arith; holds = λ x. refl }
 
 gone-next : (gone : List ℕ) (i : ℕ) → gone-ids gone (i + 1) ≡ gone-ids gone i ++ (turned (getD gone i 0) ∷ [])
 unfolding gone-ids from

@@ -29,6 +29,7 @@ use update_decide::drop_one;
 use update_decide::place_at_root;
 use update_decide::place_under;
 use update_dropped::Dropped;
+use update_dropped::insert;
 use update_rebuild::Decisions;
 use update_rebuild::FIRSTS;
 use update_rebuild::GONE;
@@ -83,14 +84,15 @@ pub fn gather(decisions: &Decisions, total: usize) -> Dropped
     requires { ⌜ total ≤ 64 ⌝ }
     ensures { λ r. ⌜ Gathered (gone-in (now (decisions .entry))) total r ⌝ }
 {
+    let mut ids: [u32; 64] = [0; 64];
+    let mut n: usize = 0;
     let mut i = 0;
-    let mut dropped = Dropped::empty();
     while i < total {
         let id = low_32(decisions[GONE][i]);
-        dropped = dropped.insert(FieldId(id));
+        n = insert(&mut ids, n, FieldId(id));
         i += 1;
     }
-    dropped
+    Dropped { ids, n }
 }
 
 // The deletions, one at a time: refusal 11 or 12, or the ids that they drop.

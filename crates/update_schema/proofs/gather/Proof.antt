@@ -1,5 +1,6 @@
 -- After each turn the set holds one id more of the row.
 use Prim.Native.Nat.{_-_}
+use Rattle.update_dropped.specs.Set.{set-of}
 use Rattle.update_rebuild.specs.Planned.{gone-in}
 use Rattle.update_schema.proofs.Deleting.{Gathering, gathering}
 use borrow.Author.Needs.{needs}
@@ -7,10 +8,10 @@ use Rattle.update_schema.proofs.gather.Statement.{statement}
 use Rattle.update_schema.proofs.gather.Tie as tie
 
 abbrev Inv-loop : tie.InvT-loop
-Inv-loop decisions total i₀ dropped₀ i dropped = Gathering (gone-in decisions) total i dropped
+Inv-loop decisions total ids₀ n₀ i₀ ids n i = Gathering (gone-in decisions) total i (set-of ids n)
 
 abbrev μ-loop : tie.MeasureT-loop
-μ-loop decisions total i₀ dropped₀ i dropped = total - i
+μ-loop decisions total ids₀ n₀ i₀ ids n i = total - i
 
 pub gather-spec : {M : Type 1} → statement M
 gather-spec =
@@ -18,7 +19,6 @@ gather-spec =
     (tie.spec
     Inv-loop
     μ-loop
-    (λ c κs. search (gathering, needs))  -- empty-requires
     (λ c. search (gathering, needs))  -- loop-holds
     (λ c. search (gathering, needs))  -- mul-low-32
     (λ c. search (gathering, needs))  -- index-1-low-32
