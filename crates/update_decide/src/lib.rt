@@ -10,7 +10,7 @@ use record::name_at;
 use record::turn_back;
 use record::under_of;
 use record_entries::id_at;
-use update_dropped::Dropped;
+use update_dropped::holds;
 use update_parents::Target;
 use update_parents::name_taken;
 use update_parents::resolve_parent_target;
@@ -18,7 +18,7 @@ ghost use mathlib.Core.Path.{_≡_};
 ghost use mathlib.Core.Bool.{true};
 ghost use Prim.Native.Nat.{_+_, _*_, _≤_, _<_};
 ghost use lib.ListN.{length};
-ghost use Rattle.update_dropped.specs.Set.{dropped-ids, Good};
+ghost use Rattle.update_dropped.specs.Set.{dropped-ids, set-of, Good};
 ghost use Rattle.paper.specs.Answer.{among};
 ghost use Rattle.paper.specs.Bytes.{turned, in-pool};
 ghost use Rattle.paper.specs.Lists.{id-list};
@@ -110,14 +110,14 @@ pub fn check_added(recs: &[u8], pool: &[u8], slot: usize, place: u32) -> Check
 }
 
 // A root addition: its name is taken if look-up found it undeleted.
-pub fn place_at_root(found: Found, place: u32, dropped: Dropped) -> Going
-    requires { ⌜ Good dropped ⌝ }
-    ensures { λ r. ⌜ AtRoot found (dropped-ids dropped) place r ⌝ }
+pub fn place_at_root(found: Found, place: u32, dropped: &[u32; 64], drops: usize) -> Going
+    requires { ⌜ Good (set-of (now dropped) drops) ⌝ }
+    ensures { λ r. ⌜ AtRoot found (dropped-ids (set-of (now (dropped .entry)) drops)) place r ⌝ }
 {
     let Found::At(id, _) = found else {
         return Going::Under(0);
     };
-    if dropped.contains(id) {
+    if holds(dropped, drops, id) {
         return Going::Under(0);
     }
     // refusal 17
@@ -136,17 +136,18 @@ fn join(
     slot: usize,
     name: &[u8],
     place: u32,
-    dropped: Dropped,
+    dropped: &[u32; 64],
+    drops: usize,
 ) -> Going
-    requires { ⌜ Sited (now pool) (now recs) n slot × Good dropped ⌝ }
+    requires { ⌜ Sited (now pool) (now recs) n slot × Good (set-of (now dropped) drops) ⌝ }
     ensures { λ r. ⌜ r ≡ goes (under-place (now (pool .entry)) (now (recs .entry)) n slot
-        (dropped-ids dropped) place (now (name .entry))) ⌝ }
+        (dropped-ids (set-of (now (dropped .entry)) drops)) place (now (name .entry))) ⌝ }
 {
     let id = id_bits_at(recs, slot);
-    if dropped.contains(FieldId(id)) {
+    if holds(dropped, drops, FieldId(id)) {
         return Going::Under(under_of(id));
     }
-    if name_taken(recs, pool, n, slot, name, dropped) {
+    if name_taken(recs, pool, n, slot, name, dropped, drops) {
         // refusal 17
         return Going::Refused(Refusal {
             number: 17,
@@ -165,11 +166,13 @@ pub fn place_under(
     n: usize,
     name: &[u8],
     place: u32,
-    dropped: Dropped,
+    dropped: &[u32; 64],
+    drops: usize,
 ) -> Going
-    requires { ⌜ FoundSited (now pool) (now recs) n found × Good dropped ⌝ }
+    requires { ⌜ FoundSited (now pool) (now recs) n found
+        × Good (set-of (now dropped) drops) ⌝ }
     ensures { λ r. ⌜ UnderParent found (now (pool .entry)) (now (recs .entry)) n
-        (dropped-ids dropped) place (now (name .entry)) r ⌝ }
+        (dropped-ids (set-of (now (dropped .entry)) drops)) place (now (name .entry)) r ⌝ }
 {
     let Found::At(_, parent) = found else {
         // refusal 15
@@ -188,7 +191,7 @@ pub fn place_under(
             place,
         });
     };
-    join(recs, pool, n, slot.0, name, place, dropped)
+    join(recs, pool, n, slot.0, name, place, dropped, drops)
 }
 
 // The ids of an addition, in preorder after the last one that was consumed.

@@ -9,14 +9,14 @@ use record::kids_at;
 use record::kind_at;
 use record::name_at;
 use tree::tree_end;
-use update_dropped::Dropped;
+use update_dropped::holds;
 ghost use mathlib.Core.Path.{_≡_};
 ghost use mathlib.Core.Bool.{true, not, _&&_};
 ghost use mathlib.Core.Option.{none};
 ghost use Prim.Native.Nat.{_+_, _*_, _≤_, _<_};
 ghost use lib.ListN.{length};
 ghost use Rattle.tree.specs.Read.{Standing};
-ghost use Rattle.update_dropped.specs.Set.{dropped-ids, Good};
+ghost use Rattle.update_dropped.specs.Set.{dropped-ids, set-of, Good};
 ghost use Rattle.paper.specs.Answer.{among, same, lowest};
 ghost use Rattle.paper.specs.Bytes.{turned, rec-at, kids-at, name-of, ok-bytes, in-pool};
 ghost use Rattle.paper.specs.Update.{member-taken};
@@ -60,15 +60,23 @@ pub fn resolve_parent_target(recs: &[u8], n: usize, slot: usize) -> Target
 }
 
 // Whether a record has the name and is not dropped.
-fn takes(recs: &[u8], pool: &[u8], slot: usize, name: &[u8], dropped: Dropped) -> bool
+fn takes(
+    recs: &[u8],
+    pool: &[u8],
+    slot: usize,
+    name: &[u8],
+    dropped: &[u32; 64],
+    drops: usize,
+) -> bool
     requires { ⌜ (slot * 24 + 24 ≤ length (now recs))
-        × (in-pool (length (now pool)) (now recs) slot ≡ true) × Good dropped ⌝ }
+        × (in-pool (length (now pool)) (now recs) slot ≡ true)
+        × Good (set-of (now dropped) drops) ⌝ }
     ensures { λ r. ⌜ r ≡ (same (name-of (now (pool .entry)) (now (recs .entry)) slot)
         (now (name .entry)) && not (among (turned (rec-at (now (recs .entry)) slot .id))
-        (dropped-ids dropped))) ⌝ }
+        (dropped-ids (set-of (now (dropped .entry)) drops)))) ⌝ }
 {
     if equal(name_at(pool, recs, slot), name) {
-        return !dropped.contains(FieldId(id_bits_at(recs, slot)));
+        return !holds(dropped, drops, FieldId(id_bits_at(recs, slot)));
     }
     false
 }
@@ -80,17 +88,19 @@ pub fn name_taken(
     n: usize,
     slot: usize,
     name: &[u8],
-    dropped: Dropped,
+    dropped: &[u32; 64],
+    drops: usize,
 ) -> bool
     requires { ⌜ Standing 0 (now recs) n 15 slot
-        × (lowest (in-pool (length (now pool)) (now recs)) 0 n ≡ none) × Good dropped ⌝ }
+        × (lowest (in-pool (length (now pool)) (now recs)) 0 n ≡ none)
+        × Good (set-of (now dropped) drops) ⌝ }
     ensures { λ r. ⌜ r ≡ member-taken (members-at (now (pool .entry)) (now (recs .entry)) n slot)
-        (now (name .entry)) (dropped-ids dropped) ⌝ }
+        (now (name .entry)) (dropped-ids (set-of (now (dropped .entry)) drops)) ⌝ }
 {
     let mut left = kids_at(recs, slot);
     let mut at = slot + 1;
     while 0 < left {
-        if takes(recs, pool, at, name, dropped) {
+        if takes(recs, pool, at, name, dropped, drops) {
             return true;
         }
         at = tree_end(recs, n, at, 14, 0);

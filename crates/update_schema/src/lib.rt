@@ -38,11 +38,12 @@ use update_rebuild::STARTS;
 use update_rebuild::UNDERS;
 ghost use mathlib.Core.Path.{_≡_};
 ghost use Prim.Native.Nat.{_≤_, _<_};
+ghost use lib.ListN.{length};
 ghost use Rattle.paper.specs.Bytes.{name-of};
 ghost use Rattle.paper.specs.Lists.{parent-path};
 ghost use Rattle.paper.specs.Update.{placed};
 ghost use Rattle.tree.specs.Read.{Standing};
-ghost use Rattle.update_dropped.specs.Set.{dropped-ids, Good};
+ghost use Rattle.update_dropped.specs.Set.{dropped-ids, set-of, Good};
 ghost use Rattle.update_decide.specs.Entry.{goes};
 ghost use Rattle.record.specs.Trees.{trees-in, lists-in};
 ghost use Rattle.plan.specs.Table.{fields-in};
@@ -79,20 +80,20 @@ pub enum Decided {
     Refused(Refusal),
 }
 
-// The dropped ids as a set.
-pub fn gather(decisions: &Decisions, total: usize) -> Dropped
-    requires { ⌜ total ≤ 64 ⌝ }
-    ensures { λ r. ⌜ Gathered (gone-in (now (decisions .entry))) total r ⌝ }
+// The dropped ids as a set, in the lent room; answers how many they are.
+pub fn gather(decisions: &Decisions, total: usize, ids: &mut [u32; 64]) -> usize
+    requires { ⌜ (total ≤ 64) × (length (now ids) ≡ 64) ⌝ }
+    ensures { λ r. ⌜ Gathered (gone-in (now (decisions .entry))) total (set-of (now (ids .exit)) r)
+        ⌝ }
 {
-    let mut ids: [u32; 64] = [0; 64];
     let mut n: usize = 0;
     let mut i = 0;
     while i < total {
         let id = low_32(decisions[GONE][i]);
-        n = insert(&mut ids, n, FieldId(id));
+        n = insert(ids, n, FieldId(id));
         i += 1;
     }
-    Dropped { ids, n }
+    n
 }
 
 // The deletions, one at a time: refusal 11 or 12, or the ids that they drop.
@@ -136,13 +137,15 @@ fn find_place<'a>(
     index: &IndexRows,
     k: usize,
     slot: usize,
-    dropped: Dropped,
+    dropped: &[u32; 64],
+    drops: usize,
 ) -> Going
     requires { ⌜ BasedIn (trees-in (now trees)) (now plan) n
         × Index (trees-in (now trees)) (now plan) n (now index)
-        × AdditionIn (trees-in (now trees)) (now additions) k slot × Good dropped ⌝ }
+        × AdditionIn (trees-in (now trees)) (now additions) k slot
+        × Good (set-of (now dropped) drops) ⌝ }
     ensures { λ r. ⌜ r ≡ goes (placed (fields-in (trees-in (now (trees .entry)))
-        (now (plan .entry)) n) (dropped-ids dropped) k
+        (now (plan .entry)) n) (dropped-ids (set-of (now (dropped .entry)) drops)) k
         (name-of (trees-in (now (trees .entry)) .request-pool)
         (trees-in (now (trees .entry)) .added-records) slot)
         (parent-path (trees-in (now (trees .entry)) .request-pool) (now (additions .entry)) k)) ⌝ }
@@ -159,10 +162,11 @@ fn find_place<'a>(
             name,
             k as u32,
             dropped,
+            drops,
         );
     }
     let taken = look_name(trees, plan, n, index, name);
-    place_at_root(taken, k as u32, dropped)
+    place_at_root(taken, k as u32, dropped, drops)
 }
 
 // The ids of an addition that has its place: refusal 18.
@@ -192,15 +196,18 @@ fn place_one<'a>(
     index: &IndexRows,
     k: usize,
     slot: usize,
-    dropped: Dropped,
+    dropped: &[u32; 64],
+    drops: usize,
 ) -> Spotted
     requires { ⌜ BasedIn (trees-in (now trees)) (now plan) (given .base)
         × Index (trees-in (now trees)) (now plan) (given .base) (now index)
-        × AdditionIn (trees-in (now trees)) (now additions) k slot × Good dropped
+        × AdditionIn (trees-in (now trees)) (now additions) k slot
+        × Good (set-of (now dropped) drops)
         × Standing 1 (trees-in (now trees) .added-records) (given .added) 15 slot
         × (given .last < 4294967296) ⌝ }
     ensures { λ r. ⌜ OneSpotted (fields-in (trees-in (now (trees .entry))) (now (plan .entry))
-        (given .base)) (dropped-ids dropped) (trees-in (now (trees .entry)) .request-pool)
+        (given .base)) (dropped-ids (set-of (now (dropped .entry)) drops))
+        (trees-in (now (trees .entry)) .request-pool)
         (trees-in (now (trees .entry)) .added-records) (now (additions .entry)) (given .added)
         (given .last) k slot r ⌝ }
 {
@@ -208,7 +215,17 @@ fn place_one<'a>(
     if let Check::Refused(r) = check_added(added, trees[REQUEST_POOL], slot, k as u32) {
         return Spotted::Refused(r);
     }
-    let going = find_place(trees, additions, given.base, plan, index, k, slot, dropped);
+    let going = find_place(
+        trees,
+        additions,
+        given.base,
+        plan,
+        index,
+        k,
+        slot,
+        dropped,
+        drops,
+    );
     match going {
         Going::Under(under) => number(added, given.added, slot, under, k as u32, given.last),
         Going::Refused(r) => Spotted::Refused(r),
@@ -222,22 +239,35 @@ fn place_columns<'a>(
     given: Given,
     plan: &PlanRows,
     index: &IndexRows,
-    dropped: Dropped,
+    dropped: &[u32; 64],
+    drops: usize,
     decisions: &mut Decisions,
 ) -> Decided
     requires { ⌜ BasedIn (trees-in (now trees)) (now plan) (given .base)
         × Index (trees-in (now trees)) (now plan) (given .base) (now index)
-        × ColumnsIn (trees-in (now trees)) (now additions) given × Good dropped
+        × ColumnsIn (trees-in (now trees)) (now additions) given
+        × Good (set-of (now dropped) drops)
         × (given .last < 4294967296) × DecisionsRoom (now decisions) ⌝ }
     ensures { λ r. ⌜ PlacesIn (trees-in (now (trees .entry))) (now (additions .entry)) given
-        (now (plan .entry)) dropped r (now (decisions .entry)) (now (decisions .exit)) ⌝ }
+        (now (plan .entry)) (set-of (now (dropped .entry)) drops) r (now (decisions .entry))
+        (now (decisions .exit)) ⌝ }
 {
     let mut k = 0;
     let mut slot = 0;
     let mut last = given.last;
     while k < given.additions {
         let so_far = Given { last, ..given };
-        match place_one(trees, additions, so_far, plan, index, k, slot, dropped) {
+        match place_one(
+            trees,
+            additions,
+            so_far,
+            plan,
+            index,
+            k,
+            slot,
+            dropped,
+            drops,
+        ) {
             Spotted::At(spot) => {
                 decisions[UNDERS][k] = spot.under;
                 decisions[FIRSTS][k] = slot as u64;
@@ -272,14 +302,16 @@ pub fn decide_changes<'a>(
     if let Check::Refused(r) = check {
         return Decided::Refused(r);
     }
-    let dropped = gather(decisions, given.deletions);
+    let mut dropped = Dropped { ids: [0; 64], n: 0 };
+    dropped.n = gather(decisions, given.deletions, &mut dropped.ids);
     place_columns(
         trees,
         lists[ADDITIONS],
         given,
         plan,
         index,
-        dropped,
+        &dropped.ids,
+        dropped.n,
         decisions,
     )
 }

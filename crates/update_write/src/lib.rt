@@ -10,6 +10,7 @@ use record::Refusal;
 use record::Sizes;
 use record::Trees;
 use record::turn_back;
+use update_dropped::Dropped;
 use update_rebuild::Decisions;
 use update_rebuild::Given;
 use update_rebuild::Step;
@@ -38,7 +39,8 @@ pub fn write_rebuilt<'a>(
         (now («out_records» .exit)) (now («out_names» .exit)) ⌝ }
 {
     // plan
-    let dropped = gather(decisions, given.deletions);
+    let mut dropped = Dropped { ids: [0; 64], n: 0 };
+    dropped.n = gather(decisions, given.deletions, &mut dropped.ids);
     let step = rebuild(
         trees,
         given,

@@ -9,7 +9,7 @@ join-spec =
     tie.close
     (tie.spec
     (λ c κs. search needs)  -- id-bits-at-requires
-    (λ c κs. search needs)  -- contains-requires
+    (λ c κs. search needs)  -- holds-requires
     (λ c κs. search needs)  -- under-of-requires
     (λ c. search (joining, needs))  -- returns
     (λ c κs. search needs)  -- name-taken-requires

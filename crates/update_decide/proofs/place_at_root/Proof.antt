@@ -10,7 +10,7 @@ place-at-root-spec =
     (λ c. search needs)  -- enum-known-found
     (λ c. search needs)  -- enum-told
     (λ c. search (rooting, needs))  -- returns
-    (λ c κs. search needs)  -- contains-requires
+    (λ c κs. search needs)  -- holds-requires
     (λ c. search (rooting, needs))  -- returns-2
     (λ c. search (rooting, needs))  -- returns-3
     )

@@ -1,6 +1,6 @@
 -- What is left of the members tells whether the name is taken.
 use Rattle.laws.proofs.Fitting.{lowest-none}
-use Rattle.update_dropped.specs.Set.{dropped-ids}
+use Rattle.update_dropped.specs.Set.{dropped-ids, set-of}
 use Rattle.update_parents.proofs.Members.{Scanning, scan-starts, scan-in, scan-found, scan-stands, scan-goes, scan-ends}
 use native.Mathlib.Omega.{arith}
 use borrow.Author.Needs.{needs}
@@ -8,10 +8,10 @@ use Rattle.update_parents.proofs.name_taken.Statement.{statement}
 use Rattle.update_parents.proofs.name_taken.Tie as tie
 
 abbrev Inv-loop : tie.InvT-loop
-Inv-loop recs pool n slot name dropped left₀ at₀ left at = Scanning pool recs n slot name (dropped-ids dropped) left at
+Inv-loop recs pool n slot name dropped drops left₀ at₀ left at = Scanning pool recs n slot name (dropped-ids (set-of dropped drops)) left at
 
 abbrev μ-loop : tie.MeasureT-loop
-μ-loop recs pool n slot name dropped left₀ at₀ left at = left
+μ-loop recs pool n slot name dropped drops left₀ at₀ left at = left
 
 pub name-taken-spec : {M : Type 1} → statement M
 name-taken-spec =

@@ -11,7 +11,7 @@ takes-spec =
     (λ c κs. search needs)  -- name-at-requires
     (λ c κs. search needs)  -- equal-requires
     (λ c κs. search needs)  -- id-bits-at-requires
-    (λ c κs. search needs)  -- contains-requires
+    (λ c κs. search needs)  -- holds-requires
     (λ c. search (taking, needs))  -- returns
     (λ c. search (taking, needs))  -- returns-2
     )

@@ -3,7 +3,7 @@ use Prim.Native.Nat.{_-_}
 use mathlib.Core.Path.{refl}
 use Rattle.record.specs.Trees.{trees-in}
 use Rattle.plan.specs.Table.{fields-in}
-use Rattle.update_dropped.specs.Set.{dropped-ids}
+use Rattle.update_dropped.specs.Set.{dropped-ids, set-of}
 use Rattle.update_schema.proofs.Rows.{Held, place-stored}
 use Rattle.update_schema.proofs.Columns.{Placing, place-starts, place-ends, column-here, addition-here, place-stops, place-goes}
 use borrow.Author.Needs.{needs}
@@ -11,11 +11,11 @@ use Rattle.update_schema.proofs.place_columns.Statement.{statement}
 use Rattle.update_schema.proofs.place_columns.Tie as tie
 
 abbrev Inv-loop : tie.InvT-loop
-Inv-loop trees additions given plan index dropped decisions₀ k₀ slot₀ last₀ decisions k slot last =
-    Held (Placing (fields-in (trees-in trees) plan (given .base)) (dropped-ids dropped) (trees-in trees .request-pool) (trees-in trees .added-records) additions (given .additions) (given .added) (given .last) k slot last) decisions₀ decisions
+Inv-loop trees additions given plan index dropped drops decisions₀ k₀ slot₀ last₀ decisions k slot last =
+    Held (Placing (fields-in (trees-in trees) plan (given .base)) (dropped-ids (set-of dropped drops)) (trees-in trees .request-pool) (trees-in trees .added-records) additions (given .additions) (given .added) (given .last) k slot last) decisions₀ decisions
 
 abbrev μ-loop : tie.MeasureT-loop
-μ-loop trees additions given plan index dropped decisions₀ k₀ slot₀ last₀ decisions k slot last = given .additions - k
+μ-loop trees additions given plan index dropped drops decisions₀ k₀ slot₀ last₀ decisions k slot last = given .additions - k
 
 pub place-columns-spec : {M : Type 1} → statement M
 place-columns-spec =
