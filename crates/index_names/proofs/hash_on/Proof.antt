@@ -21,10 +21,16 @@ hash-on-spec =
     Inv-loop
     μ-loop
     (λ c. search (hashing, needs))  -- loop-holds
-    (λ c. search (hashing, needs))  -- shared-slice-read-mixed
-    (λ c κs. search (hashing, needs))  -- mixed-requires
+    (λ c. search (hashing, needs))  -- sub-loop
+    (λ c. search (hashing, needs))  -- shared-slice-read-mixed-twice
+    (λ c. search (hashing, needs))  -- add-mixed-twice
+    (λ c. search (hashing, needs))  -- shared-slice-read-mixed-twice-2
+    (λ c κs. search (hashing, needs))  -- mixed-twice-requires
     (λ c. search (hashing, needs))  -- add-i
     (λ c. search (hashing, needs))  -- loop-less
     (λ c. search (hashing, needs))  -- loop-again
+    (λ c. search (hashing, needs))  -- shared-slice-read-mixed
+    (λ c κs. search (hashing, needs))  -- mixed-requires
     (λ c. search (hashing, needs))  -- returns
+    (λ c. search (hashing, needs))  -- returns-2
     )
