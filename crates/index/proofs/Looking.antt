@@ -34,10 +34,11 @@ use Rattle.index_ids.specs.Ids.{id-in, is-id}
 use Rattle.index_ids.specs.Table.{ups-in}
 use Rattle.index_ids.proofs.Chains.{found-within, found-below-room}
 use Rattle.index_ids.proofs.Repeats.{slot-at, found-below}
-use Rattle.index_names.specs.Walk.{walk, trees-of}
+use Rattle.plan.specs.Walk.{walk, trees-of}
 use Rattle.index_names.specs.Full.{fulls, ups, full-at}
-use Rattle.index_names.specs.Told.{name-in, kind-in, is-full}
-use Rattle.index_names.proofs.Walks.{all-there, all-numbered}
+use Rattle.plan.specs.Named.{name-in, kind-in}
+use Rattle.index_names.specs.Told.{is-full}
+use Rattle.plan.proofs.Walks.{all-there, all-numbered}
 use Rattle.index_names.proofs.Telling.{fulls-are}
 use Rattle.index_short_names.specs.declared.Sighting.{Sighting}
 use Rattle.index_short_names.specs.declared.Sighting.the-variants as sighted

@@ -20,10 +20,10 @@ use Rattle.record.specs.Trees.{Trees}
 use Rattle.plan.specs.Plan.{planned-field, source-in, kids-in, plan-slots, plan-tree, plan-fields, Plan}
 use Rattle.plan.proofs.Standing.{field-in}
 use Rattle.index_ids.specs.Ids.{id-in}
-use Rattle.index_names.specs.Walk.{trees-of}
+use Rattle.plan.specs.Walk.{trees-of}
 use Rattle.index_names.specs.Full.{fulls, ups}
-use Rattle.index_names.specs.Told.{name-in, Sources}
-use Rattle.index_names.proofs.Walks.{Numbered, roots-are}
+use Rattle.plan.specs.Named.{name-in, Sources}
+use Rattle.plan.proofs.Walks.{Numbered, roots-are}
 
 -- ---- the fields of the slots
 

@@ -21,10 +21,13 @@ use Rattle.index_ids.specs.Ids.{ids-in, rule-7}
 use Rattle.index_ids.specs.Table.{row, ups-in, lens-in, tags-in, IdsChained, IndexedIn, Rooms}
 use Rattle.index_ids.proofs.Tables.{within-both, within-wider}
 use Rattle.index_identifiers.specs.Nine.{rule-9}
-use Rattle.index_names.specs.Walk.{walk, trees-of}
+use Rattle.plan.specs.Walk.{walk, trees-of}
 use Rattle.index_names.specs.Full.{fulls}
-use Rattle.index_names.specs.Told.{name-in, Sources, Spelt, Tagged, rule-8}
-use Rattle.index_names.specs.Table.{names-in, walk-in, SourcesIn, MarkedIn, UnequalIn}
+use Rattle.plan.specs.Named.{name-in, Sources}
+use Rattle.index_names.specs.Told.{Spelt, Tagged, rule-8}
+use Rattle.plan.specs.Named.{names-in, SourcesIn}
+use Rattle.plan.specs.Walk.{walk-in}
+use Rattle.index_names.specs.Table.{MarkedIn, UnequalIn}
 use Rattle.index_names.proofs.Telling.{ups-told, names-told, tags-told, fulls-are}
 use Rattle.index.specs.Index.{Raised, NamesIndexed, Indexing}
 use Rattle.index.proofs.Rows.{plan-is, plan-sources}

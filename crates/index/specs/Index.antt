@@ -28,10 +28,11 @@ use Rattle.plan.specs.Plan.{kids-in}
 use Rattle.plan.specs.Table.{numbers, members, PlanIn, fields-in, Roomy, TakenIn}
 use Rattle.index_ids.specs.Ids.{id-in}
 use Rattle.index_ids.specs.Table.{ups-in, IdsChained, Rooms, Within}
-use Rattle.index_names.specs.Walk.{trees-of}
+use Rattle.plan.specs.Walk.{trees-of}
 use Rattle.index_names.specs.Full.{fulls, ups}
-use Rattle.index_names.specs.Told.{name-in, kind-in}
-use Rattle.index_names.specs.Table.{names-in, SpeltIn, TaggedIn, NamesChained}
+use Rattle.plan.specs.Named.{name-in, kind-in}
+use Rattle.plan.specs.Named.{names-in}
+use Rattle.index_names.specs.Table.{SpeltIn, TaggedIn, NamesChained}
 use Rattle.index_short_names.specs.Seek.{seek-in}
 
 -- `us` holds the place above each slot.

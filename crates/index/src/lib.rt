@@ -37,7 +37,7 @@ ghost use Rattle.record.specs.Trees.{trees-in};
 ghost use Rattle.plan.specs.Table.{sources, numbers, members, PlanIn, fields-in, Roomy};
 ghost use Rattle.index_ids.specs.Chain.{Below};
 ghost use Rattle.index_ids.specs.Table.{ups-in, IdsChained, Rooms};
-ghost use Rattle.index_names.specs.Table.{SourcesIn};
+ghost use Rattle.plan.specs.Named.{SourcesIn};
 ghost use Rattle.index.specs.Index.{
   Falling,
   Index,

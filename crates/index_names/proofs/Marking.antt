@@ -15,13 +15,14 @@ use Rattle.record.specs.Trees.{Trees}
 use Rattle.index_ids.specs.Table.{row, Within}
 use Rattle.index_ids.proofs.Tables.{within-same, within-both, within-wider, within-cell, row-left}
 use Rattle.index_names.specs.declared.Prefix.{Prefix}
-use Rattle.index_names.specs.Walk.{walk}
+use Rattle.plan.specs.Walk.{walk}
 use Rattle.index_names.specs.Hash.{mix, hash-on, hash-of, tag, tag-of}
 use Rattle.index_names.specs.Full.{fulls, ups}
-use Rattle.index_names.specs.Told.{Sources, Marked}
+use Rattle.plan.specs.Named.{Sources}
+use Rattle.index_names.specs.Told.{Marked}
 use Rattle.index_names.specs.Table.{inside, PutIn, OneIn, MarkedIn}
 use Rattle.index_names.proofs.Hashing.{hash-append}
-use Rattle.index_names.proofs.Walks.{walk-none, walk-deep, walk-past, walk-in, filled}
+use Rattle.plan.proofs.Walks.{walk-none, walk-deep, walk-past, walk-in, filled}
 
 pub length-fulls : (name : ℕ → List ℕ) (pre : List ℕ) (f : Forest ℕ) → length (fulls name pre f) ≡ size f
 unfolding fulls size

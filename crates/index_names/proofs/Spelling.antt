@@ -15,7 +15,8 @@ use Rattle.record.specs.Trees.{Trees}
 use Rattle.laws.proofs.Same.{same-self, same-is, differ}
 use Rattle.tree.proofs.Filled.{lt-or-le}
 use Rattle.index_names.specs.Full.{full-at}
-use Rattle.index_names.specs.Told.{name-in, Spelt, Owns, Above, same-name, is-full}
+use Rattle.plan.specs.Named.{name-in}
+use Rattle.index_names.specs.Told.{Spelt, Owns, Above, same-name, is-full}
 use Rattle.index_names.proofs.Telling.{full-root, full-under}
 
 -- ---- one record, by the place of the record above

@@ -14,11 +14,12 @@ use Rattle.paper.specs.Rows.{dotted}
 use Rattle.laws.proofs.Runs.{getD-sets}
 use Rattle.tree.proofs.Filled.{lt-or-le}
 use Rattle.record.specs.Trees.{Trees}
-use Rattle.index_names.specs.Walk.{walk, trees-of}
+use Rattle.plan.specs.Walk.{walk, trees-of}
 use Rattle.index_names.specs.Hash.{hash-on, tag, tag-of}
 use Rattle.index_names.specs.Full.{fulls, ups, under, climbed, full-at}
-use Rattle.index_names.specs.Told.{name-in, Sources, Marked, Spelt, Tagged}
-use Rattle.index_names.proofs.Walks.{Numbered, all-numbered, all-there}
+use Rattle.plan.specs.Named.{name-in, Sources}
+use Rattle.index_names.specs.Told.{Marked, Spelt, Tagged}
+use Rattle.plan.proofs.Walks.{Numbered, all-numbered, all-there}
 use Rattle.index_names.proofs.Marking.{length-fulls, length-ups}
 
 -- ---- going up

@@ -1,4 +1,3 @@
-pub mod Walk
 pub mod Hash
 pub mod Full
 pub mod Told

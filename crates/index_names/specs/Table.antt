@@ -2,33 +2,18 @@
 use Prim.Native.Nat.{ℕ, _+_, _≤_}
 use mathlib.Core.Path.{_≡_}
 use mathlib.Core.List.{List}
-use Rattle.paper.specs.declared.Kind.{Kind}
+use lib.ListN.{length, set}
 use Rattle.paper.specs.Layout.{Part}
 use Rattle.record.specs.declared.Check.{Check}
 use Rattle.record.specs.Trees.{Trees}
-use Rattle.plan.specs.Plan.{kids-in}
-use Rattle.plan.specs.Table.{sources, members}
+use Rattle.plan.specs.Table.{sources}
+use Rattle.plan.specs.Named.{names-in}
 use Rattle.index_ids.specs.Chain.{Chained}
-use lib.ListN.{length, set}
 use Rattle.index_ids.specs.Table.{ups-in, lens-in, tags-in, name-heads, name-next, Within}
 use Rattle.index_names.specs.declared.Prefix.{Prefix}
-use Rattle.index_names.specs.Walk.{walk}
 use Rattle.index_names.specs.Hash.{mix, hash-on, tag}
 use Rattle.index_names.specs.Full.{full-at}
-use Rattle.index_names.specs.Told.{name-in, kind-in, Sources, Marked, Spelt, Tagged, name-bucket, Unequal}
-
-abbrev pub names-in : Trees → (plan : List (List ℕ)) → ℕ → List ℕ
-names-in l plan = name-in l (sources plan)
-
-abbrev pub kinds-in : Trees → (plan : List (List ℕ)) → ℕ → Kind
-kinds-in l plan = kind-in l (sources plan)
-
-abbrev pub SourcesIn : Trees → (plan : List (List ℕ)) (m : ℕ) → Type 0
-SourcesIn l plan m = Sources l (sources plan) m
-
--- The trees of a row, as far as there are levels and records.
-abbrev pub walk-in : (plan : List (List ℕ)) (m levels count slot : ℕ) → Part
-walk-in plan m = walk (kids-in (members plan)) m
+use Rattle.index_names.specs.Told.{Marked, Spelt, Tagged, name-bucket, Unequal}
 
 -- The full name of a slot.
 abbrev pub full-in : Trees → (plan index : List (List ℕ)) → ℕ → List ℕ

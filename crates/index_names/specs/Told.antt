@@ -5,7 +5,6 @@ use mathlib.Core.Bool.{Bool}
 use mathlib.Core.List.{List, [], map}
 use lib.ListN.{length, getD}
 use lib.Seq.{sets}
-use Rattle.paper.specs.declared.Kind.{Kind}
 use Rattle.paper.specs.Answer.{same, repeated}
 use Rattle.paper.specs.Bytes.{from}
 use Rattle.paper.specs.Layout.{Part}
@@ -13,22 +12,10 @@ use Rattle.record.specs.declared.Check.{Check}
 use Rattle.record.specs.declared.Check.the-variants.{Fine}
 use Rattle.record.specs.Says.{tested}
 use Rattle.record.specs.Trees.{Trees}
-use Rattle.plan.specs.Plan.{source-field, Sits}
+use Rattle.plan.specs.Named.{name-in, Sources}
 use Rattle.index_ids.specs.Chain.{Chained, new-at}
 use Rattle.index_names.specs.Hash.{hash-of, tag-of, tag-bucket}
 use Rattle.index_names.specs.Full.{fulls, ups, full-at}
-
--- The name of the planned record at a place, and its kind.
-unfoldable pub name-in : Trees → List ℕ → ℕ → List ℕ
-name-in l xs k = source-field l (getD xs k 0) .name
-
-unfoldable pub kind-in : Trees → List ℕ → ℕ → Kind
-kind-in l xs k = source-field l (getD xs k 0) .kind
-
--- m planned records whose sources are there.
-pub record Sources (l : Trees) (xs : List ℕ) (m : ℕ) : Type 0 where
-  pub few : m ≤ 1024
-  pub sits : (k : ℕ) → k < m → Sits l (getD xs k 0)
 
 -- What a walk over a row leaves, whatever stands before its names: `len` and `hash` are that prefix's.
 pub record Marked (name : ℕ → List ℕ) (p : Part) (slot up len hash : ℕ) (us ls ts us′ ls′ ts′ : List ℕ) (r : ℕ) : Type 0 where

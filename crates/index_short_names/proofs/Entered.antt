@@ -17,7 +17,7 @@ use Rattle.paper.specs.Field.{Field, first, after}
 use Rattle.paper.specs.Rows.{Row, Start, row, below, beside, rows, entered, skipped, late, dotted}
 use Rattle.laws.proofs.Basics.{none≢some, some-is, neither, or-none, cond-none}
 use Rattle.laws.proofs.Preorder.{size-mapped}
-use Rattle.index_names.proofs.Walks.{Numbered}
+use Rattle.plan.proofs.Walks.{Numbered}
 use Rattle.index_short_names.specs.Seek.{strip, then-strip, left-is, inside, own, seek-in}
 use Rattle.index_short_names.proofs.Seeking.{seek-nothing}
 

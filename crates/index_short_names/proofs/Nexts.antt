@@ -2,8 +2,8 @@
 use mathlib.Core.Path.{_≡_, sym, ap, _∙_}
 use Prim.Native.Nat.{ℕ, _+_, _-_, _<_, _≤_}
 use Rattle.paper.specs.Layout.{Part}
-use Rattle.index_names.specs.Walk.{walk}
-use Rattle.index_names.proofs.Walks.{walk-none, walk-deep, walk-past, walk-in}
+use Rattle.plan.specs.Walk.{walk}
+use Rattle.plan.proofs.Walks.{walk-none, walk-deep, walk-past, walk-in}
 use native.Mathlib.Omega.{arith}
 
 pub next-deep : (kids : ℕ → ℕ) (n lv c k : ℕ) → lv ≡ 0 → k ≡ walk kids n lv c k .next

@@ -16,8 +16,8 @@ use Rattle.paper.specs.Field.{first, after}
 use Rattle.paper.specs.Layout.{Part, nothing, before}
 use Rattle.paper.specs.Rows.{skipped, late}
 use Rattle.laws.proofs.Basics.{none≢some, or-else-none}
-use Rattle.index_names.specs.Walk.{walk}
-use Rattle.index_names.proofs.Walks.{walk-none, walk-deep, walk-past, walk-in}
+use Rattle.plan.specs.Walk.{walk}
+use Rattle.plan.proofs.Walks.{walk-none, walk-deep, walk-past, walk-in}
 use Rattle.record.specs.declared.Slot.{Slot}
 use Rattle.index_short_names.specs.declared.Turn.{Turn}
 use Rattle.index_short_names.specs.declared.Sighting.{Sighting}

@@ -1,5 +1,4 @@
 // Look-up of a short name: a walk that carries how much of the asked name is matched, and builds no name.
-use index_names::name_of;
 use paper::Kind;
 use paper::Role;
 use paper::first_role;
@@ -8,6 +7,7 @@ use paper::next_role;
 use plan::MEMBERS;
 use plan::PlanRows;
 use plan::SOURCES;
+use plan::name_of;
 use plan::planned_kind;
 use record::Siblings;
 use record::Slot;
@@ -21,7 +21,8 @@ ghost use Rattle.paper.specs.Answer.{or-else};
 ghost use Rattle.paper.specs.Rows.{skipped, late};
 ghost use Rattle.record.specs.Trees.{trees-in};
 ghost use Rattle.index_ids.specs.Chain.{pick};
-ghost use Rattle.index_names.specs.Table.{names-in, kinds-in, walk-in, SourcesIn};
+ghost use Rattle.plan.specs.Named.{names-in, kinds-in, SourcesIn};
+ghost use Rattle.plan.specs.Walk.{walk-in};
 ghost use Rattle.index_short_names.specs.Seek.{left-at, fits, inside, Turned, seen, outcome, sighting};
 
 // A slot that was found, or the slot behind a row in which there is none.

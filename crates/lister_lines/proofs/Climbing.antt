@@ -8,7 +8,8 @@ use lib.Seq.{sets, length-sets}
 use Rattle.laws.proofs.Runs.{sets-append, sets-before}
 use Rattle.record.specs.Trees.{Trees}
 use Rattle.index_ids.specs.Table.{ups-in, lens-in}
-use Rattle.index_names.specs.Table.{names-in, full-in, SpeltIn}
+use Rattle.plan.specs.Named.{names-in}
+use Rattle.index_names.specs.Table.{full-in, SpeltIn}
 use Rattle.index_names.proofs.Telling.{full-root, full-under}
 use Rattle.lister_lines.specs.Digits.{Put}
 

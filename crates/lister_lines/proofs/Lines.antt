@@ -21,11 +21,12 @@ use Rattle.plan.specs.Table.{sources, numbers, members, PlanIn, fields-in}
 use Rattle.plan.proofs.Standing.{field-in}
 use Rattle.index_ids.specs.Ids.{id-in}
 use Rattle.index_ids.specs.Table.{ups-in}
-use Rattle.index_names.specs.Walk.{trees-of}
+use Rattle.plan.specs.Walk.{trees-of}
 use Rattle.index_names.specs.Full.{fulls, ups}
-use Rattle.index_names.specs.Told.{name-in}
-use Rattle.index_names.specs.Table.{names-in, full-in}
-use Rattle.index_names.proofs.Walks.{Numbered, all-there, all-numbered}
+use Rattle.plan.specs.Named.{name-in}
+use Rattle.plan.specs.Named.{names-in}
+use Rattle.index_names.specs.Table.{full-in}
+use Rattle.plan.proofs.Walks.{Numbered, all-there, all-numbered}
 use Rattle.index_names.proofs.Marking.{length-fulls, length-ups}
 use Rattle.index_names.proofs.Telling.{fulls-are}
 use Rattle.index.specs.Index.{Raised, Opened}

@@ -5,3 +5,5 @@ pub mod Standing
 pub mod Summing
 pub mod Taking
 pub mod Writing
+pub mod Naming
+pub mod Walks

@@ -23,6 +23,7 @@ ghost use Rattle.paper.specs.Encode.{kind-byte, row24};
 ghost use Rattle.record.specs.Trees.{trees-in, slice-at};
 ghost use Rattle.plan.specs.Plan.{source-field, Sits};
 ghost use Rattle.plan.specs.Sources.{source-kind, source-len, row-of, source-row, In, Summed, Written};
+ghost use Rattle.plan.specs.Named.{names-in, SourcesIn};
 ghost use Rattle.plan.specs.Table.{sources, PlanIn, fields-in, InsideIn, planned-row, planned-at, CopiedIn, TakenIn};
 
 // A plan's rows: where each planned record comes from, its id as 32 bits, how many members it has. A source below 1,024 is a slot of
@@ -125,6 +126,14 @@ pub fn planned_name<'a>(trees: &Trees<'a>, source: u32) -> &'a [u8]
         return name_at(pool, records, k);
     }
     name_at(request_pool, added, k - 1024)
+}
+
+// The name of the planned record at a place: the very part of the pool that holds it.
+pub fn name_of<'a>(trees: &Trees<'a>, plan: &PlanRows, m: usize, k: usize) -> &'a [u8]
+    requires { ⌜ (k < m) × SourcesIn (trees-in (now trees)) (now plan) m ⌝ }
+    ensures { λ r. ⌜ now r ≡ names-in (trees-in (now (trees .entry))) (now (plan .entry)) k ⌝ }
+{
+    planned_name(trees, plan[SOURCES][k])
 }
 
 // Whether the names of the m planned records are within the limit, one of the three that refusal 19 reports.

@@ -23,8 +23,8 @@ use Rattle.plan.specs.Plan.{bits-of, kids-in, planned-field, plan-fields, Plan}
 use Rattle.plan.specs.Draft.{Draft}
 use Rattle.plan.proofs.Standing.{field-in, draft-sum}
 use Rattle.index_ids.specs.Ids.{id-in}
-use Rattle.index_names.specs.Walk.{trees-of}
-use Rattle.index_names.proofs.Walks.{Numbered, all-there, all-numbered}
+use Rattle.plan.specs.Walk.{trees-of}
+use Rattle.plan.proofs.Walks.{Numbered, all-there, all-numbered}
 use Rattle.index.proofs.Rows.{plan-is}
 use Rattle.renumber_id_reassigner.specs.Numbers.{numbered-source, new-ids}
 use Rattle.renumber_id_reassigner.proofs.Numbering.{Counted, new-node, length-new}

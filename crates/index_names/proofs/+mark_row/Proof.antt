@@ -2,7 +2,7 @@
 use Rattle.record.specs.Trees.{trees-in}
 use Rattle.plan.specs.Plan.{kids-in}
 use Rattle.plan.specs.Table.{members}
-use Rattle.index_names.specs.Table.{names-in}
+use Rattle.plan.specs.Named.{names-in}
 use Rattle.index_names.proofs.Marking.{mark-deep, Onward, onward-starts, onward-past, onward-done, onward-leaf, onward-goes, level-falls, room-here, room-in, up-in}
 use borrow.Author.Needs.{needs}
 use Prim.Native.Nat.{ℕ, _<_}

@@ -1,7 +1,7 @@
 -- The name is x exactly where that of the record at or above it, at s, is x up to `end`.
 use Rattle.record.specs.Trees.{trees-in}
 use Rattle.index_ids.specs.Table.{ups-in}
-use Rattle.index_names.specs.Table.{names-in}
+use Rattle.plan.specs.Named.{names-in}
 use Rattle.index_names.proofs.Spelling.{Matching, matching}
 use lib.ListN.{length-take}
 use native.Mathlib.Omega.{arith}

@@ -1,5 +1,6 @@
 -- The hash is carried on over the name.
-use Rattle.index_names.proofs.Naming.{sourced}
+use Rattle.plan.proofs.Naming.{sourced}
+use Rattle.index_names.proofs.Hashing.{hash-is}
 use borrow.Author.Needs.{needs}
 use Rattle.index_names.proofs.name_hash.Statement.{statement}
 use Rattle.index_names.proofs.name_hash.Tie as tie
@@ -8,5 +9,5 @@ pub name-hash-spec : {M : Type 1} → statement M
 name-hash-spec = tie.close (tie.spec
     (λ c κs. search (sourced, needs))  -- name-of-requires
     (λ c κs. search (sourced, needs))  -- hash-on-requires
-    (λ c. search (sourced, needs))  -- returns
+    (λ c. search (hash-is, needs))  -- returns
     )

@@ -1,5 +1,5 @@
 -- The length is the source's, at most 255.
-use Rattle.index_names.proofs.Naming.{sourced, source-in}
+use Rattle.plan.proofs.Naming.{sourced, source-in}
 use borrow.Author.Needs.{needs}
 use Rattle.index_names.proofs.name_len.Statement.{statement}
 use Rattle.index_names.proofs.name_len.Tie as tie

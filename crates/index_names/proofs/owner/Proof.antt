@@ -1,7 +1,7 @@
 -- The byte stands in the full name above as long as it is before the own name; places above fall.
 use Rattle.record.specs.Trees.{trees-in}
 use Rattle.index_ids.specs.Table.{ups-in}
-use Rattle.index_names.specs.Table.{names-in}
+use Rattle.plan.specs.Named.{names-in}
 use Rattle.index_names.proofs.Spelling.{Reading, reading, read-small}
 use borrow.Author.Needs.{needs}
 use Rattle.index_names.proofs.owner.Statement.{statement}

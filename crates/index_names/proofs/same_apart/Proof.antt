@@ -1,7 +1,7 @@
 -- The bytes from i on are equal, and those below i are those of two records at or above.
 use Rattle.record.specs.Trees.{trees-in}
 use Rattle.index_ids.specs.Table.{ups-in}
-use Rattle.index_names.specs.Table.{names-in}
+use Rattle.plan.specs.Named.{names-in}
 use Rattle.index_names.proofs.Spelling.{Comparing, comparing, names-go}
 use borrow.Author.Needs.{needs}
 use Rattle.index_names.proofs.same_apart.Statement.{statement}

@@ -1,7 +1,7 @@
 -- The two names are equal exactly where those at or above them, at s and t, are.
 use Rattle.record.specs.Trees.{trees-in}
 use Rattle.index_ids.specs.Table.{ups-in}
-use Rattle.index_names.specs.Table.{names-in}
+use Rattle.plan.specs.Named.{names-in}
 use Rattle.index_names.proofs.Spelling.{Climbing, climbing}
 use borrow.Author.Needs.{needs}
 use Rattle.index_names.proofs.same_names.Statement.{statement}

@@ -1,6 +1,6 @@
 -- What is left of the row ends where the whole ends; levels fall.
 use mathlib.Core.Path.{_≡_, refl}
-use Rattle.index_names.specs.Table.{walk-in}
+use Rattle.plan.specs.Walk.{walk-in}
 use Rattle.index_short_names.proofs.Nexts.{nexts}
 use borrow.Author.Needs.{needs}
 use Prim.Native.Nat.{ℕ, _<_}

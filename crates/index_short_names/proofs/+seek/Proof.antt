@@ -2,7 +2,8 @@
 use mathlib.Core.Path.{_≡_, refl}
 use borrow.Author.Needs.{needs}
 use Rattle.record.specs.Trees.{trees-in}
-use Rattle.index_names.specs.Table.{names-in, kinds-in, walk-in}
+use Rattle.plan.specs.Named.{names-in, kinds-in}
+use Rattle.plan.specs.Walk.{walk-in}
 use Rattle.index_short_names.specs.Seek.{left-at, seen, sighting}
 use Rattle.index_short_names.proofs.Seeking.{seeking, turn-found, turn-own, turn-on}
 use Prim.Native.Nat.{ℕ, _<_}

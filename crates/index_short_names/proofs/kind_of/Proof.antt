@@ -1,5 +1,5 @@
 -- The source at the place stands in its list.
-use Rattle.index_names.proofs.Naming.{source-in, sourced}
+use Rattle.plan.proofs.Naming.{source-in, sourced}
 use borrow.Author.Needs.{needs}
 use Rattle.index_short_names.proofs.kind_of.Statement.{statement}
 use Rattle.index_short_names.proofs.kind_of.Tie as tie

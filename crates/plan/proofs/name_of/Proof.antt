@@ -1,8 +1,8 @@
 -- The source at the place sits, so its name is a part of its pool.
-use Rattle.index_names.proofs.Naming.{sourced}
+use Rattle.plan.proofs.Naming.{sourced}
 use borrow.Author.Needs.{needs}
-use Rattle.index_names.proofs.name_of.Statement.{statement}
-use Rattle.index_names.proofs.name_of.Tie as tie
+use Rattle.plan.proofs.name_of.Statement.{statement}
+use Rattle.plan.proofs.name_of.Tie as tie
 
 pub name-of-spec : {M : Type 1} → statement M
 name-of-spec =

@@ -2,9 +2,12 @@
 -- enough. Where refusal 5 has been tested this is the row that is read.
 use Prim.Native.Nat.{ℕ, zero, suc}
 use mathlib.Core.Bool.{true, false}
+use mathlib.Core.List.{List}
 use lib.Dec.{ltb}
 use Rattle.paper.specs.Forest.{Forest}
 use Rattle.paper.specs.Layout.{Part, nothing, before}
+use Rattle.plan.specs.Plan.{kids-in}
+use Rattle.plan.specs.Table.{members}
 
 unfoldable pub walk-with : (ℕ → ℕ) → (n : ℕ) → (ℕ → ℕ → Part) → (c k : ℕ) → Part
 walk-with kids n inner zero k = nothing k
@@ -18,3 +21,7 @@ walk kids n (suc lv) c k = walk-with kids n (walk kids n lv) c k
 -- all n records, in trees of at most 16 levels
 abbrev pub trees-of : (ℕ → ℕ) → ℕ → Forest ℕ
 trees-of kids n = walk kids n 16 n 0 .trees
+
+-- The trees of a row, as far as there are levels and records.
+abbrev pub walk-in : (plan : List (List ℕ)) (m levels count slot : ℕ) → Part
+walk-in plan m = walk (kids-in (members plan)) m

@@ -6,11 +6,10 @@ use native.Mathlib.Omega.{arith}
 use lib.ListN.{length, getD}
 use Rattle.paper.specs.declared.Kind.{Kind}
 use Rattle.record.specs.Trees.{Trees}
 use Rattle.plan.specs.Plan.{source-field, Sits}
 use Rattle.plan.specs.Sources.{source-kind, source-len, In}
 use Rattle.plan.proofs.Sourcing.{sits-in, kind-source, len-source}
-use Rattle.index_names.specs.Hash.{hash-on}
-use Rattle.index_names.specs.Told.{name-in, kind-in, Sources}
+use Rattle.plan.specs.Named.{name-in, kind-in, Sources}
 
 module _ (l : Trees) (xs : List ℕ) (m k : ℕ) (s : Sources l xs m) (q : k < m) where
   pub source-small : k < 1024
@@ -34,7 +33,4 @@ pub kind-is : (l : Trees) (xs : List ℕ) (k : ℕ) (r : Kind) → r ≡ source-
 unfolding kind-in
 kind-is l xs k r e = e ∙ kind-source l (getD xs k 0)
 
-pub hash-is : (l : Trees) (xs : List ℕ) (k seed r : ℕ) (x : List ℕ) → x ≡ name-in l xs k → r ≡ hash-on seed x → r ≡ hash-on seed (name-in l xs k)
-hash-is l xs k seed r x e h = h ∙ ap (hash-on seed) e
-
-pub ruleset sourced = (source-small, source-sits, source-in, len-is, name-is, kind-is, hash-is)
+pub ruleset sourced = (source-small, source-sits, source-in, len-is, name-is, kind-is)

@@ -15,7 +15,7 @@ use Rattle.laws.proofs.Basics.{refused≢ok, unbind, ok-is}
 use Rattle.tree.proofs.Filled.{lt-or-le, row-parts, full}
 use Rattle.tree.proofs.Roots.{roots-past, roots-in}
 use Rattle.tree.proofs.Steps.{fine-got}
-use Rattle.index_names.specs.Walk.{walk-with, walk, trees-of}
+use Rattle.plan.specs.Walk.{walk-with, walk, trees-of}
 
 module _ (kids : ℕ → ℕ) (n : ℕ) where
   pub walk-none : (lv c k : ℕ) → c ≡ 0 → walk kids n lv c k ≡ nothing k
