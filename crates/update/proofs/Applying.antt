@@ -43,7 +43,7 @@ use Rattle.update_request.proofs.Opening.{open-refused}
 use Rattle.update_schema.specs.declared.Decided.{Decided}
 use Rattle.update_schema.specs.declared.Decided.the-variants as decided
 use Rattle.update_schema.specs.Base.{DecisionsRoom}
-use Rattle.update_schema.specs.Deletions.{gone-ids}
+use Rattle.update_dropped.specs.Gathered.{gone-ids}
 use Rattle.update_schema.specs.Additions.{parents-in}
 use Rattle.update_write.specs.Ending.{sounded, limited-sounded, Rebuildable, rebuilt-tree, Ends}
 use Rattle.update.specs.Updating.{given-in, Passed, Decidable, Settled, Settles}

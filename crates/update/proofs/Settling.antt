@@ -35,7 +35,7 @@ use Rattle.update_request.specs.Opened.{Forests, both-trees, readable}
 use Rattle.update_schema.specs.declared.Decided.{Decided}
 use Rattle.update_schema.specs.declared.Decided.the-variants as decided
 use Rattle.update_schema.specs.Base.{BasedIn, Entries, DecisionsRoom}
-use Rattle.update_schema.specs.Deletions.{gone-ids}
+use Rattle.update_dropped.specs.Gathered.{gone-ids}
 use Rattle.update_schema.specs.Additions.{ColumnsIn, parents-in, all-placed, Placings}
 use Rattle.update_schema.specs.Changes.{changes, Asked, Decides, DecidesIn}
 use Rattle.update.specs.Updating.{given-in, Decidable, planned-in, Settled, Settles}

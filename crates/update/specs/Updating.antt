@@ -26,7 +26,7 @@ use Rattle.update_request.specs.Opened.{both-trees, readable}
 use Rattle.update_schema.specs.declared.Decided.{Decided}
 use Rattle.update_schema.specs.declared.Decided.the-variants as decided
 use Rattle.update_schema.specs.Base.{DecisionsRoom}
-use Rattle.update_schema.specs.Deletions.{gone-ids}
+use Rattle.update_dropped.specs.Gathered.{gone-ids}
 use Rattle.update_schema.specs.Additions.{parents-in}
 
 -- How much is lent, and the last id.

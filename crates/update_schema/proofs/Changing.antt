@@ -18,7 +18,8 @@ use Rattle.update_dropped.specs.declared.Dropped.{Dropped}
 use Rattle.update_dropped.specs.Set.{dropped-ids}
 use Rattle.update_schema.specs.declared.Decided.{Decided}
 use Rattle.update_schema.specs.declared.Decided.the-variants as decided
-use Rattle.update_schema.specs.Deletions.{gone-ids, Gathered, DropsAll}
+use Rattle.update_dropped.specs.Gathered.{gone-ids, Gathered}
+use Rattle.update_schema.specs.Deletions.{DropsAll}
 use Rattle.update_schema.specs.Additions.{one-placed, all-placed, PlacesBy, PlacesAll}
 use Rattle.update_schema.specs.Changes.{changes, Decides}
 use Rattle.update_schema.proofs.Columns.{placed-step, joined}

@@ -11,7 +11,7 @@ use Rattle.paper.specs.Lists.{path-of, id-list}
 use Rattle.paper.specs.Update.{deleted, Placed}
 use Rattle.update_schema.specs.declared.Decided.{Decided}
 use Rattle.update_schema.specs.declared.Decided.the-variants as decided
-use Rattle.update_schema.specs.Deletions.{gone-ids}
+use Rattle.update_dropped.specs.Gathered.{gone-ids}
 use Rattle.record.specs.Trees.{Trees, Lists}
 use Rattle.plan.specs.Table.{fields-in}
 use Rattle.index.specs.Index.{Index}

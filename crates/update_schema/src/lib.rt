@@ -6,7 +6,6 @@ use record::ADDED_RECORDS;
 use record::ADDITIONS;
 use record::Check;
 use record::DELETIONS;
-use record::FieldId;
 use record::IDENTIFIERS;
 use record::Lists;
 use record::POOL;
@@ -15,7 +14,6 @@ use record::REQUEST_POOL;
 use record::Refusal;
 use record::Trees;
 use record::long;
-use record::low_32;
 use record::name_at;
 use record_entries::has_path;
 use record_entries::path_at;
@@ -29,7 +27,7 @@ use update_decide::drop_one;
 use update_decide::place_at_root;
 use update_decide::place_under;
 use update_dropped::Dropped;
-use update_dropped::insert;
+use update_dropped::gather;
 use update_rebuild::Decisions;
 use update_rebuild::FIRSTS;
 use update_rebuild::GONE;
@@ -38,7 +36,6 @@ use update_rebuild::STARTS;
 use update_rebuild::UNDERS;
 ghost use mathlib.Core.Path.{_≡_};
 ghost use Prim.Native.Nat.{_≤_, _<_};
-ghost use lib.ListN.{length};
 ghost use Rattle.paper.specs.Bytes.{name-of};
 ghost use Rattle.paper.specs.Lists.{parent-path};
 ghost use Rattle.paper.specs.Update.{placed};
@@ -48,7 +45,6 @@ ghost use Rattle.update_decide.specs.Entry.{goes};
 ghost use Rattle.record.specs.Trees.{trees-in, lists-in};
 ghost use Rattle.plan.specs.Table.{fields-in};
 ghost use Rattle.index.specs.Index.{Index};
-ghost use Rattle.update_rebuild.specs.Planned.{gone-in};
 ghost use Rattle.update_schema.specs.Base.{BasedIn, AdditionIn, DecisionsRoom};
 ghost use Rattle.update_schema.specs.Additions.{
   column-size,
@@ -58,7 +54,7 @@ ghost use Rattle.update_schema.specs.Additions.{
   PlacesIn,
 };
 ghost use Rattle.update_schema.specs.Changes.{Asked, DecidesIn};
-ghost use Rattle.update_schema.specs.Deletions.{Gathered, DropsIn};
+ghost use Rattle.update_schema.specs.Deletions.{DropsIn};
 
 // An addition that is accepted: where it goes, the bits of its first id, the last id consumed, and the slot behind its column.
 pub struct Spot {
@@ -78,22 +74,6 @@ pub enum Spotted {
 pub enum Decided {
     Last(u64),
     Refused(Refusal),
-}
-
-// The dropped ids as a set, in the lent room; answers how many they are.
-pub fn gather(decisions: &Decisions, total: usize, ids: &mut [u32; 64]) -> usize
-    requires { ⌜ (total ≤ 64) × (length (now ids) ≡ 64) ⌝ }
-    ensures { λ r. ⌜ Gathered (gone-in (now (decisions .entry))) total (set-of (now (ids .exit)) r)
-        ⌝ }
-{
-    let mut n: usize = 0;
-    let mut i = 0;
-    while i < total {
-        let id = low_32(decisions[GONE][i]);
-        n = insert(ids, n, FieldId(id));
-        i += 1;
-    }
-    n
 }
 
 // The deletions, one at a time: refusal 11 or 12, or the ids that they drop.
@@ -303,7 +283,7 @@ pub fn decide_changes<'a>(
         return Decided::Refused(r);
     }
     let mut dropped = Dropped { ids: [0; 64], n: 0 };
-    dropped.n = gather(decisions, given.deletions, &mut dropped.ids);
+    dropped.n = gather(&decisions[GONE], given.deletions, &mut dropped.ids);
     place_columns(
         trees,
         lists[ADDITIONS],

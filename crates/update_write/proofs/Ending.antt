@@ -58,7 +58,7 @@ use Rattle.update_rebuild.specs.Sources.{base-source, added-source, source-id, 
 use Rattle.update_rebuild.specs.Planned.{unders-in, firsts-in, starts-in, gone-in, ResolvedIn, additions-in, Based, fits, verdict, Rebuilds}
 use Rattle.update_rebuild.proofs.Paper.{rebuilt-fields}
 use Rattle.update_rebuild.proofs.Whole.{of-fits}
-use Rattle.update_schema.specs.Deletions.{gone-ids, Gathered}
+use Rattle.update_dropped.specs.Gathered.{gone-ids, Gathered}
 use Rattle.update_write.specs.Ending.{sounded, limited-sounded, Rebuildable, rebuilt-tree, Ends}
 
 -- ---- sources

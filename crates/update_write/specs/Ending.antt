@@ -26,7 +26,7 @@ use Rattle.plan.specs.Table.{Roomy}
 use Rattle.index_ids.specs.Table.{Rooms}
 use Rattle.update_rebuild.specs.declared.Given.{Given}
 use Rattle.update_rebuild.specs.Planned.{gone-in, ResolvedIn, additions-in}
-use Rattle.update_schema.specs.Deletions.{gone-ids}
+use Rattle.update_dropped.specs.Gathered.{gone-ids}
 
 -- 7 to 9 of a rebuilt tree, then the answer with the bits of the last id.
 unfoldable pub sounded : Forest Field → (identifiers : List ℕ) → (last : ℕ) → Answer Result

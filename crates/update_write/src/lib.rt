@@ -11,11 +11,12 @@ use record::Sizes;
 use record::Trees;
 use record::turn_back;
 use update_dropped::Dropped;
+use update_dropped::gather;
 use update_rebuild::Decisions;
+use update_rebuild::GONE;
 use update_rebuild::Given;
 use update_rebuild::Step;
 use update_rebuild::rebuild;
-use update_schema::gather;
 ghost use Rattle.record.specs.Trees.{trees-in};
 ghost use Rattle.update_write.specs.Ending.{Rebuildable, Ends};
 
@@ -40,7 +41,7 @@ pub fn write_rebuilt<'a>(
 {
     // plan
     let mut dropped = Dropped { ids: [0; 64], n: 0 };
-    dropped.n = gather(decisions, given.deletions, &mut dropped.ids);
+    dropped.n = gather(&decisions[GONE], given.deletions, &mut dropped.ids);
     let step = rebuild(
         trees,
         given,

@@ -12,6 +12,7 @@ decide-changes-spec =
     (λ c. search needs)  -- enum-known-check
     (λ c. changes-stop _ _ _ _ _ _ _ _ _ _ _ _ (c .before .before .before .drop-columns .ensures .drops) _ _ _ _ (c .before .check .given .1))  -- returns
     (λ c. search needs)  -- enum-told
+    (λ c. search needs)  -- index-1-gather
     (λ c κs. search needs)  -- gather-requires
     (λ c. search needs)  -- element-copy-out-place-columns
     (λ c κs. search needs)  -- place-columns-requires
