@@ -12,7 +12,7 @@ use Rattle.paper.specs.Layout.{Part, nothing, before}
 use Rattle.paper.specs.Rows.{dotted}
 use Rattle.laws.proofs.Runs.{sets-append, map-append}
 use Rattle.record.specs.Trees.{Trees}
-use Rattle.index_ids.specs.Table.{row, Within}
+use Rattle.index_ids.specs.Table.{row}
 use Rattle.index_ids.proofs.Tables.{within-same, within-both, within-wider, within-cell, row-left}
 use Rattle.index_names.specs.declared.Prefix.{Prefix}
 use Rattle.plan.specs.Walk.{walk}

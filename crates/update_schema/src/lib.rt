@@ -35,7 +35,7 @@ use update_rebuild::Given;
 use update_rebuild::STARTS;
 use update_rebuild::UNDERS;
 ghost use mathlib.Core.Path.{_≡_};
-ghost use Prim.Native.Nat.{_≤_, _<_};
+ghost use Prim.Native.Nat.{_<_};
 ghost use Rattle.paper.specs.Bytes.{name-of};
 ghost use Rattle.paper.specs.Lists.{parent-path};
 ghost use Rattle.paper.specs.Update.{placed};

@@ -1,6 +1,6 @@
 -- The place above holds the parent's id, which is looked up.
 use Rattle.index.proofs.Looking.{looks}
-use borrow.Author.Needs.{needs, scaled-fits}
+use borrow.Author.Needs.{needs}
 use Rattle.index.proofs.look_parent.Statement.{statement}
 use Rattle.index.proofs.look_parent.Tie as tie
 
