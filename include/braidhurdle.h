@@ -44,7 +44,7 @@
 #include <stdint.h>
 
 /* The version of this boundary. It changes with any name, argument, result or size here. */
-#define BRAIDHURDLE_VERSION 2
+#define BRAIDHURDLE_VERSION 3
 /* The least output buffers, in bytes. */
 #define BRAIDHURDLE_RECORD_ROOM 24576
 #define BRAIDHURDLE_NAME_ROOM 32768
@@ -70,7 +70,8 @@
     X(17, NAME_TAKEN, "the name is taken") \
     X(18, NO_IDS_LEFT, "an id would pass 2,147,483,647") \
     X(19, REBUILT_PAST_LIMIT, "the rebuilt tree passes a limit on trees (records, levels or name sum)") \
-    X(20, LIST_OR_MAP_CHOSEN, "pruning meets a list or map chosen directly, not in full mode")
+    X(20, LIST_OR_MAP_CHOSEN, "pruning meets a list or map chosen directly, not in full mode") \
+    X(21, AMBIGUOUS, "two columns match at the same level where case is forgotten")
 
 /* Every list that a refusal may speak of: X(number, name, what it is). Later versions may have more of them. */
 #define BRAIDHURDLE_LISTS(X) \
@@ -116,9 +117,9 @@ struct braidhurdle_name {
     uint32_t offset, length;
 };
 
-/* Answers 2, the version of this boundary, which its name has too: an archive of another version has another name here. A program
+/* Answers 3, the version of this boundary, which its name has too: an archive of another version has another name here. A program
  * that refers to it therefore links with no archive whose functions are declared otherwise. */
-uint32_t braidhurdle_abi_2(void);
+uint32_t braidhurdle_abi_3(void);
 
 /* Drops and adds columns. Deletions and additions are path entries into request_pool; the k-th root of added_records belongs to
  * the k-th addition, its names too stand in request_pool, and ids in it are ignored. Ids are handed out from last_id + 1: the
@@ -148,6 +149,12 @@ struct braidhurdle_changed braidhurdle_renumber(
 
 /* The column of a full name, or else of a short name: its id and slot. A name is any bytes, of any length. Refusals 2 to 8. */
 struct braidhurdle_found braidhurdle_find_name(
+    const uint8_t *records, size_t records_len, const uint8_t *pool, size_t pool_len, const uint8_t *name, size_t name_len);
+
+/* The same where case is forgotten: A to Z equal a to z, in the tree's names and in the asked one, and no other byte folds. A full
+ * name comes before short ones. Refusals 2 to 8; then 21, list 0, where two or more columns match by their full names, or, where
+ * none does, by their short names: the place is the second one's slot, in slot order. From version 3 on. */
+struct braidhurdle_found braidhurdle_find_folded(
     const uint8_t *records, size_t records_len, const uint8_t *pool, size_t pool_len, const uint8_t *name, size_t name_len);
 
 /* The column of an id: that id and its slot. Refusals 2 to 8. */

@@ -2,6 +2,7 @@
 use index::find_id;
 use index::find_name;
 use index::find_parent;
+use index_folded::find_folded;
 use prune::prune;
 use record::Changed;
 use record::FieldId;
@@ -15,7 +16,7 @@ use update::update;
 ghost use mathlib.Core.Path.{_≡_};
 ghost use mathlib.Core.List.{[], _∷_};
 ghost use lib.ListN.{length};
-ghost use Rattle.paper.specs.Entries.{find-name, find-id, find-parent, prune-entry, renumber-entry, update-entry};
+ghost use Rattle.paper.specs.Entries.{find-name, find-folded, find-id, find-parent, prune-entry, renumber-entry, update-entry};
 ghost use Rattle.paper.specs.Outcome.{found, for-records, for-names, for-identifiers, Answers};
 ghost use Rattle.braidhurdle.specs.Numbers.{found-in, found-numbers, sought-numbers, changed-numbers, laid, full-mode};
 ghost use Rattle.braidhurdle.specs.Lent.{stored, lent};
@@ -119,10 +120,10 @@ fn lay_sought(sought: Sought) -> FoundNumbers
 // The version of these functions, in its name too: whoever is compiled against other declarations asks for another name, and finds
 // none here. A change of any declaration raises both.
 #[no_mangle]
-pub extern "C" fn braidhurdle_abi_2() -> u32
-    ensures { λ r. ⌜ r ≡ 2 ⌝ }
+pub extern "C" fn braidhurdle_abi_3() -> u32
+    ensures { λ r. ⌜ r ≡ 3 ⌝ }
 {
-    2
+    3
 }
 
 // Drops and adds columns; ids are handed out from `last_id` + 1.
@@ -215,6 +216,19 @@ pub extern "C" fn braidhurdle_find_name<'a>(
         (now (name .entry)))) ⌝ }
 {
     lay_sought(find_name(records, pool, name))
+}
+
+// The same where case is forgotten; refusal 21 where two columns match at the same level.
+#[no_mangle]
+pub extern "C" fn braidhurdle_find_folded<'a>(
+    records: &'a [u8],
+    pool: &'a [u8],
+    name: &[u8],
+) -> FoundNumbers
+    ensures { λ r. ⌜ r ≡ found-in (found (find-folded (now (records .entry)) (now (pool .entry))
+        (now (name .entry)))) ⌝ }
+{
+    lay_sought(find_folded(records, pool, name))
 }
 
 // The slot of an id.

@@ -18,7 +18,9 @@ use Rattle.paper.specs.Rows.{Row, Start, row, below, beside, rows, entered, ski
 use Rattle.laws.proofs.Basics.{none≢some, some-is, neither, or-none, cond-none}
 use Rattle.laws.proofs.Preorder.{size-mapped}
 use Rattle.plan.proofs.Walks.{Numbered}
-use Rattle.index_short_names.specs.Seek.{strip, then-strip, left-is, inside, own, seek-in}
+use Rattle.index_turns.specs.Turn.{strip, then-strip, left-is, inside, own}
+use Rattle.index_turns.proofs.Left.{same-strip, strip-below, undotted}
+use Rattle.index_short_names.specs.Seek.{seek-in}
 use Rattle.index_short_names.proofs.Seeking.{seek-nothing}
 
 -- ---- lists that are searched
@@ -34,30 +36,6 @@ find-append p (x ∷ s) t = go (p x) (find-append p s t)
 find-cond : {A : Type 0} (p : A → Bool) (b : Bool) (s t : List A) → find p (cond b s t) ≡ cond b (find p s) (find p t)
 find-cond p true s t = refl
 find-cond p false s t = refl
-
--- ---- what is left
-
-same-strip : (p y x : List ℕ) → same (p ++ y) x ≡ left-is (strip p x) y
-same-strip [] y x = refl
-same-strip (a ∷ p) y [] = refl
-same-strip (a ∷ p) y (b ∷ x) = go (eqb a b) (same-strip p y x)
-  where
-    go : (t : Bool) → same (p ++ y) x ≡ left-is (strip p x) y → (t && same (p ++ y) x) ≡ left-is (cond t (strip p x) none) y
-    go true e = e
-    go false e = refl
-
-strip-append : (p q x : List ℕ) → strip (p ++ q) x ≡ then-strip (strip p x) q
-strip-append [] q x = refl
-strip-append (a ∷ p) q [] = refl
-strip-append (a ∷ p) q (b ∷ x) = go (eqb a b) (strip-append p q x)
-  where
-    go : (t : Bool) → strip (p ++ q) x ≡ then-strip (strip p x) q → cond t (strip (p ++ q) x) none ≡ then-strip (cond t (strip p x) none) q
-    go true e = e
-    go false e = refl
-
-strip-below : (b : Bool) (p y x : List ℕ) → strip (cond b p (dotted p y)) x ≡ inside b (strip p x) y
-strip-below true p y x = refl
-strip-below false p y x = strip-append p (y ++ (46 ∷ [])) x
 
 -- ---- a found row and its slot
 
@@ -106,16 +84,6 @@ module _ (fld : ℕ → Field) where
         (rel-cons (is-short r) r k e refl (short-rel g (beside s (mapped fld f)) waiting wait ng h))))
 
     -- ---- a name without a dot is no short name but a root's own, which is its full name
-
-    undotted : (p y : List ℕ) → among 46 y ≡ false → strip (p ++ (46 ∷ [])) y ≡ none
-    undotted [] [] e = refl
-    undotted [] (b ∷ y) e = rw (neither (eqb 46 b) (among 46 y) e .0)
-    undotted (a ∷ p) [] e = refl
-    undotted (a ∷ p) (b ∷ y) e = go (eqb a b) (undotted p y (neither (eqb 46 b) (among 46 y) e .1))
-      where
-        go : (t : Bool) → strip (p ++ (46 ∷ [])) y ≡ none → cond t (strip (p ++ (46 ∷ [])) y) none ≡ none
-        go true h = h
-        go false h = refl
 
     pub dotless : (f : Forest ℕ) (s : Start) → among 46 x ≡ false → s .full ≡ [] → find (λ r. same (r .full) x) (rows s (mapped fld f)) ≡ none → seek-in (λ k. fld k .name) (λ k. fld k .kind) Member (some x) none f ≡ none
     unfolding rows mapped seek-in

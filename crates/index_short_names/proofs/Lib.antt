@@ -1,4 +1,2 @@
-pub mod Fitting
-pub mod Nexts
 pub mod Seeking
 pub mod Entered

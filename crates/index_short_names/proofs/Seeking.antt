@@ -4,6 +4,7 @@ use mathlib.Core.Bool.{Bool, true, false, not, _&&_, cond}
 use mathlib.Core.List.{List}
 use mathlib.Core.Option.{Option, none, some}
 use Prim.Native.Nat.{ℕ, zero, suc, _+_, _-_, _<_, _≤_}
+use native.Mathlib.Numerals.{sub-one}
 use native.Mathlib.Omega.{arith}
 use borrow.Author.Tests.{ltb-true, ltb-false}
 use lib.Dec.{ltb}
@@ -19,11 +20,33 @@ use Rattle.laws.proofs.Basics.{none≢some, or-else-none}
 use Rattle.plan.specs.Walk.{walk}
 use Rattle.plan.proofs.Walks.{walk-none, walk-deep, walk-past, walk-in}
 use Rattle.record.specs.declared.Slot.{Slot}
-use Rattle.index_short_names.specs.declared.Turn.{Turn}
+use Rattle.index_turns.specs.declared.Turn.{Turn}
+use Rattle.index_turns.specs.Turn.{left-is, left-at, inside, own, Turned, seen}
+use Rattle.index_turns.proofs.Fitting.{left-out}
 use Rattle.index_short_names.specs.declared.Sighting.{Sighting}
 use Rattle.index_short_names.specs.declared.Sighting.the-variants.{Found, Past}
-use Rattle.index_short_names.specs.Seek.{left-is, left-at, inside, own, Turned, seek-in, seen, outcome, sighting}
-use Rattle.index_short_names.proofs.Fitting.{left-out}
+use Rattle.index_short_names.specs.Seek.{seek-in, outcome, sighting}
+
+-- ---- small things: `search small`
+
+pub ended-past : (a n : ℕ) → a ≡ 0 → Past (record { 0 = n }) ≡ outcome (seen a) n
+unfolding seen outcome
+ended-past a n e = rw e
+
+pub ended-found : (a n : ℕ) → (a ≡ 0 → ⊥) → Found (record { 0 = a - 1 }) ≡ outcome (seen a) n
+unfolding seen outcome
+ended-found zero n e = absurd (e refl)
+ended-found (suc a) n e = rw (sub-one (suc a))
+
+pub wait-late : (b : Bool) (x y r : ℕ) → b ≡ true → seen r ≡ or-else (seen x) (seen y) → seen r ≡ cond b (or-else (seen x) (seen y)) (seen x)
+wait-late b x y r l e = rw l e
+
+pub wait-same : (b : Bool) (x y : ℕ) → b ≡ false → seen x ≡ cond b (or-else (seen x) (seen y)) (seen x)
+wait-same b x y l = rw l
+
+pub ruleset small = (ended-past, ended-found, wait-late, wait-same)
+
+-- ---- the walk
 
 pub past-is : (o : Option ℕ) (m : ℕ) (j : Slot) → Past j ≡ outcome o m → (o ≡ none) × (j .0 ≡ m)
 unfolding outcome
@@ -91,7 +114,7 @@ module _ (name : ℕ → List ℕ) (kind : ℕ → Kind) (kids : ℕ → ℕ) (x
     pub leave-done : c ≤ 0 → r ≡ W
     leave-done l = nothing-sighted name kind role (left-at x pos) (seen wait) (walk kids n lv c k) k r (walk-none kids n lv c k (omega arith)) er ∙ sym eW
 
-  module _ (m : ℕ) (t : Turn) (w : Sighting) (el : lv ≡ 0 → ⊥) (ec : 0 < c) (l : k < n) (em : m ≡ kids k) (et : Turned name kind role x pos k t)
+  module _ (m : ℕ) (t : Turn) (w : Sighting) (el : lv ≡ 0 → ⊥) (ec : 0 < c) (l : k < n) (em : m ≡ kids k) (et : Turned name kind true role x pos k t)
       (ew : w ≡ sighting name kind (t .role) (left-at x (t .pos)) (seen 0) (walk kids n (lv - 1) m (k + 1))) where
     abbrev inside-part : Part
     inside-part = walk kids n (lv - 1) m (k + 1)

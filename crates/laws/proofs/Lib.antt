@@ -15,5 +15,6 @@ pub mod Natural
 pub mod Pointwise
 pub mod Same
 pub mod Finding
+pub mod Folding
 pub mod Rows
 pub mod Sited

@@ -8,6 +8,7 @@ use Rattle.paper.specs.Answer.{Answer, _>>=_, lowest}
 use Rattle.paper.specs.Refusals.{last-refusal}
 use Rattle.paper.specs.Forest.{empty, size, siblings, levels, preorder, counts, mapped, _then_}
 use Rattle.paper.specs.Rows.{rows, entered, look-name, look-id, look-parent}
+use Rattle.paper.specs.Folded.{fold, folded, matching, look-folded}
 use Rattle.paper.specs.Sound.{text, fitting, misnamed, names, ids, sound, name-bytes, within}
 use Rattle.paper.specs.Prune.{prune}
 use Rattle.paper.specs.Renumber.{level, numbered, renumber}
@@ -24,7 +25,7 @@ use Rattle.paper.specs.Encode as Encode
 use Rattle.paper.specs.Limits.{room, whole, sum-from, name-sum, tree-sized, pool-sized}
 use Rattle.paper.specs.Limits.{sized, sized-ids, sized-update}
 use Rattle.paper.specs.Entries.{Result, update-entry, prune-entry, renumber-entry, read}
-use Rattle.paper.specs.Entries.{find-name, find-id, find-parent}
+use Rattle.paper.specs.Entries.{find-name, find-folded, find-id, find-parent}
 use Rattle.paper.specs.Outcome.{Changed, changed, Found, found, leaves, out-records, out-names, out-identifiers}
 use Rattle.paper.specs.Lister.{digits, decimal, signed, lines, listing, lister}
 use Rattle.paper.specs.Sample.{primitive, T-records, T-pool}
@@ -108,14 +109,14 @@ pub record Held : Type 0 where
 
 pub pins : Held
 unfolding answer answer-of signed-id _>>=_ lowest size siblings levels preorder counts mapped _then_
-    rows entered look-name look-id look-parent
+    rows entered look-name look-id look-parent fold folded matching look-folded
     fitting misnamed names ids sound name-bytes within prune level numbered renumber
     deleted member-taken placed placed-all planned fresh arrivals arriving rebuilt carried-out update
     word16 word32 turned ok-bytes in-pool kind-from name-of field-at from
     ok-deletion ok-addition path-in entries-ok path-of parent-path deletion-paths addition-paths id-list
     deep row-with row roots fields decode row24 encode-records encode-names record-bytes pool-bytes Encode.id-bytes
     room whole sum-from name-sum tree-sized pool-sized sized sized-ids sized-update
-    update-entry prune-entry renumber-entry read find-name find-id find-parent changed found leaves
+    update-entry prune-entry renumber-entry read find-name find-folded find-id find-parent changed found leaves
     digits decimal signed lines listing lister
 pins =
     record {

@@ -15,7 +15,7 @@ use Rattle.paper.specs.Sound.{text, ids}
 use Rattle.paper.specs.Bytes.{turned}
 use Rattle.paper.specs.Encode.{bytes16, bytes32, encode-records, record-bytes, pool-bytes}
 use Rattle.paper.specs.Lent.{Stored, Lent}
-use Rattle.paper.specs.Entries.{Result, update-entry, prune-entry, renumber-entry, find-name, find-id, find-parent}
+use Rattle.paper.specs.Entries.{Result, update-entry, prune-entry, renumber-entry, find-name, find-folded, find-id, find-parent}
 use Rattle.paper.specs.Sample.{primitive, T-records, T-pool}
 
 -- ---- what is lent beside a request
@@ -83,6 +83,7 @@ pub data Ask : Type 0 where
   renumber-from : (start : ℕ) → Ask
   identifiers-from : (start : ℕ) → Ask
   find : String → Ask
+  find-folding : String → Ask
   find-number : (id : ℕ) → Ask
   find-above : (id : ℕ) → Ask
   drop_add_ : List String → List New → Ask
@@ -218,6 +219,7 @@ unfoldable pub answer-of : Lending → Ask → Reply
 answer-of given (renumber-from start) = tree-reply (put-renumber given start)
 answer-of given (identifiers-from start) = identifiers-reply (put-renumber given start)
 answer-of given (find name) = find-reply (find-name (given .records) (given .pool) (text name))
+answer-of given (find-folding name) = find-reply (find-folded (given .records) (given .pool) (text name))
 answer-of given (find-number id) = find-reply (find-id (given .records) (given .pool) id)
 answer-of given (find-above id) = find-reply (find-parent (given .records) (given .pool) id)
 answer-of given (drop drops add adds) = update-reply (put-update update-entry given (lists drops adds))

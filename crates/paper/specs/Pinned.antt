@@ -15,7 +15,8 @@ use Rattle.paper.specs.Bytes.{from}
 use Rattle.paper.specs.Encode.{row24, record-bytes, pool-bytes}
 use Rattle.paper.specs.Sample.{column, primitive, required, struct, listing, mapping, T-records}
 use Rattle.paper.specs.Asked.{Lending, lending, lent, T-lent, New, new, at-root, _under_, Lists, entry}
-use Rattle.paper.specs.Asked.{Ask, renumber-from, identifiers-from, find, find-number, find-above, drop_add_, request}
+use Rattle.paper.specs.Asked.{Ask, renumber-from, identifiers-from, find, find-folding, find-number, find-above}
+use Rattle.paper.specs.Asked.{drop_add_, request}
 use Rattle.paper.specs.Asked.{choose, choose-full, of_ask_}
 use Rattle.paper.specs.Asked.{Reply, tree, updated, ids-are, _with-last_, found, nothing, refusal_list_place_}
 use Rattle.paper.specs.Worked.{Example, _gives_}
@@ -122,6 +123,27 @@ names =
     ∷ (find-above 7 gives found (pos 6))
     ∷ (find-above 1 gives nothing)  -- 56
     ∷ (find-above 99 gives nothing)
+    ∷ []
+
+-- 02, 1/13: where case is forgotten.
+abbrev folded-names : List Example
+folded-names =
+    (find-folding "Node.Cost" gives found (pos 5))
+    ∷ (find-folding "VISITS.Day" gives found (pos 7))
+    ∷ (find-folding "DAY" gives nothing)
+    -- The letters at both ends fold; what stands beside them does not, and no byte above 127 does.
+    ∷ (of tree-of (primitive "AZaz" 1) ask find-folding "azAZ" gives found (pos 1))
+    ∷ (of tree-of (primitive "@[" 1) ask find-folding "`{" gives nothing)  -- 147
+    ∷ (of tree-of (primitive "Ä" 1) ask find-folding "ä" gives nothing)
+    -- An exact match beside another is no help; nor are equal short names, with letters or without; slots count, not entry.
+    ∷ (of tree-of (primitive "a" 1 then primitive "A" 2) ask find-folding "a" gives refusal 21 list 0 place 1)  -- 146
+    ∷ (of tree-of (list-of (dotted then nested)) ask find-folding "L.X.Y" gives refusal 21 list 0 place 5)  -- 145
+    ∷ (of tree-of (list-of (listing "1" 5 (struct "element" 3 (primitive "element" 4)))) ask find-folding "l.1.element"  -- 145
+    gives refusal 21 list 0 place 4)
+    -- A full name hides any number of short ones; of short ones alone two are too many.
+    ∷ (of tree-of (list-of (primitive "a" 3 then primitive "A" 4) then primitive "L.a" 5) ask find-folding "l.A"
+    gives found (pos 5))
+    ∷ (of tree-of (list-of (primitive "a" 3 then primitive "A" 4)) ask find-folding "l.A" gives refusal 21 list 0 place 3)
     ∷ []
 
 abbrev updates : List Example
@@ -317,6 +339,7 @@ met =
     ∷ (of tree-of (chain 16) ask drop [] add (("x" under "a.a.a.a.a.a.a.a.a.a.a.a.a.a.a.a") ∷ [])
     gives refusal 19 list 4 place 0)
     ∷ (choose (3 ∷ []) gives refusal 20 list 0 place 6)
+    ∷ (of tree-of (primitive "b" 1 then primitive "A" 2 then primitive "a" 3) ask find-folding "a" gives refusal 21 list 0 place 2)
     ∷ []
 
 -- ---- the order: what is asked breaks two rules, and the first is told
@@ -325,9 +348,9 @@ met =
 abbrev each-tells : Lending → Reply → List Example
 each-tells given told =
     map (λ q. (of given ask q) gives told)
-    ((drop [] add []) ∷ choose [] ∷ renumber-from 1 ∷ find "a" ∷ find-number 1 ∷ find-above 1 ∷ [])
+    ((drop [] add []) ∷ choose [] ∷ renumber-from 1 ∷ find "a" ∷ find-folding "a" ∷ find-number 1 ∷ find-above 1 ∷ [])
 
--- Of the base: 2 and 3; 3 and 4; 4 and 5; 5 and 6; 6 and 7; 7 and 8. 1 and 2, where there are buffers.
+-- Of the base: 2 and 3; 3 and 4; 4 and 5; 5 and 6; 6 and 7; 7 and 8. 8 and 21. 1 and 2, where there are buffers.
 abbrev base-order : List Example
 base-order =
     each-tells (longer (odd "a" 1)) (refusal 2 list 0 place 0)
@@ -336,7 +359,8 @@ base-order =
     ++ each-tells (cut 3 (listing "a" 1 (primitive "x" 2) then struct "b" 3 (primitive "c" 4))) (refusal 5 list 0 place 3)
     ++ each-tells (tree-of (primitive "a" 1 then listing "b" 1 (primitive "x" 2))) (refusal 6 list 0 place 2)
     ++ each-tells (tree-of (primitive "a" 1 then primitive "a" 2 then primitive "b" 1)) (refusal 7 list 0 place 2)
-    ++ map (λ q. (of narrow (longer empty) ask q) gives refusal 1 list 0 place 0)
+    ++ (of tree-of (primitive "a" 1 then primitive "A" 2 then primitive "a" 3) ask find-folding "a" gives refusal 8 list 0 place 2)
+    ∷ map (λ q. (of narrow (longer empty) ask q) gives refusal 1 list 0 place 0)
     ((drop [] add []) ∷ choose [] ∷ renumber-from 1 ∷ [])
 
 -- No record, and identifiers of 3 bytes.
@@ -413,4 +437,4 @@ decided-order =
     ∷ []
 
 abbrev pub pinned : List Example
-pinned = names ++ updates ++ others ++ byte-rules ++ met ++ base-order ++ own-order ++ lists-order ++ decided-order
+pinned = names ++ folded-names ++ updates ++ others ++ byte-rules ++ met ++ base-order ++ own-order ++ lists-order ++ decided-order

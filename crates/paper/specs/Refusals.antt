@@ -1,4 +1,5 @@
--- 01, Numbers given when a request is turned down: each number once, with its list and its place, in the order of 01's table.
+-- 01, Numbers given when a request is turned down: each number once, with its list and its place, in the order of 01's table;
+-- from 21 on, in the order of 02.
 -- Lists: 0 base, 1 additions tree, 2 deletions, 3 additions, 4 rebuilt tree, 5 identifiers.
 -- The last number and the last list stand here alone; `tools/refusals` and the theorems read them.
 use Prim.Native.Nat.{ℕ}
@@ -7,7 +8,7 @@ use mathlib.Core.Option.{Option}
 use Rattle.paper.specs.Answer.{Answer, refused, fault, fault-if, demand}
 
 abbrev pub last-refusal : ℕ
-last-refusal = 20
+last-refusal = 21
 
 abbrev pub last-list : ℕ
 last-list = 5
@@ -91,3 +92,8 @@ rebuilt-within within = fault-if 19 4 0 (not within)
 -- refusal 20: pruning meets a list or map chosen directly, not in full mode
 abbrev pub chosen-directly : {A : Type 0} → (slot : ℕ) → Answer A
 chosen-directly slot = refused 20 0 slot
+
+-- 02, 1/13: of a look-up, after 8.
+-- refusal 21: two columns match at the same level where case is forgotten
+abbrev pub ambiguous : {A : Type 0} → (second : ℕ) → Answer A
+ambiguous second = refused 21 0 second

@@ -74,9 +74,9 @@ pub struct Name {
 #[used]
 static DECLARED: unsafe extern "C" fn() -> u32 = {
     unsafe extern "C" {
-        fn braidhurdle_abi_2() -> u32;
+        fn braidhurdle_abi_3() -> u32;
     }
-    braidhurdle_abi_2
+    braidhurdle_abi_3
 };
 
 /// One function of the archive. Its arguments are lists, a number, lists, and buffers to write, in
@@ -142,6 +142,10 @@ function! {
 function! {
     /// The column of a full name, or else of a short name.
     find_name is braidhurdle_find_name(records pool name;;;) -> Found
+}
+function! {
+    /// The same where case is forgotten: A to Z equal a to z. Two columns at one level: refusal 21.
+    find_folded is braidhurdle_find_folded(records pool name;;;) -> Found
 }
 function! {
     /// The column of an id.

@@ -4,7 +4,8 @@ use borrow.Author.Needs.{needs}
 use Rattle.record.specs.Trees.{trees-in}
 use Rattle.plan.specs.Named.{names-in, kinds-in}
 use Rattle.plan.specs.Walk.{walk-in}
-use Rattle.index_short_names.specs.Seek.{left-at, seen, sighting}
+use Rattle.index_turns.specs.Turn.{left-at, seen}
+use Rattle.index_short_names.specs.Seek.{sighting}
 use Rattle.index_short_names.proofs.Seeking.{seeking, turn-found, turn-own, turn-on}
 use Prim.Native.Nat.{ℕ, _<_}
 use borrow.Fn.Kinds.{In}
@@ -14,9 +15,9 @@ use Rattle.index_short_names.proofs.seek.Kinds as seek-kinds
 use Rattle.index_short_names.proofs.+seek.Lts-seek as seek-lts
 use Rattle.index_short_names.proofs.ended.Reads as ended-reads
 use Rattle.index_short_names.proofs.is_late.Reads as is-late-reads
-use Rattle.index_short_names.proofs.row_next.Reads as row-next-reads
+use Rattle.index_turns.proofs.row_next.Reads as row-next-reads
 use Rattle.index_short_names.proofs.takes.Reads as takes-reads
-use Rattle.index_short_names.proofs.turn_at.Reads as turn-at-reads
+use Rattle.index_turns.proofs.turn_at.Reads as turn-at-reads
 use Rattle.index_short_names.proofs.waiting.Reads as waiting-reads
 use Rattle.paper.proofs.next_role.Reads as next-role-reads
 use Rattle.index_short_names.proofs.+seek.{statement}

@@ -1,5 +1,5 @@
 -- What waits, or the end of the row.
-use Rattle.index_short_names.proofs.Fitting.{small}
+use Rattle.index_short_names.proofs.Seeking.{small}
 use borrow.Author.Needs.{needs}
 use Rattle.index_short_names.proofs.ended.Statement.{statement}
 use Rattle.index_short_names.proofs.ended.Tie as tie

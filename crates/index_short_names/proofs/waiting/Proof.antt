@@ -1,5 +1,5 @@
 -- Late records join what waits.
-use Rattle.index_short_names.proofs.Fitting.{small}
+use Rattle.index_short_names.proofs.Seeking.{small}
 use borrow.Author.Needs.{needs}
 use Rattle.index_short_names.proofs.waiting.Statement.{statement}
 use Rattle.index_short_names.proofs.waiting.Tie as tie

@@ -1,16 +1,16 @@
 -- What is left of the row ends where the whole ends; levels fall.
 use mathlib.Core.Path.{_≡_, refl}
 use Rattle.plan.specs.Walk.{walk-in}
-use Rattle.index_short_names.proofs.Nexts.{nexts}
+use Rattle.index_turns.proofs.Nexts.{nexts}
 use borrow.Author.Needs.{needs}
 use Prim.Native.Nat.{ℕ, _<_}
 use borrow.Fn.Kinds.{In}
 use borrow.Fn.PlainCycle.{Measures, is, falls, and}
-use Rattle.index_short_names.proofs.row_next.Reads as row-next
-use Rattle.index_short_names.proofs.row_next.Kinds as row-next-kinds
-use Rattle.index_short_names.proofs.+row_next.Lts-row_next as row-next-lts
-use Rattle.index_short_names.proofs.+row_next.{statement}
-use Rattle.index_short_names.proofs.+row_next.Tie.{close}
+use Rattle.index_turns.proofs.row_next.Reads as row-next
+use Rattle.index_turns.proofs.row_next.Kinds as row-next-kinds
+use Rattle.index_turns.proofs.+row_next.Lts-row_next as row-next-lts
+use Rattle.index_turns.proofs.+row_next.{statement}
+use Rattle.index_turns.proofs.+row_next.Tie.{close}
 
 abbrev μ-row-next : Measures 1 row-next-kinds.ps ℕ
 μ-row-next κs a = a .1 .1 .0 .levels

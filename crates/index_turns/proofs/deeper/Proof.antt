@@ -1,8 +1,8 @@
 -- Skipped: the same is left. A name and a dot: what stands behind them. Else nothing.
-use Rattle.index_short_names.proofs.Fitting.{small}
+use Rattle.index_turns.proofs.Fitting.{small}
 use borrow.Author.Needs.{needs}
-use Rattle.index_short_names.proofs.deeper.Statement.{statement}
-use Rattle.index_short_names.proofs.deeper.Tie as tie
+use Rattle.index_turns.proofs.deeper.Statement.{statement}
+use Rattle.index_turns.proofs.deeper.Tie as tie
 
 pub deeper-spec : {M : Type 1} → statement M
 deeper-spec = tie.close (tie.spec

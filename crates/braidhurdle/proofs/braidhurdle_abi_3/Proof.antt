@@ -1,8 +1,8 @@
 -- The version is 2.
 -- Assumes nothing.
 use borrow.Author.Needs.{needs}
-use Rattle.braidhurdle.proofs.braidhurdle_abi_2.Statement.{statement}
-use Rattle.braidhurdle.proofs.braidhurdle_abi_2.Tie as tie
+use Rattle.braidhurdle.proofs.braidhurdle_abi_3.Statement.{statement}
+use Rattle.braidhurdle.proofs.braidhurdle_abi_3.Tie as tie
 
 pub braidhurdle-abi-2-spec : {M : Type 1} → statement M
 braidhurdle-abi-2-spec =

@@ -1,8 +1,8 @@
 -- What is asked of a record, from its kind and its name.
-use Rattle.index_short_names.proofs.Fitting.{turned}
+use Rattle.index_turns.proofs.Fitting.{turned}
 use borrow.Author.Needs.{needs}
-use Rattle.index_short_names.proofs.turn_at.Statement.{statement}
-use Rattle.index_short_names.proofs.turn_at.Tie as tie
+use Rattle.index_turns.proofs.turn_at.Statement.{statement}
+use Rattle.index_turns.proofs.turn_at.Tie as tie
 
 pub turn-at-spec : {M : Type 1} → statement M
 turn-at-spec =

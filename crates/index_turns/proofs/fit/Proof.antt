@@ -2,11 +2,11 @@
 use Prim.Native.Nat.{_-_, _+_, _≤_}
 use mathlib.Core.Path.{_≡_}
 use lib.ListN.{length, drop}
-use Rattle.index_short_names.specs.Seek.{fits}
-use Rattle.index_short_names.proofs.Fitting.{fitting}
+use Rattle.index_turns.specs.Turn.{fits}
+use Rattle.index_turns.proofs.Fitting.{fitting}
 use borrow.Author.Needs.{needs}
-use Rattle.index_short_names.proofs.fit.Statement.{statement}
-use Rattle.index_short_names.proofs.fit.Tie as tie
+use Rattle.index_turns.proofs.fit.Statement.{statement}
+use Rattle.index_turns.proofs.fit.Tie as tie
 
 abbrev Inv-loop : tie.InvT-loop
 Inv-loop name x pos i₀ at₀ i at = (i ≤ length name) × ((at ≡ pos + i) × (fits name (drop pos x) ≡ fits (drop i name) (drop at x)))

@@ -1,8 +1,8 @@
 -- The source at the place stands in its list.
 use Rattle.plan.proofs.Naming.{source-in, sourced}
 use borrow.Author.Needs.{needs}
-use Rattle.index_short_names.proofs.kind_of.Statement.{statement}
-use Rattle.index_short_names.proofs.kind_of.Tie as tie
+use Rattle.index_turns.proofs.kind_of.Statement.{statement}
+use Rattle.index_turns.proofs.kind_of.Tie as tie
 
 pub kind-of-spec : {M : Type 1} → statement M
 kind-of-spec =

@@ -1,0 +1,3 @@
+pub mod Fitting
+pub mod Left
+pub mod Nexts
