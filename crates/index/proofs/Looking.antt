@@ -42,8 +42,9 @@ use Rattle.plan.proofs.Walks.{all-there, all-numbered}
 use Rattle.index_names.proofs.Telling.{fulls-are}
 use Rattle.index_short_names.specs.declared.Sighting.{Sighting}
 use Rattle.index_short_names.specs.declared.Sighting.the-variants as sighted
-use Rattle.index_short_names.specs.Seek.{left-at, seek-in, seen, outcome, sighting}
-use Rattle.index_short_names.proofs.Fitting.{left-in}
+use Rattle.index_turns.specs.Turn.{left-at, seen}
+use Rattle.index_turns.proofs.Fitting.{left-in}
+use Rattle.index_short_names.specs.Seek.{seek-in, outcome, sighting}
 use Rattle.index_short_names.proofs.Seeking.{past-is, found-is}
 use Rattle.index_short_names.proofs.Entered as short
 use Rattle.index_short_names.proofs.Entered.{short-rel, dotless, found-in}

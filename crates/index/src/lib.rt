@@ -129,7 +129,7 @@ fn found_at(id: u32, slot: usize) -> Found
 }
 
 // A slot that was found, with its id.
-fn with_id(plan: &PlanRows, found: FoundSlot) -> Found
+pub fn with_id(plan: &PlanRows, found: FoundSlot) -> Found
     requires { ⌜ Below found ⌝ }
     ensures { λ r. ⌜ r ≡ found-slot (numbers (now (plan .entry))) (held found) ⌝ }
 {

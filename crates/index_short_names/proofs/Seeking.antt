@@ -21,7 +21,7 @@ use Rattle.plan.specs.Walk.{walk}
 use Rattle.plan.proofs.Walks.{walk-none, walk-deep, walk-past, walk-in}
 use Rattle.record.specs.declared.Slot.{Slot}
 use Rattle.index_turns.specs.declared.Turn.{Turn}
-use Rattle.index_turns.specs.Turn.{left-is, left-at, inside, own, Turned, seen}
+use Rattle.index_turns.specs.Turn.{spelt, left-is, left-at, inside, own, Turned, seen}
 use Rattle.index_turns.proofs.Fitting.{left-out}
 use Rattle.index_short_names.specs.declared.Sighting.{Sighting}
 use Rattle.index_short_names.specs.declared.Sighting.the-variants.{Found, Past}
@@ -57,6 +57,11 @@ pub found-is : (o : Option ℕ) (m : ℕ) (j : Slot) → Found j ≡ outcome o m
 unfolding outcome
 found-is none m j e = absurd (let z : _≡_ {A = ℕ} 0 1 = cc in omega arith)
 found-is (some k) m j e = let z : j ≡ record { 0 = k } = cc in ap some (sym (ap (λ (x : Slot). x .0) z))
+
+-- Short names as they are, with case.
+pub exactly : (name : ℕ → List ℕ) (kind : ℕ → Kind) (role : Role) (x : List ℕ) (pos k : ℕ) (t : Turn) → Turned (λ j. spelt false (name j)) kind true role (spelt false x) pos k t → Turned name kind true role x pos k t
+unfolding spelt
+exactly name kind role x pos k t h = h
 
 module _ (name : ℕ → List ℕ) (kind : ℕ → Kind) where
   -- with nothing left to look for, only what waits is found

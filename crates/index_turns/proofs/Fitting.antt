@@ -15,24 +15,26 @@ use Rattle.paper.specs.declared.Kind.{Kind}
 use Rattle.paper.specs.declared.Role.{Role}
 use Rattle.paper.specs.Answer.{same, or-else}
 use Rattle.paper.specs.Field.{first}
-use Rattle.paper.specs.Folded.{fold, folded}
 use Rattle.paper.specs.Rows.{skipped}
 use Rattle.laws.proofs.Finding.{eqb-flip}
-use Rattle.laws.proofs.Folding.{fold-low, fold-high, fold-letter, fold-dot, folded-length, folded-take, folded-drop, folded-at}
+use Rattle.laws.proofs.Folding.{fold-dot, folded-length, folded-take, folded-drop, folded-at}
 use Rattle.index_ids.specs.Chain.{pick}
 use Rattle.index_turns.specs.Turn.{spelt, strip, left-at, fits, deeper, inside, own, Turned, seen}
 
 -- ---- names as they are compared
 
 pub spelt-length : (b : Bool) (x : List ℕ) → length (spelt b x) ≡ length x
+unfolding spelt
 spelt-length true x = folded-length x
 spelt-length false x = refl
 
 spelt-part : (b : Bool) (n pos : ℕ) (x : List ℕ) → take n (drop pos (spelt b x)) ≡ spelt b (take n (drop pos x))
+unfolding spelt
 spelt-part true n pos x = ap (take n) (folded-drop pos x) ∙ folded-take n (drop pos x)
 spelt-part false n pos x = refl
 
 spelt-dot : (b : Bool) (x : List ℕ) (k : ℕ) → eqb (getD (spelt b x) k 0) 46 ≡ eqb (getD x k 0) 46
+unfolding spelt
 spelt-dot true x k = ap (λ (i : ℕ). eqb i 46) (folded-at x k) ∙ fold-dot (getD x k 0)
 spelt-dot false x k = refl
 
@@ -84,7 +86,10 @@ module _ (nm x : List ℕ) (pos : ℕ) (b : Bool) (l : pos ≤ length x) where
   pub fit-none : length x - pos < length nm → 0 ≡ fits (spelt b nm) (drop pos (spelt b x))
   fit-none s = sym (under-lengths (spelt b nm) (drop pos (spelt b x)) (omega (arith, left-length, spelt-length b nm)))
 
-  module _ (room : length nm ≤ length x - pos) (end : ℕ) (ee : end ≡ pos + length nm) where
+  module _ (room : length nm ≤ length x - pos) where
+    abbrev end : ℕ
+    end = pos + length nm
+
     part : take (length (spelt b nm)) (drop pos (spelt b x)) ≡ spelt b (take (end - pos) (drop pos x))
     part =
         let z : length (spelt b nm) ≡ end - pos = omega (arith, spelt-length b nm) in
@@ -117,7 +122,7 @@ module _ (nm x : List ℕ) (pos : ℕ) (b : Bool) (l : pos ≤ length x) where
     pub fit-apart : (end ≡ length x → ⊥) → (getD x end 0 ≡ 46 → ⊥) → 0 ≡ fits (spelt b nm) (drop pos (spelt b x))
     fit-apart q d = sym (before-end q ∙ rw (ne-eqb (getD x end 0) 46 d) (go (same (spelt b nm) (spelt b (take (end - pos) (drop pos x))))))
       where
-        go : (t : Bool) → cond (t && false) 2 0 ≡ 0
+        go : (t : Bool) → _≡_ {A = ℕ} (cond (t && false) 2 0) 0
         go true = refl
         go false = refl
 
@@ -200,6 +205,7 @@ module _ (nm x : List ℕ) (pos f : ℕ) (l : pos ≤ length x) (ef : f ≡ fits
       (left-out x (length x + 1) (omega arith))
 
   deep-is : (skip : Bool) → left-at x (deeper skip f pos (length nm) (length x)) ≡ inside skip (left-at x pos) nm
+  unfolding deeper
   deep-is true = refl
   deep-is false = go (eqb f 2) refl
     where
@@ -239,22 +245,16 @@ module _ (nm x : List ℕ) (pos f : ℕ) (b : Bool) (l : pos ≤ length x) (ef :
 
 -- ---- small things
 
-pub fold-is-low : (x : ℕ) → x < 65 → x ≡ fold x
-fold-is-low x l = sym (fold-low x l)
-
-pub fold-is-high : (x : ℕ) → 90 < x → x ≡ fold x
-fold-is-high x l = sym (fold-high x l)
-
-pub fold-is-letter : (x : ℕ) → 65 ≤ x → x ≤ 90 → x + 32 ≡ fold x
-fold-is-letter x l h = sym (fold-letter x l h)
-
 pub deep-skips : (skip : Bool) (f pos len end : ℕ) → skip ≡ true → pos ≡ deeper skip f pos len end
+unfolding deeper
 deep-skips skip f pos len end e = rw e
 
 pub deep-goes : (skip : Bool) (f pos len end : ℕ) → skip ≡ false → f ≡ 2 → pos + len + 1 ≡ deeper skip f pos len end
+unfolding deeper
 deep-goes skip f pos len end e q = rw (e, eq-eqb f 2 q)
 
 pub deep-ends : (skip : Bool) (f pos len end : ℕ) → skip ≡ false → (f ≡ 2 → ⊥) → end + 1 ≡ deeper skip f pos len end
+unfolding deeper
 deep-ends skip f pos len end e q = rw (e, ne-eqb f 2 q)
 
 pub own-yes : (f k : ℕ) → f ≡ 1 → k + 1 ≡ pick (eqb f 1) (k + 1) 0
@@ -272,10 +272,4 @@ unfolding seen
 either-a zero b e = absurd (e refl)
 either-a (suc a) b e = refl
 
-pub alike-folded : (b r : Bool) (x y : List ℕ) → b ≡ true → r ≡ same (folded x) (folded y) → r ≡ same (spelt b x) (spelt b y)
-alike-folded b r x y e h = rw e h
-
-pub alike-exact : (b r : Bool) (x y : List ℕ) → b ≡ false → r ≡ same x y → r ≡ same (spelt b x) (spelt b y)
-alike-exact b r x y e h = rw e h
-
-pub ruleset small = (fold-is-low, fold-is-high, fold-is-letter, deep-skips, deep-goes, deep-ends, own-yes, own-no, either-a, either-b, alike-folded, alike-exact)
+pub ruleset small = (deep-skips, deep-goes, deep-ends, own-yes, own-no, either-a, either-b)

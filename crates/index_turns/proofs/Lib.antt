@@ -1,3 +1,4 @@
+pub mod Comparing
 pub mod Fitting
 pub mod Left
 pub mod Nexts

@@ -18,7 +18,7 @@ use Rattle.index_turns.specs.declared.Spelling.{Spelling}
 use Rattle.index_turns.specs.declared.Turn.{Turn}
 
 -- A name as it is compared: as it is, or folded.
-abbrev pub spelt : (folding : Bool) → List ℕ → List ℕ
+unfoldable pub spelt : (folding : Bool) → List ℕ → List ℕ
 spelt true x = folded x
 spelt false x = x
 
@@ -51,7 +51,7 @@ fits (a ∷ p) [] = 0
 fits (a ∷ p) (b ∷ y) = cond (eqb a b) (fits p y) 0
 
 -- Where what is left inside a record begins: the same where its name is skipped, behind its name and the dot, or behind the end.
-abbrev pub deeper : (skip : Bool) → (fit pos len end : ℕ) → ℕ
+unfoldable pub deeper : (skip : Bool) → (fit pos len end : ℕ) → ℕ
 deeper skip fit pos len end = cond skip pos (cond (eqb fit 2) (pos + len + 1) (end + 1))
 
 -- What is left inside a record; the same where its name is skipped.

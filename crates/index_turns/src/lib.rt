@@ -89,7 +89,9 @@ fn equal_folded(a: &[u8], b: &[u8]) -> bool
     }
     let mut i = 0;
     while i < n {
-        if fold(a[i]) != fold(b[i]) {
+        let x = fold(a[i]);
+        let y = fold(b[i]);
+        if x != y {
             return false;
         }
         i += 1;
