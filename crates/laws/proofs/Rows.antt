@@ -5,12 +5,13 @@ use mathlib.Core.Bool.{Bool, true, false, cond}
 use mathlib.Core.List.{List, [], _∷_, _++_}
 use mathlib.Core.Option.{Option, none, some}
 use lib.Dec.{eqb}
-use Rattle.paper.specs.Answer.{find, or-else, same}
+use Rattle.paper.specs.Answer.{ok, find, keep, or-else, same}
 use Rattle.paper.specs.Forest.{Forest, empty, node, mapped}
 use Rattle.paper.specs.Field.{Field}
 use Rattle.paper.specs.Rows.{Row, Start, top, row, below, beside, rows, late, entered}
 use Rattle.paper.specs.Rows.{look-name, look-id, parent-of, look-some, look-parent}
-use Rattle.laws.proofs.Basics.{none≢some, some-is}
+use Rattle.paper.specs.Folded.{folded, matching, or-short, only, look-folded}
+use Rattle.laws.proofs.Basics.{refused≢ok, ok-is, none≢some, some-is}
 
 data Every (P : Row → Type 0) : List Row → Type 0 where
   done : Every P []
@@ -32,6 +33,19 @@ module _ (P : Row → Type 0) where
       go : (b : Bool) → cond b (some x) (find t s) ≡ some r → (find t s ≡ some r → P r) → P r
       go true q f = subst P (some-is q) p
       go false q f = f q
+
+  every-kept : (t : Row → Bool) {s : List Row} → Every P s → Every P (keep t s)
+  every-kept t done = done
+  every-kept t (more {r = x} p h) = every-cond (t x) (more p (every-kept t h)) (every-kept t h)
+
+  every-or-short : {a b : List Row} → Every P a → Every P b → Every P (or-short a b)
+  every-or-short done g = g
+  every-or-short (more p h) g = more p h
+
+  every-only : {s : List Row} (r : Row) → Every P s → only s ≡ ok (some r) → P r
+  every-only r done e = absurd (none≢some (ok-is e))
+  every-only r (more p done) e = subst P (some-is (ok-is e)) p
+  every-only r (more p (more q h)) e = absurd (refused≢ok e)
 
   either : (a b : Option Row) (r : Row) → (a ≡ some r → P r) → (b ≡ some r → P r) → or-else a b ≡ some r → P r
   either none b r f g e = g e
@@ -79,3 +93,10 @@ module _ {A : Type 0} (fld : A → Field) (P : Row → Type 0) (Inv : Start → 
         go : (o : Option ℕ) → look-some (mapped fld t) o ≡ some r → P r
         go none e = absurd (none≢some e)
         go (some j) e = id-has j e
+
+    pub folded-has : (x : List ℕ) → look-folded (mapped fld t) x ≡ ok (some r) → P r
+    unfolding look-folded matching
+    folded-has x =
+        every-only P r
+        (every-or-short P (every-kept P (λ r. same (folded (r .full)) (folded x)) (rows-have top t h))
+        (every-kept P (λ r. same (folded (r .short)) (folded x)) (rows-have top t h)))
