@@ -6,7 +6,7 @@ use mathlib.Core.Option.{Option, none, some}
 use native.Mathlib.Omega.{arith}
 use Rattle.paper.specs.Answer.{Answer, ok, refused}
 use Rattle.paper.specs.Rows.{Row}
-use Rattle.paper.specs.Entries.{Result, find-name, find-id, find-parent}
+use Rattle.paper.specs.Entries.{Result, find-name, find-folded, find-id, find-parent}
 use Rattle.paper.specs.Outcome.{found, changed, Buffer, Answers}
 use Rattle.laws.proofs.Fitting.{sized-slots}
 use Rattle.record.specs.declared.Refusal.{Refusal}
@@ -20,7 +20,7 @@ use Rattle.record.specs.declared.Sizes.{Sizes}
 use Rattle.record.specs.declared.Changed.{Changed}
 use Rattle.record.specs.declared.Changed.the-variants as changing
 use Rattle.record.specs.Says.{found-row, looked, changes}
-use Rattle.index.specs.Finds.{FoundIn, by-name, by-id, by-parent}
+use Rattle.index.specs.Finds.{FoundIn, by-name, by-folded, by-id, by-parent}
 use Rattle.index.proofs.Standing.{row-here}
 use Rattle.braidhurdle.specs.declared.ChangedNumbers.{ChangedNumbers}
 use Rattle.braidhurdle.specs.declared.FoundNumbers.{FoundNumbers}
@@ -41,6 +41,9 @@ module _ (s pool : List ℕ) where
   name-told : (x : List ℕ) → sought-numbers (looked (find-name s pool x)) ≡ found-in (found (find-name s pool x))
   name-told x = told (find-name s pool x) (λ r e. found-small s pool r (by-name x e))
 
+  folded-told : (x : List ℕ) → sought-numbers (looked (find-folded s pool x)) ≡ found-in (found (find-folded s pool x))
+  folded-told x = told (find-folded s pool x) (λ r e. found-small s pool r (by-folded x e))
+
   id-told : (i : ℕ) → sought-numbers (looked (find-id s pool i)) ≡ found-in (found (find-id s pool i))
   id-told i = told (find-id s pool i) (λ r e. found-small s pool r (by-id i e))
 
@@ -50,6 +53,9 @@ module _ (s pool : List ℕ) where
   module _ (w : Sought) (r : FoundNumbers) (e : r ≡ sought-numbers w) where
     pub tells-name : (x : List ℕ) → w ≡ looked (find-name s pool x) → r ≡ found-in (found (find-name s pool x))
     tells-name x h = e ∙ ap sought-numbers h ∙ name-told x
+
+    pub tells-folded : (x : List ℕ) → w ≡ looked (find-folded s pool x) → r ≡ found-in (found (find-folded s pool x))
+    tells-folded x h = e ∙ ap sought-numbers h ∙ folded-told x
 
     pub tells-id : (i : ℕ) → w ≡ looked (find-id s pool i) → r ≡ found-in (found (find-id s pool i))
     tells-id i h = e ∙ ap sought-numbers h ∙ id-told i
@@ -87,4 +93,4 @@ pub left-told : (a : Answer Result) (buffers : List Buffer) (c : Changed) (r : C
     → Answers changes a buffers c news → r ≡ changed-numbers c → Answers laid a buffers r news
 left-told a buffers c r news h e = record { told = e ∙ ap changed-numbers (h .told) ∙ changed-told a; left = h .left }
 
-pub ruleset telling = (tells-name, tells-id, tells-parent, lay-at, lay-nothing, lay-refused, lay-looked, lay-done, lay-turned-down)
+pub ruleset telling = (tells-name, tells-folded, tells-id, tells-parent, lay-at, lay-nothing, lay-refused, lay-looked, lay-done, lay-turned-down)

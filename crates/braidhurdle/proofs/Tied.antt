@@ -12,7 +12,7 @@ use borrow.Fn.World.{ArgsD, ResD}
 use contract.Lifetimes.{Lfts}
 use denote.Ref.{now}
 use denote.Triple.Clauses.{AtExit}
-use Rattle.paper.specs.Entries.{update-entry, prune-entry, renumber-entry, find-name, find-id, find-parent}
+use Rattle.paper.specs.Entries.{update-entry, prune-entry, renumber-entry, find-name, find-folded, find-id, find-parent}
 use Rattle.paper.specs.Outcome as outcome
 use Rattle.paper.specs.Outcome.{found, for-records, for-names, for-identifiers, Answers}
 use Rattle.braidhurdle.specs.declared.NameNumbers.{NameNumbers}
@@ -30,6 +30,8 @@ use Rattle.braidhurdle.proofs.braidhurdle_renumber as renumber
 use Rattle.braidhurdle.proofs.braidhurdle_renumber.Reads as renumber-reads
 use Rattle.braidhurdle.proofs.braidhurdle_find_name as by-name
 use Rattle.braidhurdle.proofs.braidhurdle_find_name.Reads as by-name-reads
+use Rattle.braidhurdle.proofs.braidhurdle_find_folded as by-folded
+use Rattle.braidhurdle.proofs.braidhurdle_find_folded.Reads as by-folded-reads
 use Rattle.braidhurdle.proofs.braidhurdle_find_id as by-id
 use Rattle.braidhurdle.proofs.braidhurdle_find_id.Reads as by-id-reads
 use Rattle.braidhurdle.proofs.braidhurdle_find_parent as by-parent
@@ -95,6 +97,12 @@ module _ (κs : Lfts 2) (a : ArgsD by-name.signature κs) (r : ResD by-name.sign
   pub find-name-says : by-name-reads.Learnt κs a r s
       ≡ (r ≡ found-in (found (find-name (now (a .0)) (now (a .1 .0)) (now (a .1 .1 .0)))))
   find-name-says = refl
+
+module _ (κs : Lfts 2) (a : ArgsD by-folded.signature κs) (r : ResD by-folded.signature κs)
+    (s : AtExit by-folded.ended κs) where
+  pub find-folded-says : by-folded-reads.Learnt κs a r s
+      ≡ (r ≡ found-in (found (find-folded (now (a .0)) (now (a .1 .0)) (now (a .1 .1 .0)))))
+  find-folded-says = refl
 
 module _ (κs : Lfts 1) (a : ArgsD by-id.signature κs) (r : ResD by-id.signature κs) (s : AtExit by-id.ended κs) where
   pub find-id-says : by-id-reads.Learnt κs a r s

@@ -1,12 +1,12 @@
--- The walk that forgets case: each turn of the loop over siblings leaves what is to be answered to the rest of the row. `search meeting`.
+-- The walk that forgets case: each turn of the loop over siblings leaves what is to be answered to the rest of the row. `search meets`.
 use mathlib.Core.Path.{_≡_, refl, sym, ap, _∙_}
-use mathlib.Core.Bool.{Bool, true, false, _&&_, cond}
+use mathlib.Core.Bool.{Bool, true, false, _&&_, cond, true≢false}
 use mathlib.Core.List.{List, [], _∷_, _++_}
 use mathlib.Core.Option.{Option, none, some}
 use Prim.Native.Nat.{ℕ, zero, suc, _+_, _-_, _<_, _≤_}
 use native.Mathlib.Numerals.{add-one}
 use native.Mathlib.Omega.{arith}
-use borrow.Author.Tests.{ltb-true, ltb-false}
+use borrow.Author.Tests.{ltb-true, lt-ltb}
 use lib.Dec.{ltb}
 use lib.ListN.{length}
 use Rattle.paper.specs.declared.Kind.{Kind}
@@ -19,15 +19,16 @@ use Rattle.paper.specs.Layout.{Part, nothing, before}
 use Rattle.paper.specs.Rows.{skipped}
 use Rattle.laws.proofs.Basics.{none≢some, some-is, or-else-none}
 use Rattle.laws.proofs.Folding.{folded-length}
+use Rattle.laws.proofs.RoundTrip.{both}
 use Rattle.plan.specs.Walk.{walk}
 use Rattle.plan.proofs.Walks.{walk-none, walk-deep, walk-past, walk-in}
 use Rattle.record.specs.declared.Slot.{Slot}
 use Rattle.index_turns.specs.declared.Turn.{Turn}
 use Rattle.index_turns.specs.Turn.{spelt, left-is, left-at, inside, Turned, seen}
 use Rattle.index_turns.proofs.Fitting.{left-out}
-use Rattle.index_folded.specs.declared.Met.{Met}
-use Rattle.index_folded.specs.declared.Met.the-variants.{Twice, Past}
-use Rattle.index_folded.specs.Met.{matched, met, meeting}
+use Rattle.index_folded_names.specs.declared.Met.{Met}
+use Rattle.index_folded_names.specs.declared.Met.the-variants.{Twice, Past}
+use Rattle.index_folded_names.specs.Met.{matched, met, meeting}
 
 -- Case is forgotten.
 pub folding : (name : ℕ → List ℕ) (kind : ℕ → Kind) (short : Bool) (role : Role) (x : List ℕ) (pos k : ℕ) (t : Turn) → Turned (λ j. spelt true (name j)) kind short role (spelt true x) pos k t → Turned (λ j. folded (name j)) kind short role (folded x) pos k t
@@ -69,7 +70,6 @@ module _ (k one me : ℕ) (rest : List ℕ) (n : ℕ) where
   own-twice true e l h = go one l
     where
       go : (i : ℕ) → 0 < i → met i (k ∷ rest) n ≡ Twice (record { 0 = k })
-      unfolding met
       go zero l = absurd (omega arith)
       go (suc i) l = refl
   own-twice false e l h = absurd (let z : me ≡ 0 = place-is me 0 e in omega arith)
@@ -79,11 +79,9 @@ module _ (k one me : ℕ) (rest : List ℕ) (n : ℕ) where
   own-on true i e h q = go one h q
     where
       me-is : me ≡ suc k
-      unfolding seen
       me-is = place-is me (suc k) e
 
       go : (j : ℕ) → ((0 < j) × (0 < me) → ⊥) → seen i ≡ or-else (seen j) (seen me) → met j (k ∷ rest) n ≡ met i rest n
-      unfolding met seen
       go zero h q = ap (λ (v : ℕ). met v rest n) (sym (place-is i (suc k) (q ∙ ap seen me-is)))
       go (suc j) h q = absurd (h (omega arith, let z = me-is in omega arith))
   own-on false i e h q = ap (λ (v : ℕ). met v rest n) (sym (place-is i one (q ∙ ap (or-else (seen one)) e ∙ or-else-none (seen one))))
@@ -147,7 +145,7 @@ module _ (name : ℕ → List ℕ) (kind : ℕ → Kind) (short : Bool) where
 
         module _ (i : ℕ) (q : two ≡ false) (ei : seen i ≡ or-else (seen one) (seen (t .me))) where
           onward : W ≡ met i (inner ++ others) (rest .next)
-          onward = whole ∙ own-on k one (t .me) (inner ++ others) (rest .next) (left-is (left-at (folded x) pos) (name k)) i (et .mine) (λ h. not-both (ltb 0 one) (ltb 0 (t .me)) (lt-ltb 0 one (h .0)) (lt-ltb 0 (t .me) (h .1)) (sym eb ∙ q)) ei
+          onward = whole ∙ own-on k one (t .me) (inner ++ others) (rest .next) (left-is (left-at (folded x) pos) (name k)) i (et .mine) (λ h. true≢false (sym (rw (lt-ltb 0 one (h .0), lt-ltb 0 (t .me) (h .1))) ∙ (sym eb ∙ q))) ei
 
           -- Nothing is inside a leaf.
           pub turn-leaf : (m : ℕ) (nr : Role) → m ≡ kids k → m ≡ 0 → nr ≡ after role → W ≡ meeting name kind short nr (left-at (folded x) pos) i (walk kids n lv (c - 1) (k + 1))
@@ -170,4 +168,4 @@ module _ (name : ℕ → List ℕ) (kind : ℕ → Kind) (short : Bool) where
                 let z = met-past inner others i (inside-part .next) (rest .next) j v (sym inner-met ∙ e) in
                 onward ∙ z .0 ∙ rw (z .1, en)
 
-pub ruleset meeting-out = (meet-out, meet-deep, leave-past, leave-done)
+pub ruleset meets = (meet-out, meet-deep, leave-past, leave-done)

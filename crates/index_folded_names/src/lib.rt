@@ -1,0 +1,107 @@
+// Names whose case is forgotten, in slot order (02, 1/13): a walk that carries how much of the asked name is matched, and builds no
+// name. Full names and short ones are walked alike.
+use index_turns::Spelling;
+use index_turns::either;
+use index_turns::row_next;
+use index_turns::turn_at;
+use paper::Role;
+use paper::next_role;
+use plan::MEMBERS;
+use plan::PlanRows;
+use record::Siblings;
+use record::Slot;
+use record::Trees;
+ghost use mathlib.Core.Path.{_≡_};
+ghost use mathlib.Core.Bool.{_&&_};
+ghost use Prim.Native.Nat.{_≤_};
+ghost use lib.Dec.{ltb};
+ghost use Rattle.paper.specs.Folded.{folded};
+ghost use Rattle.record.specs.Trees.{trees-in};
+ghost use Rattle.plan.specs.Named.{kinds-in, SourcesIn};
+ghost use Rattle.plan.specs.Walk.{walk-in};
+ghost use Rattle.index_turns.specs.Turn.{left-at};
+ghost use Rattle.index_folded_names.specs.Met.{folded-in, meeting};
+
+// Two matches, with the slot of the second; or the slot behind a row, and the place of the one match up to there, 0 for none.
+pub enum Met {
+    Twice(Slot),
+    Past(Slot, usize),
+}
+
+// Whether there are two places.
+fn both(a: usize, b: usize) -> bool
+    ensures { λ r. ⌜ r ≡ (ltb 0 a && ltb 0 b) ⌝ }
+{
+    (0 < a) & (0 < b)
+}
+
+// The records of a row of trees whose names fold to what is left of x from `pos` on, in slot order, up to the second. `first` is the
+// place of the one before, 0 for none. A subtree is entered where the prefix fits.
+pub fn meet_row<'a>(
+    trees: &Trees<'a>,
+    plan: &PlanRows,
+    m: usize,
+    row: Siblings,
+    role: Role,
+    short: bool,
+    x: &[u8],
+    pos: usize,
+    first: usize,
+) -> Met
+    requires { ⌜ (row .slot ≤ m) × SourcesIn (trees-in (now trees)) (now plan) m ⌝ }
+    ensures { λ r. ⌜ r ≡ meeting (folded-in (trees-in (now (trees .entry))) (now (plan .entry)))
+        (kinds-in (trees-in (now (trees .entry))) (now (plan .entry))) short role
+        (left-at (folded (now (x .entry))) pos) first
+        (walk-in (now (plan .entry)) m (row .levels) (row .count) (row .slot)) ⌝ }
+{
+    let spelling = Spelling {
+        short,
+        folding: true,
+    };
+    let levels = row.levels;
+    if x.len() < pos {
+        return Met::Past(Slot(row_next(plan, m, row)), first);
+    }
+    if levels == 0 {
+        return Met::Past(Slot(row.slot), first);
+    }
+    let mut at = row.slot;
+    let mut left = row.count;
+    let mut part = role;
+    let mut met = first;
+    while 0 < left {
+        if m <= at {
+            return Met::Past(Slot(at), met);
+        }
+        let turn = turn_at(trees, plan, m, at, part, spelling, x, pos);
+        let inside = turn.role;
+        let me = turn.me;
+        if both(met, me) {
+            return Met::Twice(Slot(at));
+        }
+        met = either(met, me);
+        part = next_role(part);
+        left -= 1;
+        let members = plan[MEMBERS][at];
+        // Nothing is inside a leaf: no call is made for it.
+        if members == 0 {
+            at += 1;
+            continue;
+        }
+        let inner = Siblings {
+            slot: at + 1,
+            count: members,
+            levels: levels - 1,
+        };
+        match meet_row(trees, plan, m, inner, inside, short, x, turn.pos, met) {
+            Met::Twice(k) => {
+                return Met::Twice(k);
+            }
+            Met::Past(next, one) => {
+                at = next.0;
+                met = one;
+            }
+        }
+    }
+    Met::Past(Slot(at), met)
+}
