@@ -1,6 +1,6 @@
 -- What the walks met is what the paper keeps, so the answer is the paper's. `search telling`, `search looking`, `search finding`.
 use mathlib.Core.Path.{_≡_, refl, sym, ap, subst, _∙_}
-use mathlib.Core.Bool.{Bool, true, false, not, cond}
+use mathlib.Core.Bool.{Bool, true, false, not, cond, true≢false}
 use mathlib.Core.List.{List, [], _∷_}
 use mathlib.Core.Option.{some}
 use Prim.Native.Nat.{ℕ, zero, suc, _-_, _<_, _≤_}
@@ -62,7 +62,6 @@ unfolding slot-before
 small-one w j one s h e q = go one s (subst Small e h) q
   where
     go : (i : ℕ) (s : FoundSlot) → i ≤ 1024 → s ≡ slot-before i → Below s
-    unfolding slot-before
     go zero s l q = record { small = λ t z. absurd (let y : _≡_ {A = ℕ} 0 1 = cc in omega arith) }
     go (suc i) s l q = record { small = λ t z. let y : t .0 ≡ i = ap (λ (v : Slot). v .0) (let u : t ≡ record { 0 = i } = cc in u) in omega arith }
 
@@ -86,8 +85,8 @@ pub ruleset telling = (none-twice, none-past, small-second, small-one, tell-seco
 none-is : (ks : List ℕ) (n : ℕ) → is-none (met 0 ks n) ≡ true → ks ≡ []
 unfolding met
 none-is [] n e = refl
-none-is (k ∷ []) n e = absurd (let z : _≡_ {A = ℕ} 0 1 = cc in omega arith)
-none-is (k ∷ j ∷ ks) n e = absurd (let z : _≡_ {A = ℕ} 0 1 = cc in omega arith)
+none-is (k ∷ []) n e = absurd (true≢false (sym e ∙ ne-eqb (suc k) 0 (λ z. omega arith)))
+none-is (k ∷ j ∷ ks) n e = absurd (true≢false (sym e))
 
 small-met : (ks : List ℕ) (b n : ℕ) → b ≤ 1024 → All b ks → Small (met 0 ks n)
 unfolding met
@@ -136,8 +135,11 @@ module _ (l : Trees) (xs is ks : List ℕ) (m : ℕ) (p : Plan l xs is ks m) (x 
   told-is : (rs : List Row) (ss : List ℕ) (n : ℕ) → At fld rs ss → told is (met 0 ss n) ≡ looked (only rs)
   unfolding told met looked found-row found-slot seen
   told-is [] [] n done = refl
-  told-is (r ∷ []) (k ∷ []) n (more e f done) = rw (e, f, field-id l xs is k)
-  told-is (r ∷ q ∷ rs) (k ∷ j ∷ ss) n (more e f (more g h a)) = rw g
+  told-is (r ∷ rs) (k ∷ ss) n (more e f a) = go rs ss a
+    where
+      go : (rs : List Row) (ss : List ℕ) → At fld rs ss → told is (met (suc k) ss n) ≡ looked (only (r ∷ rs))
+      go [] [] done = rw (e, f, field-id l xs is k)
+      go (q ∷ rs) (j ∷ ss) (more g h a) = rw g
 
   at-none : (rs : List Row) (ss : List ℕ) → At fld rs ss → ss ≡ [] → rs ≡ []
   at-none [] [] done e = refl
@@ -149,11 +151,10 @@ module _ (l : Trees) (xs is ks : List ℕ) (m : ℕ) (p : Plan l xs is ks m) (x 
   module _ (w : Met) (ew : w ≡ walked false) (b : Bool) (eb : b ≡ is-none w) where
     -- A full name matches.
     pub full-told : (r : Sought) → not b ≡ true → r ≡ told is w → r ≡ looked (look-folded tree x)
-    unfolding look-folded
+    unfolding look-folded met
     full-told r q er = er ∙ ap (told is) ew ∙ answers false ∙ go (kept false) (slots false) (kept-at false) (sym (ap is-none (ew ∙ walked-is false)) ∙ sym eb ∙ not-true b q)
       where
         go : (rs : List Row) (ss : List ℕ) → At fld rs ss → is-none (met 0 ss (walk (kids-in ks) m 16 m 0 .next)) ≡ false → looked (only rs) ≡ looked (only (or-short rs (kept true)))
-        unfolding met
         go [] [] done e = absurd (let z : _≡_ {A = ℕ} 0 1 = cc in omega arith)
         go (r ∷ rs) (k ∷ ss) (more d f a) e = refl
 

@@ -1,0 +1,17 @@
+-- A refusal is `read`'s; else the look-up is in the tree that was read.
+use Rattle.index_folded.proofs.Looking.{finding}
+use borrow.Author.Needs.{needs}
+use Rattle.index_folded.proofs.find_folded.Statement.{statement}
+use Rattle.index_folded.proofs.find_folded.Tie as tie
+
+pub find-folded-spec : {M : Type 1} → statement M
+find-folded-spec =
+    tie.close
+    (tie.spec
+    (λ c κs. search (finding, needs))  -- open-base-requires
+    (λ c. search (finding, needs))  -- enum-known-opened
+    (λ c. search (finding, needs))  -- returns
+    (λ c. search (finding, needs))  -- enum-told
+    (λ c κs. c .before .before .before .before .open-base .ensures .planned (c .before .before .enum-told .given .1))  -- look-folded-requires
+    (λ c. search (finding, needs))  -- returns-2
+    )
