@@ -1,4 +1,4 @@
--- The theorems of document 01.
+-- The theorems of documents 01 and 02.
 pub mod Signed
 pub mod Counting
 pub mod Columns

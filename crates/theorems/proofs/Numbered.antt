@@ -42,4 +42,5 @@ one-number-each =
       of-18 = only-if 18;
       of-19 = λ b. only-if 19 4 0 (not b);
       of-20 = λ k. told;
+      of-21 = λ k. told;
     }

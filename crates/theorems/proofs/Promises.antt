@@ -177,7 +177,7 @@ pub one-answer : {A : Type 0} (says : Answer Result → A) (answer : Answer Resu
     → Answers says answer buffers said′ news′ → (said ≡ said′) × (news ≡ news′)
 one-answer = One.one-answer
 
--- and so are two of a look-up.
+-- and so are two of a look-up, of any of the four: by name, by id, by parent, and by a name whose case is forgotten.
 pub one-found : (answer : Answer (Option Row)) (said said′ : Found) → PromisedFound answer said
     → PromisedFound answer said′ → said ≡ said′
 one-found = One.one-found
@@ -196,7 +196,7 @@ each-refusal-has-one-number = one-number-each
 pub an-id-is-no-slot : IdsAreNoSlots
 an-id-is-no-slot = ids-are-no-slots
 
--- A refusal has a number of 01's table, from 1 to the last, and one of its lists, from 0 to the last.
+-- A refusal of any entry has a number from 1 to the last and a list from 0 to the last.
 pub refusals-are-told : RefusalsTold
 refusals-are-told = refusals-told
 

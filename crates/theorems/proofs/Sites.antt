@@ -16,11 +16,11 @@ use Rattle.paper.specs.Bytes.{word16, word32, turned, ok-bytes, in-pool, kind-f
 use Rattle.paper.specs.Layout.{deep, row-with, row, roots}
 use Rattle.paper.specs.Decode.{fields, decode}
 use Rattle.paper.specs.Limits.{whole, sum-from, name-sum, tree-sized, pool-sized, sized}
-use Rattle.paper.specs.Entries.{read, find-name, find-id, find-parent}
+use Rattle.paper.specs.Entries.{read, find-name, find-id, find-parent, find-folded}
 use Rattle.paper.specs.Outcome.{found}
 use Rattle.laws.proofs.Basics.{unbind, ok-is, none≢some, some-is}
 use Rattle.laws.proofs.Words.{turned-twice, turned-below}
-use Rattle.laws.proofs.Sited.{Sited, name-sited, id-sited, parent-sited}
+use Rattle.laws.proofs.Sited.{Sited, name-sited, id-sited, parent-sited, folded-sited}
 use Rattle.theorems.specs.Sites.{AtItsSlot, IdsAreNoSlots}
 
 -- The numbers of a look-up whose row, if it finds one, is the record at its slot.
@@ -69,6 +69,7 @@ ids-are-no-slots =
       by-id = λ s p i e.
           (at-its-slot s p (find-id s p i) (λ r. id-sited s p r i) e, asked-id s p i (find-id s p i) refl e);
       by-parent = λ s p i. at-its-slot s p (find-parent s p i) (λ r. parent-sited s p r i);
+      by-folded-name = λ s p x. at-its-slot s p (find-folded s p x) (λ r. folded-sited s p r x);
       id-3 = refl;
       id-6 = refl;
       slot-3 = refl;

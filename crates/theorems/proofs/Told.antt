@@ -1,5 +1,5 @@
--- Each refusal has a number from 1 to the last and a list from 0 to the last: every step of an entry gives one of 01's
--- table.
+-- Each refusal has a number from 1 to the last and a list from 0 to the last: every step of an entry gives one of
+-- Refusals.antt.
 use Prim.Native.Nat.{ℕ, zero, suc, _+_, _≤_}
 use mathlib.Core.Path.{_≡_, sym}
 use mathlib.Core.Bool.{Bool, true, false, not, _&&_}
@@ -17,7 +17,8 @@ use Rattle.paper.specs.Refusals.{last-refusal, last-list}
 use Rattle.paper.specs.Forest.{Forest, empty, node, size, siblings}
 use Rattle.paper.specs.declared.Role.the-variants.{Member}
 use Rattle.paper.specs.Field.{Field, id-of, kind-of, first, after, highest}
-use Rattle.paper.specs.Rows.{look-name}
+use Rattle.paper.specs.Rows.{Row, top, rows, look-name}
+use Rattle.paper.specs.Folded.{matching, or-short, only, look-folded}
 use Rattle.paper.specs.Sound.{misnamed, names, ids, sound, within}
 use Rattle.paper.specs.Prune.{kept, pruned, tested, is-chosen, prune}
 use Rattle.paper.specs.Renumber.{renumber}
@@ -32,7 +33,7 @@ use Rattle.paper.specs.Limits.{room, sized, sized-ids, sized-update}
 use Rattle.paper.specs.Lent.{Stored, Lent}
 use Rattle.paper.specs.Outcome.{changed}
 use Rattle.paper.specs.Entries.{Result, update-entry, prune-entry, renumber-entry, read, find-name, find-id}
-use Rattle.paper.specs.Entries.{find-parent}
+use Rattle.paper.specs.Entries.{find-parent, find-folded}
 use Rattle.laws.proofs.Basics.{refused≢ok}
 use Rattle.theorems.specs.One.{Told, accepted, turned-down, RefusalsTold}
 
@@ -272,6 +273,17 @@ find-parent-told : (s p : List ℕ) (i : ℕ) → Told (find-parent s p i)
 unfolding find-parent
 find-parent-told s p i = told-bind (read-told s p) λ t. accepted
 
+only-told : (s : List Row) → Told (only s)
+only-told [] = accepted
+only-told (r ∷ []) = accepted
+only-told (r ∷ q ∷ s) = turned-down {number = 21} {list = 0} (omega arith) (omega arith) (omega arith)
+
+find-folded-told : (s p x : List ℕ) → Told (find-folded s p x)
+unfolding find-folded look-folded
+find-folded-told s p x =
+    told-bind (read-told s p) λ t.
+    only-told (or-short (matching (λ r. r .full) x (rows top t)) (matching (λ r. r .short) x (rows top t)))
+
 pub refusals-told : RefusalsTold
 refusals-told =
     record {
@@ -281,6 +293,7 @@ refusals-told =
       name-look-up = find-name-told;
       id-look-up = find-id-told;
       parent-look-up = find-parent-told;
+      folded-look-up = find-folded-told;
     }
 
 -- So 0 is said of an acceptance alone.

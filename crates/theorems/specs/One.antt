@@ -9,7 +9,7 @@ use Rattle.paper.specs.Refusals.{last-refusal, last-list}
 use Rattle.paper.specs.Rows.{Row}
 use Rattle.paper.specs.Lent.{Stored, Lent}
 use Rattle.paper.specs.Entries.{Result, update-entry, prune-entry, renumber-entry}
-use Rattle.paper.specs.Entries.{find-name, find-id, find-parent}
+use Rattle.paper.specs.Entries.{find-name, find-id, find-parent, find-folded}
 use Rattle.paper.specs.Outcome.{Changed, changed, Found, found, Buffer, Answers}
 
 -- ---- answers
@@ -28,7 +28,7 @@ pub record NoByteChanges : Type 1 where
   pub told : (answer : Answer Result) (buffers : List Buffer) (said : Changed) (news : List (List ℕ))
       → Answers changed answer buffers said news → (said .refusal ≡ 0 → ⊥) → Untouched buffers news
 
--- A look-up hands back its numbers alone.
+-- A look-up hands back its numbers alone, whichever of the four it is: the answer is any of theirs.
 abbrev pub PromisedFound : Answer (Option Row) → Found → Type 0
 PromisedFound answer said = said ≡ found answer
 
@@ -49,3 +49,4 @@ pub record RefusalsTold : Type 0 where
   pub name-look-up : (records pool name : List ℕ) → Told (find-name records pool name)
   pub id-look-up : (records pool : List ℕ) (id : ℕ) → Told (find-id records pool id)
   pub parent-look-up : (records pool : List ℕ) (id : ℕ) → Told (find-parent records pool id)
+  pub folded-look-up : (records pool name : List ℕ) → Told (find-folded records pool name)

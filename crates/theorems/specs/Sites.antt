@@ -5,7 +5,7 @@ use Prim.Native.Nat.{ℕ, _<_}
 use mathlib.Core.Path.{_≡_}
 use mathlib.Core.List.{List}
 use Rattle.paper.specs.Bytes.{turned, rec-at, slots}
-use Rattle.paper.specs.Entries.{find-name, find-id, find-parent}
+use Rattle.paper.specs.Entries.{find-name, find-id, find-parent, find-folded}
 use Rattle.paper.specs.Outcome.{Found, found}
 use Rattle.paper.specs.Sample.{T-records, T-pool}
 
@@ -29,6 +29,8 @@ pub record IdsAreNoSlots : Type 0 where
       × (turned (found (find-id records pool id) .id) ≡ turned id)
   pub by-parent : (records pool : List ℕ) (id : ℕ) → found (find-parent records pool id) .found ≡ 1
       → AtItsSlot records (found (find-parent records pool id))
+  pub by-folded-name : (records pool name : List ℕ) → found (find-folded records pool name) .found ≡ 1
+      → AtItsSlot records (found (find-folded records pool name))
   -- The two differ, both ways: T has ids 3 and 6 and slots 3 and 6. Id 3 is at slot 6 and id 6 at slot 4; slot 3 has
   -- id 2. Slot 0 is there and id 0 is not; id 10 is there and slot 10 is not.
   pub id-3 : found (find-id T-records T-pool 3) ≡ found-at 3 6
