@@ -13,7 +13,7 @@ use Rattle.paper.specs.Answer.{any, place-of, repeated}
 use Rattle.paper.specs.Bytes.{from}
 use Rattle.paper.specs.Renumber.{renamed}
 use Rattle.laws.specs.Members.{_∈_}
-use Rattle.laws.proofs.Basics.{none≢some, some-is, Distinct, repeated-none}
+use Rattle.laws.proofs.Basics.{none≢some, some-is, Distinct, none-twice, eqb-self}
 
 same-or-more : (j i : ℕ) → j ≤ i → (i ≡ j) ⊎ (suc j ≤ i)
 same-or-more j i l = go (eqb i j) refl
@@ -84,7 +84,7 @@ either a b n = go (ltb a b) refl
 -- Where no value equals an earlier one, equal values stand at one place.
 pub one-place : (f : ℕ → ℕ) (m : ℕ) → repeated eqb [] 0 (from f 0 m) ≡ none → (a b : ℕ) → a < m → b < m → f a ≡ f b → a ≡ b
 one-place f m e a b la lb q =
-    let d = repeated-none [] 0 (from f 0 m) e .1 in
+    let d = none-twice eqb eqb-self 0 (from f 0 m) e in
     go (eqb a b) refl d
   where
     go : (t : Bool) → eqb a b ≡ t → Distinct (from f 0 m) → a ≡ b
