@@ -1,4 +1,4 @@
--- Laws of the definitions of document 01, which proofs of code and of theorems cite.
+-- Laws of the definitions of documents 01 and 02, which proofs of code and of theorems cite.
 pub mod Basics
 pub mod Words
 pub mod Runs
@@ -16,5 +16,7 @@ pub mod Pointwise
 pub mod Same
 pub mod Finding
 pub mod Folding
+pub mod Kept
+pub mod Ordered
 pub mod Rows
 pub mod Sited

@@ -1,16 +1,13 @@
 -- What a look-up finds is the record at its slot (laws' `Sited`), so its id is that record's.
 use Prim.Native.Nat.{ℕ, _*_}
-use mathlib.Core.Path.{_≡_, refl, sym, ap, _∙_}
-use mathlib.Core.Bool.{Bool, true, false, cond}
-use mathlib.Core.List.{List, [], _∷_}
+use mathlib.Core.Path.{_≡_, refl, ap, _∙_}
+use mathlib.Core.List.{List}
 use mathlib.Core.Option.{Option, none, some}
 use native.Mathlib.Omega.{arith}
-use lib.Dec.{eqb}
-use borrow.Author.Tests.{eqb-true}
-use Rattle.paper.specs.Answer.{Answer, ok, refused, _>>=_, find, lowest}
+use Rattle.paper.specs.Answer.{Answer, ok, refused, _>>=_, lowest}
 use Rattle.paper.specs.Forest.{size, siblings, mapped, _then_}
 use Rattle.paper.specs.Field.{Field}
-use Rattle.paper.specs.Rows.{Row, rows, top, look-id}
+use Rattle.paper.specs.Rows.{Row, rows, look-id}
 use Rattle.paper.specs.Sound.{fitting, misnamed, names, ids, sound}
 use Rattle.paper.specs.Bytes.{word16, word32, turned, ok-bytes, in-pool, kind-from, name-of, field-at}
 use Rattle.paper.specs.Layout.{deep, row-with, row, roots}
@@ -18,8 +15,9 @@ use Rattle.paper.specs.Decode.{fields, decode}
 use Rattle.paper.specs.Limits.{whole, sum-from, name-sum, tree-sized, pool-sized, sized}
 use Rattle.paper.specs.Entries.{read, find-name, find-id, find-parent, find-folded}
 use Rattle.paper.specs.Outcome.{found}
-use Rattle.laws.proofs.Basics.{unbind, ok-is, none≢some, some-is}
+use Rattle.laws.proofs.Basics.{unbind, ok-is}
 use Rattle.laws.proofs.Words.{turned-twice, turned-below}
+use Rattle.laws.proofs.Rows.{id-found}
 use Rattle.laws.proofs.Sited.{Sited, name-sited, id-sited, parent-sited, folded-sited}
 use Rattle.theorems.specs.Sites.{AtItsSlot, IdsAreNoSlots}
 
@@ -38,23 +36,13 @@ at-its-slot s p (ok (some r)) h e =
 at-its-slot s p (ok none) h e = absurd (omega arith)
 at-its-slot s p (refused n l k) h e = absurd (omega arith)
 
--- A row that passed the test of its id.
-passes : (i : ℕ) (l : List Row) (r : Row) → find (λ r. eqb (r .field .id) i) l ≡ some r → r .field .id ≡ i
-passes i [] r e = absurd (none≢some e)
-passes i (x ∷ l) r e = go (eqb (x .field .id) i) refl e (passes i l r)
-  where
-    go : (b : Bool) → eqb (x .field .id) i ≡ b → cond b (some x) (find (λ r. eqb (r .field .id) i) l) ≡ some r
-        → (find (λ r. eqb (r .field .id) i) l ≡ some r → r .field .id ≡ i) → r .field .id ≡ i
-    go true q h f = sym (ap (λ (y : Row). y .field .id) (some-is h)) ∙ eqb-true _ _ q
-    go false q h f = f h
-
 -- The id that was asked.
 asked-id : (s p : List ℕ) (i : ℕ) (a : Answer (Option Row)) → find-id s p i ≡ a → found a .found ≡ 1
     → turned (found a .id) ≡ turned i
-unfolding found find-id look-id
+unfolding found find-id
 asked-id s p i (ok (some r)) e q =
     unbind _ _ e λ t _ h.
-    let w : r .field .id ≡ turned i = passes (turned i) (rows top t) r (ok-is h) in
+    let w : r .field .id ≡ turned i = id-found t (turned i) r (ok-is h) .1 in
     ap (λ (x : ℕ). turned (turned x)) w ∙ turned-twice _ (turned-below _)
 asked-id s p i (ok none) e q = absurd (omega arith)
 asked-id s p i (refused n l k) e q = absurd (omega arith)

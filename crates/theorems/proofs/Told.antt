@@ -17,8 +17,8 @@ use Rattle.paper.specs.Refusals.{last-refusal, last-list}
 use Rattle.paper.specs.Forest.{Forest, empty, node, size, siblings}
 use Rattle.paper.specs.declared.Role.the-variants.{Member}
 use Rattle.paper.specs.Field.{Field, id-of, kind-of, first, after, highest}
-use Rattle.paper.specs.Rows.{Row, top, rows, look-name}
-use Rattle.paper.specs.Folded.{matching, or-short, only, look-folded}
+use Rattle.paper.specs.Rows.{Row, look-name}
+use Rattle.paper.specs.Folded.{only, look-folded}
 use Rattle.paper.specs.Sound.{misnamed, names, ids, sound, within}
 use Rattle.paper.specs.Prune.{kept, pruned, tested, is-chosen, prune}
 use Rattle.paper.specs.Renumber.{renumber}
@@ -35,6 +35,7 @@ use Rattle.paper.specs.Outcome.{changed}
 use Rattle.paper.specs.Entries.{Result, update-entry, prune-entry, renumber-entry, read, find-name, find-id}
 use Rattle.paper.specs.Entries.{find-parent, find-folded}
 use Rattle.laws.proofs.Basics.{refused≢ok}
+use Rattle.laws.proofs.Rows.{matched}
 use Rattle.theorems.specs.One.{Told, accepted, turned-down, RefusalsTold}
 
 -- ---- steps
@@ -280,9 +281,7 @@ only-told (r ∷ q ∷ s) = turned-down {number = 21} {list = 0} (omega arith) (
 
 find-folded-told : (s p x : List ℕ) → Told (find-folded s p x)
 unfolding find-folded look-folded
-find-folded-told s p x =
-    told-bind (read-told s p) λ t.
-    only-told (or-short (matching (λ r. r .full) x (rows top t)) (matching (λ r. r .short) x (rows top t)))
+find-folded-told s p x = told-bind (read-told s p) λ t. only-told (matched t x)
 
 pub refusals-told : RefusalsTold
 refusals-told =
