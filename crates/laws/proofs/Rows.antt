@@ -28,7 +28,7 @@ pub in-or-short : (full short : List Row) (r : Row) → (r ∈ full) ⊎ (((q : 
 in-or-short [] short r h = ⊎-elim (λ k. absurd k) (λ k. k .1) h
 in-or-short (q ∷ full) short r h = ⊎-elim (λ k. k) (λ k. absurd (k .0 q (inl refl))) h
 
-only-in : (s : List Row) (r : Row) → only s ≡ ok (some r) → r ∈ s
+pub only-in : (s : List Row) (r : Row) → only s ≡ ok (some r) → r ∈ s
 only-in [] r e = absurd (none≢some (ok-is e))
 only-in (q ∷ []) r e = inl (sym (some-is (ok-is e)))
 only-in (q ∷ p ∷ s) r e = absurd (refused≢ok e)
@@ -75,28 +75,35 @@ module _ (t : Forest Field) where
       go none e = absurd (none≢some e)
       go (some j) e = id-found j r e .0
 
-  -- One that matches, at either level, is a row of the tree.
-  pub matching-in : (called : Row → List ℕ) (x : List ℕ) (r : Row) → r ∈ matching called x (rows top t) → (r ∈ rows top t) × (folded (called r) ≡ folded x)
+  -- Those that match by one of their names, where case is forgotten.
+  pub matching-in : (called : Row → List ℕ) (x : List ℕ) (r : Row) → r ∈ matching called x (rows top t)
+      → (r ∈ rows top t) × (folded (called r) ≡ folded x)
   unfolding matching
   matching-in called x r h =
       let k = kept-in (λ q. same (folded (called q)) (folded x)) (rows top t) r h in
       (k .0, same-true (folded (called r)) (folded x) (k .1))
 
-  pub in-matching : (called : Row → List ℕ) (x : List ℕ) (r : Row) → r ∈ rows top t → folded (called r) ≡ folded x → r ∈ matching called x (rows top t)
+  pub in-matching : (called : Row → List ℕ) (x : List ℕ) (r : Row) → (r ∈ rows top t) × (folded (called r) ≡ folded x)
+      → r ∈ matching called x (rows top t)
   unfolding matching
-  in-matching called x r h e = in-kept (λ q. same (folded (called q)) (folded x)) (rows top t) r h (same-is (folded (called r)) (folded x) e)
+  in-matching called x r h =
+      in-kept (λ q. same (folded (called q)) (folded x)) (rows top t) r (h .0) (same-is (folded (called r)) (folded x) (h .1))
+
+  abbrev pub by-full : (x : List ℕ) → List Row
+  by-full x = matching (λ r. r .full) x (rows top t)
+
+  abbrev pub by-short : (x : List ℕ) → List Row
+  by-short x = matching (λ r. r .short) x (rows top t)
 
   -- Those among which `look-folded` takes the only one.
   abbrev pub matched : (x : List ℕ) → List Row
-  matched x = or-short (matching (λ r. r .full) x (rows top t)) (matching (λ r. r .short) x (rows top t))
+  matched x = or-short (by-full x) (by-short x)
 
   folded-found : (x : List ℕ) (r : Row) → look-folded t x ≡ ok (some r) → r ∈ rows top t
   unfolding look-folded
   folded-found x r e =
-      let full = matching (λ q. q .full) x (rows top t) in
-      let short = matching (λ q. q .short) x (rows top t) in
       ⊎-elim (λ h. matching-in (λ q. q .full) x r h .0) (λ h. matching-in (λ q. q .short) x r (h .1) .0)
-      (or-short-in full short r (only-in (matched x) r e))
+      (or-short-in (by-full x) (by-short x) r (only-in (matched x) r e))
 
 -- ---- what holds of every row holds of a row that is found
 

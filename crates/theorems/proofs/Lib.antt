@@ -20,4 +20,5 @@ pub mod Told
 pub mod Numbered
 pub mod Limits
 pub mod Sites
+pub mod Folds
 pub mod Promises

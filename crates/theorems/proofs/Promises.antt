@@ -4,20 +4,22 @@ use Prim.Native.Nat.{ℕ, suc, _+_, _-_, _<_, _≤_}
 use mathlib.Core.Path.{_≡_}
 use mathlib.Core.Bool.{Bool, true}
 use mathlib.Core.List.{List, [], _∷_, map}
-use mathlib.Core.Option.{Option}
+use mathlib.Core.Option.{Option, some}
 use lib.IntN.{pos, negsuc}
 use Rattle.paper.specs.Answer.{Answer, ok, refused}
 use Rattle.paper.specs.Forest.{Forest, size}
 use Rattle.paper.specs.Field.{Field}
 use Rattle.paper.specs.Update.{Request, Schema}
 use Rattle.paper.specs.Rebuild.{update}
-use Rattle.paper.specs.Rows.{Row}
+use Rattle.paper.specs.Rows.{Row, look-name}
+use Rattle.paper.specs.Folded.{look-folded}
+use Rattle.paper.specs.Sound.{sound}
 use Rattle.paper.specs.Bytes.{turned}
 use Rattle.paper.specs.Decode.{decode}
 use Rattle.paper.specs.Encode.{record-bytes, pool-bytes}
 use Rattle.paper.specs.Limits.{sized}
 use Rattle.paper.specs.Lent.{Stored, Lent}
-use Rattle.paper.specs.Entries.{Result, update-entry, prune-entry, renumber-entry}
+use Rattle.paper.specs.Entries.{Result, update-entry, prune-entry, renumber-entry, read, find-name, find-folded}
 use Rattle.paper.specs.Outcome.{changed, Found, Buffer, Answers}
 use Rattle.paper.specs.Sample.{T, T-records, T-pool}
 use Rattle.paper.specs.Asked.{AnUpdate, APruner, signed-id, answer, update-reply, _with-last_}
@@ -33,6 +35,7 @@ use Rattle.theorems.specs.Changed.{Pruned, Renumbered}
 use Rattle.theorems.specs.One.{NoByteChanges, PromisedFound, Told, RefusalsTold}
 use Rattle.theorems.specs.Numbered.{OneNumberEach}
 use Rattle.theorems.specs.Sites.{IdsAreNoSlots}
+use Rattle.theorems.specs.Folds.{Alone, Second, ByRows, Plain, CaseForgotten, FoldingMet}
 use Rattle.theorems.specs.Wrong.{P4, P5, RightUpdate, P8, P9, RightPruner}
 use Rattle.theorems.proofs.Signed.{signed-natural, signed-negative}
 use Rattle.theorems.proofs.Evolution.{evolved-stays, lasting, one-column}
@@ -47,6 +50,8 @@ use Rattle.theorems.proofs.Told.{refusals-told, none-accepted}
 use Rattle.theorems.proofs.Numbered.{one-number-each}
 use Rattle.theorems.proofs.Limits.{limits-hold}
 use Rattle.theorems.proofs.Sites.{ids-are-no-slots}
+use Rattle.theorems.proofs.Folds.{plain-exact, plain-exact-read, exact-alone, case-forgotten}
+use Rattle.theorems.proofs.Folds.{ambiguous-two, by-rows, folding-met}
 use Rattle.theorems.proofs.Wrong.{right-update, right-pruner}
 
 -- ---- the worked examples
@@ -210,6 +215,41 @@ pub one-tree : (result result′ : Result) → ReadsAgain result → ReadsAgain 
     → record-bytes (result .tree) ≡ record-bytes (result′ .tree)
     → pool-bytes (result .tree) ≡ pool-bytes (result′ .tree) → result .tree ≡ result′ .tree
 one-tree = One.one-tree
+
+-- ---- names whose case is forgotten
+
+-- Where folding changes nothing and at most one column has the asked short name, the answer is the exact look-up's;
+pub folding-is-exact : (tree : Forest Field) (name : List ℕ) → sound 0 tree [] ≡ ok tt → Plain tree name
+    → look-folded tree name ≡ ok (look-name tree name)
+folding-is-exact = plain-exact
+
+-- and so from bytes, where that holds of the tree that is read.
+pub folding-is-exact-read : (records pool name : List ℕ)
+    → ((tree : Forest Field) → read records pool ≡ ok tree → Plain tree name)
+    → find-folded records pool name ≡ find-name records pool name
+folding-is-exact-read = plain-exact-read
+
+-- What the exact look-up finds is found where it is the only one that matches.
+pub found-alone-is-found : (tree : Forest Field) (name : List ℕ) (row : Row) → look-name tree name ≡ some row
+    → Alone tree name row → look-folded tree name ≡ ok (some row)
+found-alone-is-found = exact-alone
+
+-- The asked name's case is forgotten: names that fold to one are answered alike.
+pub folding-folds-once : CaseForgotten
+folding-folds-once = case-forgotten
+
+-- What is refused is refused as 21 of the base, at the second of two columns that match at one level.
+pub ambiguous-means-two : (tree : Forest Field) (name : List ℕ) (number list place : ℕ)
+    → look-folded tree name ≡ refused number list place → (number ≡ 21) × (list ≡ 0) × Second tree name place
+ambiguous-means-two = ambiguous-two
+
+-- Nothing, one, or a second: each is answered where the rows are so, and nowhere else.
+pub folding-goes-by-rows : (tree : Forest Field) (name : List ℕ) → ByRows tree name
+folding-goes-by-rows = by-rows
+
+-- None of these is empty: T is plain, and in a tree with capital letters one matches alone and two do not.
+pub folding-is-met : FoldingMet
+folding-is-met = folding-met
 
 -- ---- wrong programs
 

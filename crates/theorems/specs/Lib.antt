@@ -1,4 +1,5 @@
--- What the theorems speak of: runs of updates over forests and over bytes, numbers in a row, parts of a tree, refusals, slots.
+-- What the theorems speak of: runs of updates over forests and over bytes, numbers in a row, parts of a tree, refusals, slots,
+-- names whose case is forgotten.
 pub mod Numbers
 pub mod Run
 pub mod Stored
@@ -8,3 +9,4 @@ pub mod Wrong
 pub mod One
 pub mod Numbered
 pub mod Sites
+pub mod Folds
