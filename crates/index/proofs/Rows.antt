@@ -16,6 +16,7 @@ use Rattle.paper.specs.Rows.{Row, Start, top, below, beside, rows, dotted}
 use Rattle.paper.specs.Sound.{names, ids}
 use Rattle.laws.proofs.Preorder.{size-mapped, mapped-mapped}
 use Rattle.laws.proofs.Runs.{from-append, map-append}
+use Rattle.laws.proofs.Ordered.{row-fulls}
 use Rattle.record.specs.Trees.{Trees}
 use Rattle.plan.specs.Plan.{planned-field, source-in, kids-in, plan-slots, plan-tree, plan-fields, Plan}
 use Rattle.plan.proofs.Standing.{field-in}
@@ -65,14 +66,6 @@ module _ (fld : ℕ → Field) where
       ap (λ (z : List ℕ). fld j .id ∷ z)
       (map-append (λ (r : Row). r .field .id) (rows (below s (fld j)) (mapped fld f)) (rows (beside s (mapped fld f)) (mapped fld g))
       ∙ rw (row-ids f (below s (fld j)), row-ids g (beside s (mapped fld f))))
-
-  row-fulls : (f : Forest ℕ) (s : Start) → map (λ (r : Row). r .full) (rows s (mapped fld f)) ≡ names (s .full) (mapped fld f)
-  unfolding rows names mapped
-  row-fulls empty s = refl
-  row-fulls (node j f g) s =
-      ap (λ (z : List (List ℕ)). (s .full ++ fld j .name) ∷ z)
-      (map-append (λ (r : Row). r .full) (rows (below s (fld j)) (mapped fld f)) (rows (beside s (mapped fld f)) (mapped fld g))
-      ∙ rw (row-fulls f (below s (fld j)), row-fulls g (beside s (mapped fld f))))
 
   -- ---- the rows run through the slots, with their places above
 
@@ -125,4 +118,4 @@ module _ (fld : ℕ → Field) where
     id-rel t = rw (← (row-ids f top)) (find-runs t (λ r. r .field .id) (runs f top 0 nd refl))
 
     pub full-rel : (t : List ℕ → Bool) → Rel 0 (ups 0 f) (find (λ r. t (r .full)) (rows top (mapped fld f))) (place-of t 0 (names [] (mapped fld f)))
-    full-rel t = rw (← (row-fulls f top)) (find-runs t (λ r. r .full) (runs f top 0 nd refl))
+    full-rel t = rw (← (row-fulls top (mapped fld f))) (find-runs t (λ r. r .full) (runs f top 0 nd refl))
