@@ -7,8 +7,8 @@ use Prim.Native.Nat.{ℕ, zero, suc, _+_, _-_, _<_, _≤_}
 use native.Mathlib.Numerals.{add-one}
 use native.Mathlib.Omega.{arith}
 use borrow.Author.Tests.{ltb-true, lt-ltb}
-use lib.Dec.{ltb}
-use lib.ListN.{length}
+use lib.Dec.{eqb, ltb}
+use lib.ListN.{length, drop}
 use Rattle.paper.specs.declared.Kind.{Kind}
 use Rattle.paper.specs.declared.Role.{Role}
 use Rattle.paper.specs.Answer.{or-else}
@@ -23,17 +23,24 @@ use Rattle.laws.proofs.RoundTrip.{both}
 use Rattle.plan.specs.Walk.{walk}
 use Rattle.plan.proofs.Walks.{walk-none, walk-deep, walk-past, walk-in}
 use Rattle.record.specs.declared.Slot.{Slot}
-use Rattle.index_turns.specs.declared.Turn.{Turn}
-use Rattle.index_turns.specs.Turn.{spelt, left-is, left-at, inside, Turned, seen}
-use Rattle.index_turns.proofs.Fitting.{left-out}
+use Rattle.record.specs.Trees.{Trees}
+use Rattle.plan.specs.Named.{names-in, kinds-in}
+use Rattle.index_ids.specs.Chain.{pick}
+use Rattle.index_turns.specs.declared.Inside.{Inside}
+use Rattle.index_turns.specs.Turn.{spelt, left-is, left-at, fits, inside, own, Entered, seen}
+use Rattle.index_turns.proofs.Fitting.{left-out, left-inside, mine}
 use Rattle.index_folded_names.specs.declared.Met.{Met}
 use Rattle.index_folded_names.specs.declared.Met.the-variants.{Twice, Past}
 use Rattle.index_folded_names.specs.Met.{matched, met, meeting}
 
--- Case is forgotten.
-pub folding : (name : ℕ → List ℕ) (kind : ℕ → Kind) (short : Bool) (role : Role) (x : List ℕ) (pos k : ℕ) (t : Turn) → Turned (λ j. spelt true (name j)) kind short role (spelt true x) pos k t → Turned (λ j. folded (name j)) kind short role (folded x) pos k t
+-- The two halves of a step, where case is forgotten.
+pub own-met : (nm x : List ℕ) (pos k f : ℕ) → pos ≤ length x → f ≡ fits (spelt true nm) (drop pos (spelt true x)) → (me : ℕ) → me ≡ pick (eqb f 1) (k + 1) 0 → seen me ≡ own (left-at (folded x) pos) (folded nm) k
 unfolding spelt
-folding name kind short role x pos k t h = h
+own-met nm x pos k f q ef me em = mine nm x pos f true q ef k me em
+
+pub left-met : (l : Trees) (plan : List (List ℕ)) (x : List ℕ) (pos k f : ℕ) → pos ≤ length x → f ≡ fits (spelt true (names-in l plan k)) (drop pos (spelt true x)) → (short : Bool) (role : Role) (i : Inside) → Entered l plan short role f x pos k i → left-at (folded x) (i .pos) ≡ inside (short && skipped role (kinds-in l plan k)) (left-at (folded x) pos) (folded (names-in l plan k))
+unfolding spelt
+left-met l plan x pos k f q ef short role i ei = left-inside (names-in l plan k) x pos f true q ef (short && skipped role (kinds-in l plan k)) (i .pos) (ei .goes)
 
 -- ---- matches behind matches
 
@@ -120,7 +127,7 @@ module _ (name : ℕ → List ℕ) (kind : ℕ → Kind) (short : Bool) where
       pub leave-done : c ≤ 0 → Past (record { 0 = k }) one ≡ W
       leave-done l = nothing-met role (left-at (folded x) pos) one (walk kids n lv c k) k (walk-none kids n lv c k (omega arith)) ∙ sym eW
 
-      module _ (t : Turn) (two : Bool) (el : lv ≡ 0 → ⊥) (ec : 0 < c) (l : k < n) (et : Turned name kind short role (folded x) pos k t) (eb : two ≡ (ltb 0 one && ltb 0 (t .me))) where
+      module _ (me : ℕ) (two : Bool) (el : lv ≡ 0 → ⊥) (ec : 0 < c) (l : k < n) (em : seen me ≡ own (left-at (folded x) pos) (name k) k) (eb : two ≡ (ltb 0 one && ltb 0 me)) where
         abbrev inside-part : Part
         inside-part = walk kids n (lv - 1) (kids k) (k + 1)
 
@@ -128,36 +135,36 @@ module _ (name : ℕ → List ℕ) (kind : ℕ → Kind) (short : Bool) where
         rest = walk kids n lv (c - 1) (inside-part .next)
 
         abbrev inner : List ℕ
-        inner = matched name kind short (t .role) (left-at (folded x) (t .pos)) (inside-part .trees)
+        inner = matched name kind short (first (kind k)) (inside (short && skipped role (kind k)) (left-at (folded x) pos) (name k)) (inside-part .trees)
 
         abbrev others : List ℕ
         others = matched name kind short (after role) (left-at (folded x) pos) (rest .trees)
 
         whole : W ≡ met one (cond (left-is (left-at (folded x) pos) (name k)) (k ∷ (inner ++ others)) (inner ++ others)) (rest .next)
         unfolding meeting matched
-        whole = eW ∙ ap (meeting name kind short role (left-at (folded x) pos) one) (walk-in kids n lv c k (kids k) el (λ z. omega arith) l refl) ∙ rw (et .members, et .left)
+        whole = eW ∙ ap (meeting name kind short role (left-at (folded x) pos) one) (walk-in kids n lv c k (kids k) el (λ z. omega arith) l refl)
 
         -- A second match.
         pub turn-twice : two ≡ true → Twice (record { 0 = k }) ≡ W
         turn-twice q =
-            let h = both (ltb 0 one) (ltb 0 (t .me)) (sym eb ∙ q) in
-            sym (whole ∙ own-twice k one (t .me) (inner ++ others) (rest .next) (left-is (left-at (folded x) pos) (name k)) (et .mine) (ltb-true 0 one (h .0)) (ltb-true 0 (t .me) (h .1)))
+            let h = both (ltb 0 one) (ltb 0 me) (sym eb ∙ q) in
+            sym (whole ∙ own-twice k one me (inner ++ others) (rest .next) (left-is (left-at (folded x) pos) (name k)) em (ltb-true 0 one (h .0)) (ltb-true 0 me (h .1)))
 
-        module _ (i : ℕ) (q : two ≡ false) (ei : seen i ≡ or-else (seen one) (seen (t .me))) where
+        module _ (i : ℕ) (q : two ≡ false) (ei : seen i ≡ or-else (seen one) (seen me)) where
           onward : W ≡ met i (inner ++ others) (rest .next)
-          onward = whole ∙ own-on k one (t .me) (inner ++ others) (rest .next) (left-is (left-at (folded x) pos) (name k)) i (et .mine) (λ h. true≢false (sym (rw (lt-ltb 0 one (h .0), lt-ltb 0 (t .me) (h .1))) ∙ (sym eb ∙ q))) ei
+          onward = whole ∙ own-on k one me (inner ++ others) (rest .next) (left-is (left-at (folded x) pos) (name k)) i em (λ h. true≢false (sym (rw (lt-ltb 0 one (h .0), lt-ltb 0 me (h .1))) ∙ (sym eb ∙ q))) ei
 
           -- Nothing is inside a leaf.
           pub turn-leaf : (m : ℕ) (nr : Role) → m ≡ kids k → m ≡ 0 → nr ≡ after role → W ≡ meeting name kind short nr (left-at (folded x) pos) i (walk kids n lv (c - 1) (k + 1))
           unfolding meeting matched
-          turn-leaf m nr em z en =
-              let e : inside-part ≡ nothing (k + 1) = walk-none kids n (lv - 1) (kids k) (k + 1) (sym em ∙ z) in
+          turn-leaf m nr ek z en =
+              let e : inside-part ≡ nothing (k + 1) = walk-none kids n (lv - 1) (kids k) (k + 1) (sym ek ∙ z) in
               onward ∙ rw (e, en)
 
-          module _ (m : ℕ) (em : m ≡ kids k) (w : Met) (ew : w ≡ meeting name kind short (t .role) (left-at (folded x) (t .pos)) i (walk kids n (lv - 1) m (k + 1))) where
+          module _ (m : ℕ) (ek : m ≡ kids k) (rl : Role) (deep : ℕ) (er : rl ≡ first (kind k)) (ed : left-at (folded x) deep ≡ inside (short && skipped role (kind k)) (left-at (folded x) pos) (name k)) (w : Met) (ew : w ≡ meeting name kind short rl (left-at (folded x) deep) i (walk kids n (lv - 1) m (k + 1))) where
             inner-met : w ≡ met i inner (inside-part .next)
             unfolding meeting
-            inner-met = ew ∙ ap (λ (v : ℕ). meeting name kind short (t .role) (left-at (folded x) (t .pos)) i (walk kids n (lv - 1) v (k + 1))) em
+            inner-met = ew ∙ rw (ek, er, ed)
 
             pub turn-in : (j : Slot) → w ≡ Twice j → Twice j ≡ W
             turn-in j e = sym (onward ∙ met-twice inner others i (inside-part .next) (rest .next) j (sym inner-met ∙ e))

@@ -1,9 +1,10 @@
 // Names whose case is forgotten, in slot order (02, 1/13): a walk that carries how much of the asked name is matched, and builds no
 // name. Full names and short ones are walked alike.
-use index_turns::Spelling;
 use index_turns::either;
+use index_turns::fit_at;
+use index_turns::inside_at;
+use index_turns::own_place;
 use index_turns::row_next;
-use index_turns::turn_at;
 use paper::Role;
 use paper::next_role;
 use plan::MEMBERS;
@@ -54,10 +55,6 @@ pub fn meet_row<'a>(
         (left-at (folded (now (x .entry))) pos) first
         (walk-in (now (plan .entry)) m (row .levels) (row .count) (row .slot)) ⌝ }
 {
-    let spelling = Spelling {
-        short,
-        folding: true,
-    };
     let levels = row.levels;
     if x.len() < pos {
         return Met::Past(Slot(row_next(plan, m, row)), first);
@@ -73,13 +70,13 @@ pub fn meet_row<'a>(
         if m <= at {
             return Met::Past(Slot(at), met);
         }
-        let turn = turn_at(trees, plan, m, at, part, spelling, x, pos);
-        let inside = turn.role;
-        let me = turn.me;
+        let f = fit_at(trees, plan, m, at, true, x, pos);
+        let me = own_place(f, at);
         if both(met, me) {
             return Met::Twice(Slot(at));
         }
         met = either(met, me);
+        let role_here = part;
         part = next_role(part);
         left -= 1;
         let members = plan[MEMBERS][at];
@@ -88,12 +85,14 @@ pub fn meet_row<'a>(
             at += 1;
             continue;
         }
+        let inside = inside_at(trees, plan, m, at, role_here, short, f, x, pos);
         let inner = Siblings {
             slot: at + 1,
             count: members,
             levels: levels - 1,
         };
-        match meet_row(trees, plan, m, inner, inside, short, x, turn.pos, met) {
+        let inner_role = inside.role;
+        match meet_row(trees, plan, m, inner, inner_role, short, x, inside.pos, met) {
             Met::Twice(k) => {
                 return Met::Twice(k);
             }

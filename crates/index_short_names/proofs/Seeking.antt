@@ -7,8 +7,8 @@ use Prim.Native.Nat.{ℕ, zero, suc, _+_, _-_, _<_, _≤_}
 use native.Mathlib.Numerals.{sub-one}
 use native.Mathlib.Omega.{arith}
 use borrow.Author.Tests.{ltb-true, ltb-false}
-use lib.Dec.{ltb}
-use lib.ListN.{length}
+use lib.Dec.{eqb, ltb}
+use lib.ListN.{length, drop}
 use Rattle.paper.specs.declared.Kind.{Kind}
 use Rattle.paper.specs.declared.Role.{Role}
 use Rattle.paper.specs.Answer.{or-else}
@@ -20,12 +20,16 @@ use Rattle.laws.proofs.Basics.{none≢some, or-else-none}
 use Rattle.plan.specs.Walk.{walk}
 use Rattle.plan.proofs.Walks.{walk-none, walk-deep, walk-past, walk-in}
 use Rattle.record.specs.declared.Slot.{Slot}
-use Rattle.index_turns.specs.declared.Turn.{Turn}
-use Rattle.index_turns.specs.Turn.{spelt, left-is, left-at, inside, own, Turned, seen}
-use Rattle.index_turns.proofs.Fitting.{left-out}
+use Rattle.record.specs.Trees.{Trees}
+use Rattle.plan.specs.Named.{names-in, kinds-in}
+use Rattle.index_ids.specs.Chain.{pick}
+use Rattle.index_turns.specs.declared.Inside.{Inside}
+use Rattle.index_turns.specs.Turn.{spelt, left-is, left-at, fits, inside, own, Entered, seen}
+use Rattle.index_turns.proofs.Fitting.{left-out, left-inside, mine}
+use Rattle.index_short_names.specs.declared.Turn.{Turn}
 use Rattle.index_short_names.specs.declared.Sighting.{Sighting}
 use Rattle.index_short_names.specs.declared.Sighting.the-variants.{Found, Past}
-use Rattle.index_short_names.specs.Seek.{seek-in, outcome, sighting}
+use Rattle.index_short_names.specs.Seek.{Turned, seek-in, outcome, sighting}
 
 -- ---- small things: `search small`
 
@@ -58,10 +62,15 @@ unfolding outcome
 found-is none m j e = absurd (let z : _≡_ {A = ℕ} 0 1 = cc in omega arith)
 found-is (some k) m j e = let z : j ≡ record { 0 = k } = cc in ap some (sym (ap (λ (x : Slot). x .0) z))
 
--- Short names as they are, with case.
-pub exactly : (name : ℕ → List ℕ) (kind : ℕ → Kind) (role : Role) (x : List ℕ) (pos k : ℕ) (t : Turn) → Turned (λ j. spelt false (name j)) kind true role (spelt false x) pos k t → Turned name kind true role x pos k t
+-- The step, from its two halves.
+pub turned : (l : Trees) (plan : List (List ℕ)) (role : Role) (x : List ℕ) (pos k f me : ℕ) (i : Inside) → pos ≤ length x → f ≡ fits (spelt false (names-in l plan k)) (drop pos (spelt false x)) → Entered l plan true role f x pos k i → me ≡ pick (eqb f 1) (k + 1) 0 → Turned (names-in l plan) (kinds-in l plan) role x pos k (record { role = i .role; pos = i .pos; me = me })
 unfolding spelt
-exactly name kind role x pos k t h = h
+turned l plan role x pos k f me i q ef ei em =
+    record {
+      members = ei .members;
+      left = left-inside (names-in l plan k) x pos f false q ef (skipped role (kinds-in l plan k)) (i .pos) (ei .goes);
+      mine = mine (names-in l plan k) x pos f false q ef k me em;
+    }
 
 module _ (name : ℕ → List ℕ) (kind : ℕ → Kind) where
   -- with nothing left to look for, only what waits is found
@@ -119,7 +128,7 @@ module _ (name : ℕ → List ℕ) (kind : ℕ → Kind) (kids : ℕ → ℕ) (x
     pub leave-done : c ≤ 0 → r ≡ W
     leave-done l = nothing-sighted name kind role (left-at x pos) (seen wait) (walk kids n lv c k) k r (walk-none kids n lv c k (omega arith)) er ∙ sym eW
 
-  module _ (m : ℕ) (t : Turn) (w : Sighting) (el : lv ≡ 0 → ⊥) (ec : 0 < c) (l : k < n) (em : m ≡ kids k) (et : Turned name kind true role x pos k t)
+  module _ (m : ℕ) (t : Turn) (w : Sighting) (el : lv ≡ 0 → ⊥) (ec : 0 < c) (l : k < n) (em : m ≡ kids k) (et : Turned name kind role x pos k t)
       (ew : w ≡ sighting name kind (t .role) (left-at x (t .pos)) (seen 0) (walk kids n (lv - 1) m (k + 1))) where
     abbrev inside-part : Part
     inside-part = walk kids n (lv - 1) m (k + 1)

@@ -1,5 +1,6 @@
 -- A walk that looks for a short name in the order of entry and carries what is left of it, over slots.
 use Prim.Native.Nat.{ℕ}
+use mathlib.Core.Path.{_≡_}
 use mathlib.Core.Bool.{cond}
 use mathlib.Core.List.{List}
 use mathlib.Core.Option.{Option, none, some}
@@ -10,9 +11,16 @@ use Rattle.paper.specs.Forest.{Forest, empty, node}
 use Rattle.paper.specs.Field.{first, after}
 use Rattle.paper.specs.Layout.{Part}
 use Rattle.paper.specs.Rows.{skipped, late}
-use Rattle.index_turns.specs.Turn.{inside, own}
+use Rattle.index_turns.specs.Turn.{left-at, inside, own, seen}
+use Rattle.index_short_names.specs.declared.Turn.{Turn}
 use Rattle.index_short_names.specs.declared.Sighting.{Sighting}
 use Rattle.index_short_names.specs.declared.Sighting.the-variants.{Found, Past}
+
+-- What is asked of the record at slot k.
+pub record Turned (name : ℕ → List ℕ) (kind : ℕ → Kind) (role : Role) (x : List ℕ) (pos k : ℕ) (t : Turn) : Type 0 where
+  pub members : t .role ≡ first (kind k)
+  pub left : left-at x (t .pos) ≡ inside (skipped role (kind k)) (left-at x pos) (name k)
+  pub mine : seen (t .me) ≡ own (left-at x pos) (name k) k
 
 -- The first entered slot whose short name is what is left, or what waits.
 unfoldable pub seek-in : (ℕ → List ℕ) → (ℕ → Kind) → Role → Option (List ℕ) → Option ℕ → Forest ℕ → Option ℕ

@@ -1,8 +1,9 @@
 // Look-up of a short name: a walk that carries how much of the asked name is matched, and builds no name.
-use index_turns::Spelling;
 use index_turns::either;
+use index_turns::fit_at;
+use index_turns::inside_at;
+use index_turns::own_place;
 use index_turns::row_next;
-use index_turns::turn_at;
 use paper::Role;
 use paper::next_role;
 use plan::MEMBERS;
@@ -12,20 +13,28 @@ use record::Slot;
 use record::Trees;
 ghost use mathlib.Core.Path.{_≡_};
 ghost use mathlib.Core.Bool.{not, _&&_, cond};
-ghost use Prim.Native.Nat.{_≤_};
+ghost use Prim.Native.Nat.{_≤_, _<_};
 ghost use lib.Dec.{ltb};
+ghost use lib.ListN.{length};
 ghost use Rattle.paper.specs.Answer.{or-else};
 ghost use Rattle.paper.specs.Rows.{late};
 ghost use Rattle.record.specs.Trees.{trees-in};
 ghost use Rattle.plan.specs.Named.{names-in, kinds-in, SourcesIn};
 ghost use Rattle.plan.specs.Walk.{walk-in};
 ghost use Rattle.index_turns.specs.Turn.{left-at, seen};
-ghost use Rattle.index_short_names.specs.Seek.{outcome, sighting};
+ghost use Rattle.index_short_names.specs.Seek.{Turned, outcome, sighting};
 
 // A slot that was found, or the slot behind a row in which there is none.
 pub enum Sighting {
     Found(Slot),
     Past(Slot),
+}
+
+// What a search meets at a record: its members' role, where to look on inside it, and its own place if its name is what is left.
+struct Turn {
+    role: Role,
+    pos: usize,
+    me: usize,
 }
 
 // Whether a record of this role waits for the row's end: a map's key and value do.
@@ -37,6 +46,32 @@ fn is_late(role: Role) -> bool
         Role::Element => false,
         Role::Key => true,
         Role::Value => true,
+    }
+}
+
+// The step: short names, with case.
+fn turn_at<'a>(
+    trees: &Trees<'a>,
+    plan: &PlanRows,
+    m: usize,
+    at: usize,
+    role: Role,
+    x: &[u8],
+    pos: usize,
+) -> Turn
+    requires { ⌜ (at < m) × ((pos ≤ length (now x))
+        × SourcesIn (trees-in (now trees)) (now plan) m) ⌝ }
+    ensures { λ r. ⌜ Turned (names-in (trees-in (now (trees .entry))) (now (plan .entry)))
+        (kinds-in (trees-in (now (trees .entry))) (now (plan .entry))) role
+        (now (x .entry)) pos at r ⌝ }
+{
+    let f = fit_at(trees, plan, m, at, false, x, pos);
+    let inside = inside_at(trees, plan, m, at, role, true, f, x, pos);
+    let members = inside.role;
+    Turn {
+        role: members,
+        pos: inside.pos,
+        me: own_place(f, at),
     }
 }
 
@@ -84,10 +119,6 @@ pub fn seek<'a>(
         (left-at (now (x .entry)) pos) (seen wait)
         (walk-in (now (plan .entry)) m (row .levels) (row .count) (row .slot)) ⌝ }
 {
-    let spelling = Spelling {
-        short: true,
-        folding: false,
-    };
     let levels = row.levels;
     if x.len() < pos {
         return ended(wait, row_next(plan, m, row));
@@ -108,7 +139,7 @@ pub fn seek<'a>(
             count: plan[MEMBERS][at],
             levels: levels - 1,
         };
-        let turn = turn_at(trees, plan, m, at, part, spelling, x, pos);
+        let turn = turn_at(trees, plan, m, at, part, x, pos);
         let inside = turn.role;
         let me = turn.me;
         match seek(trees, plan, m, inner, inside, x, turn.pos, 0) {

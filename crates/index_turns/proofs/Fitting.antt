@@ -18,8 +18,10 @@ use Rattle.paper.specs.Field.{first}
 use Rattle.paper.specs.Rows.{skipped}
 use Rattle.laws.proofs.Finding.{eqb-flip}
 use Rattle.laws.proofs.Folding.{fold-dot, folded-length, folded-take, folded-drop, folded-at}
+use Rattle.record.specs.Trees.{Trees}
+use Rattle.plan.specs.Named.{names-in, kinds-in}
 use Rattle.index_ids.specs.Chain.{pick}
-use Rattle.index_turns.specs.Turn.{spelt, strip, left-at, fits, deeper, inside, own, Turned, seen}
+use Rattle.index_turns.specs.Turn.{spelt, strip, left-at, fits, deeper, inside, own, Entered, seen}
 
 -- ---- names as they are compared
 
@@ -232,16 +234,11 @@ module _ (nm x : List ℕ) (pos f : ℕ) (b : Bool) (l : pos ≤ length x) (ef :
       let r = under-room (spelt b nm) (drop pos (spelt b x)) (sym ef ∙ q) in
       omega (arith, length-drop pos (spelt b x), spelt-length b x, spelt-length b nm)
 
-  pub turned : (name : ℕ → List ℕ) (kind : ℕ → Kind) (role rl : Role) (k deep me : ℕ) (kd : Kind) (short skip : Bool) → kd ≡ kind k → nm ≡ name k → skip ≡ skipped role kd → deep ≡ deeper (short && skip) f pos (length nm) (length x) → rl ≡ first kd → me ≡ pick (eqb f 1) (k + 1) 0
-      → Turned (λ j. spelt b (name j)) kind short role (spelt b x) pos k (record { role = rl; pos = deep; me = me })
-  turned name kind role rl k deep me kd short skip ekd enm es ed er em =
-      record {
-        members = er ∙ ap first ekd;
-        left =
-            ap (left-at (spelt b x)) (ed ∙ rw (spelt-length b nm, spelt-length b x))
-            ∙ deep-is (spelt b nm) (spelt b x) pos f spelt-in-room ef (short && skip) ∙ rw (es, ekd, enm);
-        mine = ap seen em ∙ own-is (spelt b nm) (spelt b x) pos f spelt-in-room ef k ∙ ap (λ z. own (left-at (spelt b x) pos) (spelt b z) k) enm;
-      }
+  pub mine : (k me : ℕ) → me ≡ pick (eqb f 1) (k + 1) 0 → seen me ≡ own (left-at (spelt b x) pos) (spelt b nm) k
+  mine k me em = ap seen em ∙ own-is (spelt b nm) (spelt b x) pos f spelt-in-room ef k
+
+  pub left-inside : (skip : Bool) (deep : ℕ) → deep ≡ deeper skip f pos (length nm) (length x) → left-at (spelt b x) deep ≡ inside skip (left-at (spelt b x) pos) (spelt b nm)
+  left-inside skip deep ed = ap (left-at (spelt b x)) (ed ∙ rw (spelt-length b nm, spelt-length b x)) ∙ deep-is (spelt b nm) (spelt b x) pos f spelt-in-room ef skip
 
 -- ---- small things
 
@@ -273,3 +270,16 @@ either-a zero b e = absurd (e refl)
 either-a (suc a) b e = refl
 
 pub ruleset small = (deep-skips, deep-goes, deep-ends, own-yes, own-no, either-a, either-b)
+
+-- ---- the name of a record
+
+pub fit-named : (b : Bool) (nm y x : List ℕ) (pos f : ℕ) → nm ≡ y → f ≡ fits (spelt b nm) (drop pos (spelt b x)) → f ≡ fits (spelt b y) (drop pos (spelt b x))
+fit-named b nm y x pos f e h = h ∙ rw e
+
+pub goes-named : (l : Trees) (plan : List (List ℕ)) (short skip : Bool) (role rl : Role) (kd : Kind) (nm x : List ℕ) (f pos k deep : ℕ) → kd ≡ kinds-in l plan k → nm ≡ names-in l plan k → skip ≡ skipped role kd → rl ≡ first kd → deep ≡ deeper (short && skip) f pos (length nm) (length x) → Entered l plan short role f x pos k (record { role = rl; pos = deep })
+goes-named l plan short skip role rl kd nm x f pos k deep ek en es er ed = record { members = er ∙ ap first ek; goes = ed ∙ rw (es, ek, en) }
+
+pub room-named : (nm y x : List ℕ) (f pos : ℕ) → nm ≡ y → (f ≡ 2 → pos + length y < length x) → f ≡ 2 → pos + length nm < length x
+room-named nm y x f pos e h q = rw e (h q)
+
+pub ruleset named = (fit-named, goes-named, room-named)

@@ -6,24 +6,19 @@ use mathlib.Core.List.{List, [], _∷_, _++_}
 use mathlib.Core.Option.{Option, none, some}
 use lib.Dec.{eqb, ltb}
 use lib.ListN.{length, drop}
-use Rattle.paper.specs.declared.Kind.{Kind}
 use Rattle.paper.specs.declared.Role.{Role}
 use Rattle.paper.specs.Answer.{same}
 use Rattle.paper.specs.Field.{first}
 use Rattle.paper.specs.Folded.{folded}
 use Rattle.paper.specs.Rows.{skipped}
 use Rattle.record.specs.Trees.{Trees}
-use Rattle.plan.specs.Named.{names-in}
-use Rattle.index_turns.specs.declared.Spelling.{Spelling}
-use Rattle.index_turns.specs.declared.Turn.{Turn}
+use Rattle.plan.specs.Named.{names-in, kinds-in}
+use Rattle.index_turns.specs.declared.Inside.{Inside}
 
 -- A name as it is compared: as it is, or folded.
 unfoldable pub spelt : (folding : Bool) → List ℕ → List ℕ
 spelt true x = folded x
 spelt false x = x
-
-abbrev pub spelt-in : Spelling → Trees → (plan : List (List ℕ)) → ℕ → List ℕ
-spelt-in s l plan k = spelt (s .folding) (names-in l plan k)
 
 -- What is left of x behind p, if x begins with p.
 abbrev pub strip : List ℕ → List ℕ → Option (List ℕ)
@@ -66,8 +61,7 @@ unfoldable pub seen : ℕ → Option ℕ
 seen zero = none
 seen (suc k) = some k
 
--- What is asked of the record at slot k. Full names skip no record.
-pub record Turned (name : ℕ → List ℕ) (kind : ℕ → Kind) (short : Bool) (role : Role) (x : List ℕ) (pos k : ℕ) (t : Turn) : Type 0 where
-  pub members : t .role ≡ first (kind k)
-  pub left : left-at x (t .pos) ≡ inside (short && skipped role (kind k)) (left-at x pos) (name k)
-  pub mine : seen (t .me) ≡ own (left-at x pos) (name k) k
+-- What is inside the record at slot k for a search; full names skip no record.
+pub record Entered (l : Trees) (plan : List (List ℕ)) (short : Bool) (role : Role) (f : ℕ) (x : List ℕ) (pos k : ℕ) (r : Inside) : Type 0 where
+  pub members : r .role ≡ first (kinds-in l plan k)
+  pub goes : r .pos ≡ deeper (short && skipped role (kinds-in l plan k)) f pos (length (names-in l plan k)) (length x)

@@ -16,7 +16,7 @@ ghost use mathlib.Core.Path.{_≡_};
 ghost use mathlib.Core.Bool.{_&&_};
 ghost use Prim.Native.Nat.{_+_, _≤_, _<_};
 ghost use lib.Dec.{eqb};
-ghost use lib.ListN.{length, drop};
+ghost use lib.ListN.{length, getD, drop};
 ghost use Rattle.paper.specs.Answer.{or-else, same};
 ghost use Rattle.paper.specs.Folded.{fold, folded};
 ghost use Rattle.paper.specs.Rows.{skipped};
@@ -24,19 +24,12 @@ ghost use Rattle.record.specs.Trees.{trees-in};
 ghost use Rattle.index_ids.specs.Chain.{pick};
 ghost use Rattle.plan.specs.Named.{names-in, kinds-in, SourcesIn};
 ghost use Rattle.plan.specs.Walk.{walk-in};
-ghost use Rattle.index_turns.specs.Turn.{spelt, spelt-in, fits, deeper, Turned, seen};
+ghost use Rattle.index_turns.specs.Turn.{spelt, fits, deeper, Entered, seen};
 
-// Which names are sought: short ones or full ones, and whether case is forgotten.
-pub struct Spelling {
-    pub short: bool,
-    pub folding: bool,
-}
-
-// What a search meets at a record: its members' role, where to look on inside it, and its own place if its name is what is left.
-pub struct Turn {
+// What is inside a record for a search: its first member's role, and where to look on.
+pub struct Inside {
     pub role: Role,
     pub pos: usize,
-    pub me: usize,
 }
 
 // Where a row ends. A loop over the siblings, so the stack holds a frame for each level only.
@@ -79,6 +72,15 @@ fn fold(x: u8) -> u8
     x + 32
 }
 
+// Whether two names fold to the same byte at a place.
+fn alike_at(a: &[u8], b: &[u8], i: usize) -> bool
+    requires { ⌜ (i < length (now a)) × (i < length (now b)) ⌝ }
+    ensures { λ r. ⌜ r ≡ eqb (getD (folded (now (a .entry))) i 0)
+        (getD (folded (now (b .entry))) i 0) ⌝ }
+{
+    fold(a[i]) == fold(b[i])
+}
+
 // Whether two names are the same once they are folded.
 fn equal_folded(a: &[u8], b: &[u8]) -> bool
     ensures { λ r. ⌜ r ≡ same (folded (now (a .entry))) (folded (now (b .entry))) ⌝ }
@@ -87,16 +89,20 @@ fn equal_folded(a: &[u8], b: &[u8]) -> bool
     if n != b.len() {
         return false;
     }
-    let mut i = 0;
-    while i < n {
-        let x = fold(a[i]);
-        let y = fold(b[i]);
-        if x != y {
+    // names that differ mostly differ at their end
+    if 0 < n {
+        if !alike_at(a, b, n - 1) {
             return false;
         }
+    }
+    // the loop has no other end, so that many bytes can be compared at a step
+    let mut so_far = true;
+    let mut i = 0;
+    while i < n {
+        so_far = so_far & alike_at(a, b, i);
         i += 1;
     }
-    true
+    so_far
 }
 
 // The one comparison of names: by their bytes, or by what these fold to.
@@ -169,7 +175,7 @@ fn deeper(f: u8, skip: bool, name: &[u8], x: &[u8], pos: usize) -> usize
 }
 
 // The place of the record itself, if its name is what is left.
-fn own_place(f: u8, slot: usize) -> usize
+pub fn own_place(f: u8, slot: usize) -> usize
     requires { ⌜ slot ≤ 1024 ⌝ }
     ensures { λ r. ⌜ r ≡ pick (eqb f 1) (slot + 1) 0 ⌝ }
 {
@@ -179,31 +185,48 @@ fn own_place(f: u8, slot: usize) -> usize
     0
 }
 
-// The step of every walk that looks for a name. `pos` is where what is left of x begins.
-pub fn turn_at<'a>(
+// A record's name against what is left of x, which begins at `pos`: the first half of a walk's step.
+pub fn fit_at<'a>(
+    trees: &Trees<'a>,
+    plan: &PlanRows,
+    m: usize,
+    at: usize,
+    folding: bool,
+    x: &[u8],
+    pos: usize,
+) -> u8
+    requires { ⌜ (at < m) × ((pos ≤ length (now x))
+        × SourcesIn (trees-in (now trees)) (now plan) m) ⌝ }
+    ensures { λ r. ⌜ r ≡ fits (spelt folding (names-in (trees-in (now (trees .entry)))
+        (now (plan .entry)) at)) (drop pos (spelt folding (now (x .entry)))) ⌝ }
+{
+    fit(name_of(trees, plan, m, at), x, pos, folding)
+}
+
+// Where to look on inside a record, and its members' role: the second half, which a record without members does not need.
+pub fn inside_at<'a>(
     trees: &Trees<'a>,
     plan: &PlanRows,
     m: usize,
     at: usize,
     role: Role,
-    spelling: Spelling,
+    short: bool,
+    f: u8,
     x: &[u8],
     pos: usize,
-) -> Turn
-    requires { ⌜ (at < m) × ((pos ≤ length (now x))
-        × SourcesIn (trees-in (now trees)) (now plan) m) ⌝ }
-    ensures { λ r. ⌜ Turned (spelt-in spelling (trees-in (now (trees .entry))) (now (plan .entry)))
-        (kinds-in (trees-in (now (trees .entry))) (now (plan .entry))) (spelling .short) role
-        (spelt (spelling .folding) (now (x .entry))) pos at r ⌝ }
+) -> Inside
+    requires { ⌜ (at < m) × ((pos ≤ length (now x)) × ((f ≡ 2 → pos
+        + length (names-in (trees-in (now trees)) (now plan) at) < length (now x))
+        × SourcesIn (trees-in (now trees)) (now plan) m)) ⌝ }
+    ensures { λ r. ⌜ Entered (trees-in (now (trees .entry))) (now (plan .entry)) short role f
+        (now (x .entry)) pos at r ⌝ }
 {
     let kind = kind_of(trees, plan, m, at);
     let name = name_of(trees, plan, m, at);
-    let f = fit(name, x, pos, spelling.folding);
-    let skip = spelling.short & skips(role, kind);
-    Turn {
+    let skip = short & skips(role, kind);
+    Inside {
         role: first_role(kind),
         pos: deeper(f, skip, name, x, pos),
-        me: own_place(f, at),
     }
 }
 

@@ -6,8 +6,9 @@ use Rattle.record.specs.Trees.{trees-in}
 use Rattle.plan.specs.Named.{kinds-in}
 use Rattle.plan.specs.Walk.{walk-in}
 use Rattle.index_turns.specs.Turn.{left-at}
+use Rattle.index_turns.proofs.Fitting.{room-under}
 use Rattle.index_folded_names.specs.Met.{folded-in, meeting}
-use Rattle.index_folded_names.proofs.Meeting.{meets, folding, turn-twice, turn-leaf, turn-in, turn-on}
+use Rattle.index_folded_names.proofs.Meeting.{meets, own-met, left-met, turn-twice, turn-leaf, turn-in, turn-on}
 use Prim.Native.Nat.{ℕ, _<_}
 use borrow.Fn.Kinds.{In}
 use borrow.Fn.PlainCycle.{Measures, is, falls, and}
@@ -16,8 +17,10 @@ use Rattle.index_folded_names.proofs.meet_row.Kinds as meet-row-kinds
 use Rattle.index_folded_names.proofs.+meet_row.Lts-meet_row as meet-row-lts
 use Rattle.index_folded_names.proofs.both.Reads as both-reads
 use Rattle.index_turns.proofs.either.Reads as either-reads
+use Rattle.index_turns.proofs.fit_at.Reads as fit-at-reads
+use Rattle.index_turns.proofs.inside_at.Reads as inside-at-reads
+use Rattle.index_turns.proofs.own_place.Reads as own-place-reads
 use Rattle.index_turns.proofs.row_next.Reads as row-next-reads
-use Rattle.index_turns.proofs.turn_at.Reads as turn-at-reads
 use Rattle.paper.proofs.next_role.Reads as next-role-reads
 use Rattle.index_folded_names.proofs.+meet_row.{statement}
 use Rattle.index_folded_names.proofs.+meet_row.Tie.{close}
@@ -33,25 +36,29 @@ meet-row-below t =
     and 4 meet-row-kinds.ps (falls 4 meet-row-kinds.ps _<_ μ-meet-row t) meet-row.Pre
 
 abbrev meet-row-Inv-loop : meet-row-lts.InvT-loop
-meet-row-Inv-loop trees plan m short x pos first spelling levels at₀ left₀ part₀ met₀ at left part met =
+meet-row-Inv-loop trees plan m short x pos first levels at₀ left₀ part₀ met₀ at left part met =
     meeting (folded-in (trees-in trees) plan) (kinds-in (trees-in trees) plan) short part₀ (left-at (folded x) pos) met₀ (walk-in plan m levels left₀ at₀)
     ≡ meeting (folded-in (trees-in trees) plan) (kinds-in (trees-in trees) plan) short part (left-at (folded x) pos) met (walk-in plan m levels left at)
 
 abbrev meet-row-μ-loop : meet-row-lts.MeasureT-loop
-meet-row-μ-loop trees plan m short x pos first spelling levels at₀ left₀ part₀ met₀ at left part met = left
+meet-row-μ-loop trees plan m short x pos first levels at₀ left₀ part₀ met₀ at left part met = left
 
 pub +meet-row-spec : {M : Type 1} → statement M
 +meet-row-spec = close μ-meet-row λ t. meet-row-lts.spec (
   row-next-reads.Asked,
   row-next-reads.Learnt,
-  turn-at-reads.Asked,
-  turn-at-reads.Learnt,
+  fit-at-reads.Asked,
+  fit-at-reads.Learnt,
+  own-place-reads.Asked,
+  own-place-reads.Learnt,
   both-reads.Asked,
   both-reads.Learnt,
   either-reads.Asked,
   either-reads.Learnt,
   next-role-reads.Asked,
   next-role-reads.Learnt,
+  inside-at-reads.Asked,
+  inside-at-reads.Learnt,
   meet-row-below t,
   meet-row.Post,
 )
@@ -64,9 +71,10 @@ pub +meet-row-spec : {M : Type 1} → statement M
     (λ c. search (meets, needs))  -- returns-2
     (λ c. refl)  -- loop-holds
     (λ c. search (meets, needs))  -- returns-3
-    (λ c κs. search needs)  -- turn-at-requires
+    (λ c κs. search needs)  -- fit-at-requires
+    (λ c κs. search needs)  -- own-place-requires
     (λ c κs. search needs)  -- both-requires
-    (λ c. turn-twice _ _ _ _ _ _ _ _ _ _ _ _ _ (c .before .before .before .before .before .loop .inv) _ _ (c .before .before .before .before .before .before .if2 .left) (c .before .before .before .before .loop-test .taken) (c .before .before .before .if3 .left) (folding _ _ _ _ _ _ _ _ (c .before .before .turn-at .ensures)) (c .before .both .ensures) (c .if4 .taken))  -- returns-4
+    (λ c. turn-twice _ _ _ _ _ _ _ _ _ _ _ _ _ (c .before .before .before .before .before .before .loop .inv) _ _ (c .before .before .before .before .before .before .before .if2 .left) (c .before .before .before .before .before .loop-test .taken) (c .before .before .before .before .if3 .left) (own-met _ _ _ _ _ (c .before .before .before .before .before .before .before .before .if1 .left) (c .before .before .before .fit-at .ensures) _ (c .before .before .own-place .ensures)) (c .before .both .ensures) (c .if4 .taken))  -- returns-4
     (λ c κs. search needs)  -- either-requires
     (λ c κs. search needs)  -- next-role-requires
     (λ c. search needs)  -- sub-left
@@ -75,13 +83,14 @@ pub +meet-row-spec : {M : Type 1} → statement M
     (λ c. search needs)  -- index-2-members
     (λ c. search needs)  -- add-at
     (λ c. search needs)  -- loop-less
-    (λ c. turn-leaf _ _ _ _ _ _ _ _ _ _ _ _ _ (c .before .before .before .before .before .before .before .before .before .loop .inv) _ _ (c .before .before .before .before .before .before .before .before .before .before .if2 .left) (c .before .before .before .before .before .before .before .before .loop-test .taken) (c .before .before .before .before .before .before .before .if3 .left) (folding _ _ _ _ _ _ _ _ (c .before .before .before .before .before .before .turn-at .ensures)) (c .before .before .before .before .before .both .ensures) _ (c .before .before .before .before .if4 .left) (c .before .before .before .either .ensures) _ _ refl (c .if5 .taken) (c .before .before .next-role .ensures))  -- loop-again
-    (λ c. search needs)  -- add-t35
-    (λ c. search needs)  -- sub-t39
+    (λ c. turn-leaf _ _ _ _ _ _ _ _ _ _ _ _ _ (c .before .before .before .before .before .before .before .before .before .before .loop .inv) _ _ (c .before .before .before .before .before .before .before .before .before .before .before .if2 .left) (c .before .before .before .before .before .before .before .before .before .loop-test .taken) (c .before .before .before .before .before .before .before .before .if3 .left) (own-met _ _ _ _ _ (c .before .before .before .before .before .before .before .before .before .before .before .before .if1 .left) (c .before .before .before .before .before .before .before .fit-at .ensures) _ (c .before .before .before .before .before .before .own-place .ensures)) (c .before .before .before .before .before .both .ensures) _ (c .before .before .before .before .if4 .left) (c .before .before .before .either .ensures) _ _ refl (c .if5 .taken) (c .before .before .next-role .ensures))  -- loop-again
+    (λ c κs. (search needs, (search needs, (room-under _ _ _ _ _ (c .before .before .before .before .before .before .before .before .before .before .before .before .if1 .left) (c .before .before .before .before .before .before .before .fit-at .ensures), search needs))))  -- inside-at-requires
+    (λ c. search needs)  -- add-t36
+    (λ c. search needs)  -- sub-t40
     (λ c κs. (search needs, (search needs, search needs)))  -- meet-row-requires
     (λ c. search needs)  -- enum-known-k
-    (λ c. turn-in _ _ _ _ _ _ _ _ _ _ _ _ _ (c .before .before .before .before .before .before .before .before .before .before .before .before .before .loop .inv) _ _ (c .before .before .before .before .before .before .before .before .before .before .before .before .before .before .if2 .left) (c .before .before .before .before .before .before .before .before .before .before .before .before .loop-test .taken) (c .before .before .before .before .before .before .before .before .before .before .before .if3 .left) (folding _ _ _ _ _ _ _ _ (c .before .before .before .before .before .before .before .before .before .before .turn-at .ensures)) (c .before .before .before .before .before .before .before .before .before .both .ensures) _ (c .before .before .before .before .before .before .before .before .if4 .left) (c .before .before .before .before .before .before .before .either .ensures) _ refl _ (c .before .before .before .meet-row .ensures) _ (search needs))  -- returns-5
+    (λ c. turn-in _ _ _ _ _ _ _ _ _ _ _ _ _ (c .before .before .before .before .before .before .before .before .before .before .before .before .before .before .before .loop .inv) _ _ (c .before .before .before .before .before .before .before .before .before .before .before .before .before .before .before .before .if2 .left) (c .before .before .before .before .before .before .before .before .before .before .before .before .before .before .loop-test .taken) (c .before .before .before .before .before .before .before .before .before .before .before .before .before .if3 .left) (own-met _ _ _ _ _ (c .before .before .before .before .before .before .before .before .before .before .before .before .before .before .before .before .before .if1 .left) (c .before .before .before .before .before .before .before .before .before .before .before .before .fit-at .ensures) _ (c .before .before .before .before .before .before .before .before .before .before .before .own-place .ensures)) (c .before .before .before .before .before .before .before .before .before .before .both .ensures) _ (c .before .before .before .before .before .before .before .before .before .if4 .left) (c .before .before .before .before .before .before .before .before .either .ensures) _ refl _ _ (c .before .before .before .before .inside-at .ensures .members) (left-met _ _ _ _ _ _ (c .before .before .before .before .before .before .before .before .before .before .before .before .before .before .before .before .before .if1 .left) (c .before .before .before .before .before .before .before .before .before .before .before .before .fit-at .ensures) _ _ _ (c .before .before .before .before .inside-at .ensures)) _ (c .before .before .before .meet-row .ensures) _ (search needs))  -- returns-5
     (λ c. search needs)  -- enum-known-next
     (λ c. search needs)  -- loop-less-2
-    (λ c. turn-on _ _ _ _ _ _ _ _ _ _ _ _ _ (c .before .before .before .before .before .before .before .before .before .before .before .before .before .loop .inv) _ _ (c .before .before .before .before .before .before .before .before .before .before .before .before .before .before .if2 .left) (c .before .before .before .before .before .before .before .before .before .before .before .before .loop-test .taken) (c .before .before .before .before .before .before .before .before .before .before .before .if3 .left) (folding _ _ _ _ _ _ _ _ (c .before .before .before .before .before .before .before .before .before .before .turn-at .ensures)) (c .before .before .before .before .before .before .before .before .before .both .ensures) _ (c .before .before .before .before .before .before .before .before .if4 .left) (c .before .before .before .before .before .before .before .either .ensures) _ refl _ (c .before .before .before .meet-row .ensures) _ _ _ (c .before .next .given .1) (c .before .before .before .before .before .before .next-role .ensures))  -- loop-again-2
+    (λ c. turn-on _ _ _ _ _ _ _ _ _ _ _ _ _ (c .before .before .before .before .before .before .before .before .before .before .before .before .before .before .before .loop .inv) _ _ (c .before .before .before .before .before .before .before .before .before .before .before .before .before .before .before .before .if2 .left) (c .before .before .before .before .before .before .before .before .before .before .before .before .before .before .loop-test .taken) (c .before .before .before .before .before .before .before .before .before .before .before .before .before .if3 .left) (own-met _ _ _ _ _ (c .before .before .before .before .before .before .before .before .before .before .before .before .before .before .before .before .before .if1 .left) (c .before .before .before .before .before .before .before .before .before .before .before .before .fit-at .ensures) _ (c .before .before .before .before .before .before .before .before .before .before .before .own-place .ensures)) (c .before .before .before .before .before .before .before .before .before .before .both .ensures) _ (c .before .before .before .before .before .before .before .before .before .if4 .left) (c .before .before .before .before .before .before .before .before .either .ensures) _ refl _ _ (c .before .before .before .before .inside-at .ensures .members) (left-met _ _ _ _ _ _ (c .before .before .before .before .before .before .before .before .before .before .before .before .before .before .before .before .before .if1 .left) (c .before .before .before .before .before .before .before .before .before .before .before .before .fit-at .ensures) _ _ _ (c .before .before .before .before .inside-at .ensures)) _ (c .before .before .before .meet-row .ensures) _ _ _ (c .before .next .given .1) (c .before .before .before .before .before .before .before .next-role .ensures))  -- loop-again-2
     (λ c. search (meets, needs))  -- returns-6

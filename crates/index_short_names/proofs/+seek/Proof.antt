@@ -6,7 +6,7 @@ use Rattle.plan.specs.Named.{names-in, kinds-in}
 use Rattle.plan.specs.Walk.{walk-in}
 use Rattle.index_turns.specs.Turn.{left-at, seen}
 use Rattle.index_short_names.specs.Seek.{sighting}
-use Rattle.index_short_names.proofs.Seeking.{seeking, exactly, turn-found, turn-own, turn-on}
+use Rattle.index_short_names.proofs.Seeking.{seeking, turn-found, turn-own, turn-on}
 use Prim.Native.Nat.{ℕ, _<_}
 use borrow.Fn.Kinds.{In}
 use borrow.Fn.PlainCycle.{Measures, is, falls, and}
@@ -17,7 +17,7 @@ use Rattle.index_short_names.proofs.ended.Reads as ended-reads
 use Rattle.index_short_names.proofs.is_late.Reads as is-late-reads
 use Rattle.index_turns.proofs.row_next.Reads as row-next-reads
 use Rattle.index_short_names.proofs.takes.Reads as takes-reads
-use Rattle.index_turns.proofs.turn_at.Reads as turn-at-reads
+use Rattle.index_short_names.proofs.turn_at.Reads as turn-at-reads
 use Rattle.index_short_names.proofs.waiting.Reads as waiting-reads
 use Rattle.paper.proofs.next_role.Reads as next-role-reads
 use Rattle.index_short_names.proofs.+seek.{statement}
@@ -33,12 +33,12 @@ abbrev seek-below : ℕ → In 4 seek-kinds.ps
 seek-below t = and 4 seek-kinds.ps (falls 4 seek-kinds.ps _<_ μ-seek t) seek.Pre
 
 abbrev seek-Inv-loop : seek-lts.InvT-loop
-seek-Inv-loop trees plan m x pos wait spelling levels at₀ left₀ part₀ first₀ at left part first =
+seek-Inv-loop trees plan m x pos wait levels at₀ left₀ part₀ first₀ at left part first =
     sighting (names-in (trees-in trees) plan) (kinds-in (trees-in trees) plan) part₀ (left-at x pos) (seen first₀) (walk-in plan m levels left₀ at₀)
     ≡ sighting (names-in (trees-in trees) plan) (kinds-in (trees-in trees) plan) part (left-at x pos) (seen first) (walk-in plan m levels left at)
 
 abbrev seek-μ-loop : seek-lts.MeasureT-loop
-seek-μ-loop trees plan m x pos wait spelling levels at₀ left₀ part₀ first₀ at left part first = left
+seek-μ-loop trees plan m x pos wait levels at₀ left₀ part₀ first₀ at left part first = left
 
 pub +seek-spec : {M : Type 1} → statement M
 +seek-spec = close μ-seek λ t. seek-lts.spec (
@@ -79,15 +79,15 @@ pub +seek-spec : {M : Type 1} → statement M
     (λ c κs. search needs)  -- turn-at-requires
     (λ c κs. (search needs, (search needs, search needs)))  -- seek-requires
     (λ c. search needs)  -- enum-known-k
-    (λ c. turn-found _ _ _ _ _ _ _ _ _ _ _ _ _ _ (c .before .before .before .before .before .before .before .before .before .if2 .left) (c .before .before .before .before .before .before .before .loop-test .taken) (c .before .before .before .before .before .before .if3 .left) refl (exactly _ _ _ _ _ _ _ (c .before .before .before .before .turn-at .ensures)) (c .before .before .before .seek .ensures) _ (c .before .before .before .before .before .before .before .before .loop .inv) _ (search needs))  -- returns-4
+    (λ c. turn-found _ _ _ _ _ _ _ _ _ _ _ _ _ _ (c .before .before .before .before .before .before .before .before .before .if2 .left) (c .before .before .before .before .before .before .before .loop-test .taken) (c .before .before .before .before .before .before .if3 .left) refl (c .before .before .before .before .turn-at .ensures) (c .before .before .before .seek .ensures) _ (c .before .before .before .before .before .before .before .before .loop .inv) _ (search needs))  -- returns-4
     (λ c. search needs)  -- enum-known-next
     (λ c κs. search needs)  -- is-late-requires
     (λ c κs. search needs)  -- takes-requires
-    (λ c. turn-own _ _ _ _ _ _ _ _ _ _ _ _ _ _ (c .before .before .before .before .before .before .before .before .before .before .before .before .if2 .left) (c .before .before .before .before .before .before .before .before .before .before .loop-test .taken) (c .before .before .before .before .before .before .before .before .before .if3 .left) refl (exactly _ _ _ _ _ _ _ (c .before .before .before .before .before .before .before .turn-at .ensures)) (c .before .before .before .before .before .before .seek .ensures) _ (c .before .before .before .before .before .before .before .before .before .before .before .loop .inv) _ _ _ (c .before .before .before .before .next .given .1) (c .before .before .is-late .ensures) (c .before .takes .ensures) (c .if4 .taken))  -- returns-5
+    (λ c. turn-own _ _ _ _ _ _ _ _ _ _ _ _ _ _ (c .before .before .before .before .before .before .before .before .before .before .before .before .if2 .left) (c .before .before .before .before .before .before .before .before .before .before .loop-test .taken) (c .before .before .before .before .before .before .before .before .before .if3 .left) refl (c .before .before .before .before .before .before .before .turn-at .ensures) (c .before .before .before .before .before .before .seek .ensures) _ (c .before .before .before .before .before .before .before .before .before .before .before .loop .inv) _ _ _ (c .before .before .before .before .next .given .1) (c .before .before .is-late .ensures) (c .before .takes .ensures) (c .if4 .taken))  -- returns-5
     (λ c κs. search needs)  -- waiting-requires
     (λ c κs. search needs)  -- next-role-requires
     (λ c. search needs)  -- sub-left
     (λ c. search needs)  -- loop-less
-    (λ c. turn-on _ _ _ _ _ _ _ _ _ _ _ _ _ _ (c .before .before .before .before .before .before .before .before .before .before .before .before .before .before .if2 .left) (c .before .before .before .before .before .before .before .before .before .before .before .before .loop-test .taken) (c .before .before .before .before .before .before .before .before .before .before .before .if3 .left) refl (exactly _ _ _ _ _ _ _ (c .before .before .before .before .before .before .before .before .before .turn-at .ensures)) (c .before .before .before .before .before .before .before .before .seek .ensures) _ (c .before .before .before .before .before .before .before .before .before .before .before .before .before .loop .inv) _ _ _ _ _ (c .before .before .before .before .before .before .next .given .1) (c .before .before .before .before .is-late .ensures) (c .before .before .before .takes .ensures) (c .before .before .if4 .left) (c .before .waiting .ensures) (c .next-role .ensures))  -- loop-again
+    (λ c. turn-on _ _ _ _ _ _ _ _ _ _ _ _ _ _ (c .before .before .before .before .before .before .before .before .before .before .before .before .before .before .if2 .left) (c .before .before .before .before .before .before .before .before .before .before .before .before .loop-test .taken) (c .before .before .before .before .before .before .before .before .before .before .before .if3 .left) refl (c .before .before .before .before .before .before .before .before .before .turn-at .ensures) (c .before .before .before .before .before .before .before .before .seek .ensures) _ (c .before .before .before .before .before .before .before .before .before .before .before .before .before .loop .inv) _ _ _ _ _ (c .before .before .before .before .before .before .next .given .1) (c .before .before .before .before .is-late .ensures) (c .before .before .before .takes .ensures) (c .before .before .if4 .left) (c .before .waiting .ensures) (c .next-role .ensures))  -- loop-again
     (λ c κs. search needs)  -- ended-requires-4
     (λ c. search (seeking, needs))  -- returns-6
