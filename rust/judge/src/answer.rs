@@ -13,7 +13,10 @@ pub const REBUILT: u32 = 4;
 /// List number 5: the identifiers.
 pub const IDENTIFIERS: u32 = 5;
 
-/// Why a request is turned down: 01's number, the list, and the place in it.
+/// The last number of a refusal.
+pub const LAST_REFUSAL: u32 = 21;
+
+/// Why a request is turned down: its number, the list, and the place in it.
 #[derive(Clone, Copy, Debug, PartialEq, Eq, PartialOrd, Ord)]
 pub struct Refusal {
     pub number: u32,
@@ -39,7 +42,7 @@ pub fn refuse(number: u32, list: u32, fault: Option<usize>) -> Result<(), Refusa
 /// The answer of update, prune and renumber. On a refusal the last three are 0.
 #[derive(Clone, Copy, Debug, Default, PartialEq, Eq)]
 pub struct Changed {
-    /// 0 where accepted, else 01's number.
+    /// 0 where accepted, else the refusal's number.
     pub refusal: u32,
     pub list: u32,
     pub place: u32,
@@ -60,7 +63,7 @@ impl From<Refusal> for Changed {
 /// The answer of a look-up. Where nothing is found, or on a refusal, id and slot are 0.
 #[derive(Clone, Copy, Debug, Default, PartialEq, Eq)]
 pub struct Found {
-    /// 0 where the tree was accepted, else 01's number.
+    /// 0 where it was answered, else the refusal's number.
     pub refusal: u32,
     pub list: u32,
     pub place: u32,

@@ -1,8 +1,8 @@
-//! Ids and names of a tree: refusal 7 to refusal 9, and look-up.
+//! Ids and names of a tree: refusal 7 to refusal 9, look-up, and refusal 21.
 
 use std::collections::{HashMap, HashSet};
 
-use crate::answer::{IDENTIFIERS, Refusal, refuse};
+use crate::answer::{BASE, IDENTIFIERS, Refusal, refuse};
 use crate::tree::Tree;
 
 /// refusal 7: an id equals an earlier one.
@@ -50,4 +50,27 @@ impl Names {
     pub fn find(&self, name: &[u8]) -> Option<usize> {
         self.full.get(name).or_else(|| self.short.get(name)).copied()
     }
+}
+
+/// The slots whose full names, and those whose short names, are the asked one where A to Z equal
+/// a to z, and no other byte equals another.
+pub fn alike(tree: &Tree, name: &[u8]) -> [Vec<usize>; 2] {
+    let slots = 0..tree.rows.len();
+    let full = slots.clone().filter(|slot| tree.full_name(*slot).eq_ignore_ascii_case(name));
+    let short = slots.filter(|slot| tree.short_name(*slot).eq_ignore_ascii_case(name));
+    [full.collect(), short.collect()]
+}
+
+/// The slot that a name finds where case is forgotten: by the full names if one matches, else by
+/// the short names.
+pub fn find_folded(tree: &Tree, name: &[u8]) -> Result<Option<usize>, Refusal> {
+    let [full, short] = alike(tree, name);
+    let matching = if full.is_empty() { short } else { full };
+    refusal_21(&matching)?;
+    Ok(matching.first().copied())
+}
+
+/// refusal 21: two columns match at the same level. The place is the second one's slot.
+fn refusal_21(matching: &[usize]) -> Result<(), Refusal> {
+    refuse(21, BASE, matching.get(1).copied())
 }

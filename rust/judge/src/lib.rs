@@ -1,11 +1,11 @@
-//! Document 01 as a plain program: the judge for what iceberg's own code can't answer.
+//! Documents 01 and 02 as a plain program: the judge for what iceberg's own code can't answer.
 //!
-//! It is written from 01's text alone. It is slow, it allocates, and it never calls the
+//! It is written from their text alone. It is slow, it allocates, and it never calls the
 //! port. It answers every operation on any bytes. The functions take what the port's C
 //! functions take, in the same order, and give the same numbers; what an update reads is one
 //! value, [`UpdateCall`].
 //!
-//! Each rule of 01 that turns a request down is one function, named after its number:
+//! Each rule that turns a request down is one function, named after its number:
 //! search for `refusal 16`.
 
 mod answer;
@@ -21,9 +21,9 @@ mod tree;
 mod update;
 mod write;
 
-pub use answer::{ADDED, ADDITIONS, BASE, DELETIONS, IDENTIFIERS, REBUILT};
+pub use answer::{ADDED, ADDITIONS, BASE, DELETIONS, IDENTIFIERS, LAST_REFUSAL, REBUILT};
 pub use answer::{Changed, Found, Refusal};
-pub use index::Names;
+pub use index::{Names, alike};
 pub use layout::{DEFAULT, LIST, MAP, PRIMITIVE, REQUIRED, STRUCT};
 pub use layout::{ENTRY_BYTES, ID_BYTES, RECORD_BYTES};
 pub use limits::{
@@ -31,7 +31,7 @@ pub use limits::{
     NAME_SUM, OUT_NAMES, OUT_RECORDS, POOL_BYTES,
 };
 pub use lister::list;
-pub use lookup::{find_id, find_name, find_parent};
+pub use lookup::{find_folded, find_id, find_name, find_parent};
 pub use prune::{Unwrap, prune, prune_where_rust_panics};
 pub use read::read_tree;
 pub use renumber::renumber;

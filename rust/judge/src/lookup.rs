@@ -1,7 +1,7 @@
-//! Look-up by name, by id, and of the record above.
+//! Look-up by name, with case and without, by id, and of the record above.
 
 use crate::answer::{BASE, Found, Refusal};
-use crate::index::{Names, refusal_7, refusal_8, slot_of};
+use crate::index::{self, Names, refusal_7, refusal_8, slot_of};
 use crate::limits::{Lent, refusal_2};
 use crate::read::read_tree;
 use crate::tree::Tree;
@@ -20,24 +20,34 @@ pub fn distinct(records: &[u8], pool: &[u8]) -> Result<Tree, Refusal> {
     Ok(tree)
 }
 
-fn look_up(tree: Result<Tree, Refusal>, find: impl Fn(&Tree) -> Option<usize>) -> Found {
-    match tree {
-        Err(refusal) => refusal.into(),
-        Ok(tree) => Found::at(find(&tree).map(|slot| (tree.rows[slot].id, slot))),
-    }
+fn look_up(
+    records: &[u8],
+    pool: &[u8],
+    find: impl Fn(&Tree) -> Result<Option<usize>, Refusal>,
+) -> Found {
+    let found = base(records, pool).and_then(|tree| {
+        let slot = find(&tree)?;
+        Ok(slot.map(|slot| (tree.rows[slot].id, slot)))
+    });
+    found.map_or_else(Found::from, Found::at)
 }
 
 /// The id and the slot of the record that a name finds; any bytes are a name.
 pub fn find_name(records: &[u8], pool: &[u8], name: &[u8]) -> Found {
-    look_up(base(records, pool), |tree| Names::of(tree).find(name))
+    look_up(records, pool, |tree| Ok(Names::of(tree).find(name)))
+}
+
+/// The same where case is forgotten (02, 1/13).
+pub fn find_folded(records: &[u8], pool: &[u8], name: &[u8]) -> Found {
+    look_up(records, pool, |tree| index::find_folded(tree, name))
 }
 
 /// The slot of an id; the id is the one asked.
 pub fn find_id(records: &[u8], pool: &[u8], id: i32) -> Found {
-    look_up(base(records, pool), |tree| slot_of(tree, id))
+    look_up(records, pool, |tree| Ok(slot_of(tree, id)))
 }
 
 /// The id and the slot of the record above an id.
 pub fn find_parent(records: &[u8], pool: &[u8], id: i32) -> Found {
-    look_up(base(records, pool), |tree| tree.rows[slot_of(tree, id)?].parent)
+    look_up(records, pool, |tree| Ok(slot_of(tree, id).and_then(|slot| tree.rows[slot].parent)))
 }
