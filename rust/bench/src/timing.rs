@@ -76,6 +76,7 @@ impl Room {
                 by.renumber(base, pool, identifiers, *start, r, n, i).refusal
             }
             Ask::Name(name) => by.find_name(base, pool, name).refusal,
+            Ask::Folded(name) => by.find_folded(base, pool, name).refusal,
             Ask::Id(id) => by.find_id(base, pool, *id).refusal,
             Ask::Parent(id) => by.find_parent(base, pool, *id).refusal,
             Ask::List => return None,

@@ -65,6 +65,8 @@ pub enum Ask {
         out_identifiers: usize,
     },
     Name(Vec<u8>),
+    /// By name, where case is forgotten.
+    Folded(Vec<u8>),
     Id(i32),
     Parent(i32),
     List,
@@ -78,6 +80,7 @@ impl Ask {
             Ask::Prune { .. } => "prune",
             Ask::Renumber { .. } => "renumber",
             Ask::Name(_) => "name",
+            Ask::Folded(_) => "folded",
             Ask::Id(_) => "id",
             Ask::Parent(_) => "parent",
             Ask::List => "list",
@@ -157,11 +160,12 @@ pub trait Operations {
         out_identifiers: &mut [u8],
     ) -> Changed;
     fn find_name(&self, records: &[u8], pool: &[u8], name: &[u8]) -> Found;
+    fn find_folded(&self, records: &[u8], pool: &[u8], name: &[u8]) -> Found;
     fn find_id(&self, records: &[u8], pool: &[u8], id: i32) -> Found;
     fn find_parent(&self, records: &[u8], pool: &[u8], id: i32) -> Found;
 }
 
-/// The second judge: 01's text.
+/// The second judge: the text of 01 and 02.
 pub struct ByJudge;
 
 impl Operations for ByJudge {
@@ -193,6 +197,9 @@ impl Operations for ByJudge {
     }
     fn find_name(&self, records: &[u8], pool: &[u8], name: &[u8]) -> Found {
         judge::find_name(records, pool, name)
+    }
+    fn find_folded(&self, records: &[u8], pool: &[u8], name: &[u8]) -> Found {
+        judge::find_folded(records, pool, name)
     }
     fn find_id(&self, records: &[u8], pool: &[u8], id: i32) -> Found {
         judge::find_id(records, pool, id)
@@ -229,6 +236,7 @@ pub fn outcome(case: &Case, by: &impl Operations) -> Option<Outcome> {
             Numbers::Changed(by.renumber(records, pool, identifiers, *start, r, n, i))
         }
         Ask::Name(name) => Numbers::Found(by.find_name(records, pool, name)),
+        Ask::Folded(name) => Numbers::Found(by.find_folded(records, pool, name)),
         Ask::Id(id) => Numbers::Found(by.find_id(records, pool, *id)),
         Ask::Parent(id) => Numbers::Found(by.find_parent(records, pool, *id)),
         Ask::List => return None,

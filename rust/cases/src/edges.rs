@@ -36,6 +36,7 @@ pub fn plainly(random: &mut Random, operation: &str, base: (Vec<u8>, Vec<u8>)) -
         "prune" => prune_by(base, &[id, 1, 2], true),
         "renumber" => renumber_by(base, &[], 1),
         "name" => ask_of(base, Ask::Name(b"a".to_vec())),
+        "folded" => ask_of(base, Ask::Folded(b"a".to_vec())),
         "id" => ask_of(base, Ask::Id(id)),
         "parent" => ask_of(base, Ask::Parent(id)),
         _ => ask_of(base, Ask::List),

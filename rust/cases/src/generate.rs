@@ -11,11 +11,17 @@ use crate::build::{Addition, ask_of, prune_by, renumber_by, request, update_by};
 use crate::case::{Ask, Case};
 use crate::damage::damage;
 use crate::edges::edge;
+use crate::folded::folded;
 use crate::random::Random;
 use crate::trees::{Shape, column, identifiers, lay, name, size, tree};
 
-/// The operations' words, in the order in which cases of a seed take turns.
-pub const OPERATIONS: [&str; 7] = ["update", "prune", "renumber", "name", "id", "parent", "list"];
+/// The operations' words, in the order in which cases of a seed take turns: 01's, then 02's.
+pub const OPERATIONS: [&str; 8] =
+    ["update", "prune", "renumber", "name", "id", "parent", "list", "folded"];
+
+/// How many of them are 01's. Their cases are counted among themselves, and those of any other
+/// operation for themselves, so that no case changes where an operation is added.
+const FIRST: u64 = 7;
 
 /// How large the trees are.
 #[derive(Clone, Copy, Debug, PartialEq, Eq)]
@@ -52,8 +58,13 @@ impl Generator {
 
     /// The n-th case, and how it was made.
     pub fn made(&self, n: u64) -> (Case, Origin) {
-        let operation = OPERATIONS[(n % OPERATIONS.len() as u64) as usize];
-        let mut random = Random::nth(self.seed, n);
+        let turns = OPERATIONS.len() as u64;
+        let (round, turn) = (n / turns, n % turns);
+        let operation = OPERATIONS[turn as usize];
+        let mut random = match turn < FIRST {
+            true => Random::nth(self.seed, round * FIRST + turn),
+            false => Random::nth(self.seed ^ turn << 32, round),
+        };
         if self.sizes == Sizes::Usual && random.chance(1, 40) {
             return (edge(&mut random, operation), Origin::Edge);
         }
@@ -78,6 +89,7 @@ fn plain(random: &mut Random, operation: &str, shape: Shape) -> Case {
         "update" => update(random, shape),
         "prune" => prune(random, shape),
         "renumber" => renumber(random, shape),
+        "folded" => folded(random, shape),
         other => {
             let roots = tree(random, shape);
             let base = lay(random, &roots);

@@ -5,6 +5,7 @@ mod build;
 mod case;
 mod damage;
 mod edges;
+mod folded;
 mod generate;
 mod line;
 mod named;

@@ -7,6 +7,7 @@
 //! prune    SELECTED FULL OUT_RECORDS OUT_NAMES
 //! renumber IDENTIFIERS START OUT_RECORDS OUT_NAMES OUT_IDENTIFIERS
 //! name     NAME
+//! folded   NAME                     name, where case is forgotten
 //! id       ID
 //! parent   ID
 //! list
@@ -15,7 +16,7 @@
 //! ok RECORDS NAMES LAST_ID          update
 //! ok RECORDS NAMES                  prune
 //! ok RECORDS NAMES IDENTIFIERS      renumber
-//! found ID SLOT | nothing           name, id, parent (the record above)
+//! found ID SLOT | nothing           name, folded, id, parent (the record above)
 //! ok TEXT                           list
 //! ```
 
@@ -118,7 +119,7 @@ fn ask_words(ask: &Ask) -> Vec<String> {
             out_names.to_string(),
             out_identifiers.to_string(),
         ],
-        Ask::Name(name) => vec![hex(name)],
+        Ask::Name(name) | Ask::Folded(name) => vec![hex(name)],
         Ask::Id(id) | Ask::Parent(id) => vec![(*id as u32).to_string()],
         Ask::List => vec![],
     }
@@ -213,6 +214,7 @@ fn read_ask(operation: &str, words: &mut Words) -> Result<Ask, String> {
             out_identifiers: words.size()?,
         },
         "name" => Ask::Name(words.bytes()?),
+        "folded" => Ask::Folded(words.bytes()?),
         "id" => Ask::Id(words.id()?),
         "parent" => Ask::Parent(words.id()?),
         "list" => Ask::List,
@@ -240,10 +242,10 @@ fn read_answer(ask: &Ask, words: &mut Words) -> Result<Answer, String> {
             identifiers: words.bytes()?,
         },
         ("ok", Ask::List) => Answer::Listed(words.bytes()?),
-        ("found", Ask::Name(_) | Ask::Id(_) | Ask::Parent(_)) => {
+        ("found", Ask::Name(_) | Ask::Folded(_) | Ask::Id(_) | Ask::Parent(_)) => {
             Answer::Found { id: words.id()?, slot: words.number()? }
         }
-        ("nothing", Ask::Name(_) | Ask::Id(_) | Ask::Parent(_)) => Answer::Nothing,
+        ("nothing", Ask::Name(_) | Ask::Folded(_) | Ask::Id(_) | Ask::Parent(_)) => Answer::Nothing,
         (other, _) => return Err(format!("no answer of this operation: {other}")),
     })
 }

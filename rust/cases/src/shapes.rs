@@ -3,7 +3,7 @@
 use judge::{
     DEFAULT, ENTRY_BYTES, ID_BYTES, LEVELS, LIST, MAP, MOST_ADDITIONS, MOST_DELETIONS,
     MOST_IDENTIFIERS, MOST_RECORDS, MOST_SELECTED, NAME_SUM, Names, POOL_BYTES, RECORD_BYTES,
-    REQUIRED, Refusal, STRUCT, Tree, Unwrap, read_tree,
+    REQUIRED, Refusal, STRUCT, Tree, Unwrap, alike, read_tree,
 };
 
 use crate::case::{Answer, Ask, Case};
@@ -73,6 +73,28 @@ pub const SHAPES: &[&str] = &[
     "parent: nothing above a root",
     "parent: unknown id",
     "list: accepted",
+    "folded: found by the full name as it is",
+    "folded: found by the full name in another case",
+    "folded: found by a short name in another case",
+    "folded: found under a list's element by a short name",
+    "folded: found under a map's value by a short name",
+    "folded: found by A for a and by Z for z",
+    "folded: found by more than 255 bytes",
+    "folded: a full name hides two short ones",
+    "folded: nothing",
+    "folded: nothing, a byte beside the letters does not fold",
+    "folded: nothing, a byte above 127 does not fold",
+    "folded: nothing, the name is longer than any pool",
+    "folded: the empty name",
+    "folded: 21 by full names",
+    "folded: 21 by full names across dots",
+    "folded: 21 by short names",
+    "folded: 21 by short names under a list's element",
+    "folded: 21 by short names under a map's value",
+    "folded: 21 by equal short names",
+    "folded: 21 by equal short names without letters",
+    "folded: 21 beside an exact match",
+    "folded: 21 by three columns",
     "tree: 16 levels",
     "tree: 1,024 records",
     "tree: more than 900 records",
@@ -126,6 +148,7 @@ pub fn shapes_of(case: &Case, answer: &Answer) -> Vec<&'static str> {
             met("renumber: up to the edge", last == i64::from(i32::MAX));
         }
         Ask::Name(name) => name_shapes(&tree, name, answer, &mut met),
+        Ask::Folded(name) => folded_shapes(&tree, name, answer, &mut met),
         Ask::Id(_) => {
             met("id: found", *answer != Answer::Nothing);
             met("id: nothing", *answer == Answer::Nothing);
@@ -202,6 +225,10 @@ fn refused_shapes(case: &Case, refusal: Refusal, met: &mut impl FnMut(&'static s
             met("prune: 20 at a field", above.is_none_or(|kind| kind == STRUCT));
             met("prune: 20 at an element", above == Some(LIST));
             met("prune: 20 at a value", above == Some(MAP));
+        }
+        (Ask::Folded(name), 21, _) => {
+            let tree = read_tree(&case.records, &case.pool, 0).expect("21 comes after 8");
+            ambiguous_shapes(&tree, name, met);
         }
         _ => {}
     }
@@ -394,4 +421,88 @@ fn name_shapes(
 fn slots_with_both(tree: &Tree, name: &[u8]) -> usize {
     let both = |slot: &usize| tree.full_name(*slot) == name && tree.short_name(*slot) == name;
     (0..tree.rows.len()).filter(both).count()
+}
+
+/// Does a short name leave out a struct that is a list's element, or a map's value?
+fn leaves_out(tree: &Tree, slot: usize, kind: u8) -> bool {
+    let above = |slot: &usize| tree.rows[*slot].parent;
+    let left_out = |slot: usize| {
+        let parent = above(&slot).map(|parent| &tree.rows[parent]);
+        let inside = parent.is_some_and(|p| p.kind == kind && p.children.last() == Some(&slot));
+        inside && tree.rows[slot].kind == STRUCT
+    };
+    std::iter::successors(above(&slot), above).any(left_out)
+}
+
+fn folded_shapes(
+    tree: &Tree,
+    name: &[u8],
+    answer: &Answer,
+    met: &mut impl FnMut(&'static str, bool),
+) {
+    let Answer::Found { slot, .. } = answer else {
+        return unfolded_shapes(tree, name, met);
+    };
+    let slot = *slot as usize;
+    let [full, short] = alike(tree, name);
+    let by_full = full.contains(&slot);
+    let called = if by_full { tree.full_name(slot) } else { tree.short_name(slot) };
+    let other = name.iter().zip(&called).filter(|(asked, has)| asked != has);
+    let other: Vec<u8> = other.map(|(asked, _)| *asked).collect();
+    let turned = |letters: &[u8]| other.iter().any(|byte| letters.contains(byte));
+    met("folded: found by the full name as it is", by_full && other.is_empty());
+    met("folded: found by the full name in another case", by_full && !other.is_empty());
+    met("folded: found by a short name in another case", !by_full && !other.is_empty());
+    let short_of = |kind: u8| !by_full && leaves_out(tree, slot, kind);
+    met("folded: found under a list's element by a short name", short_of(LIST));
+    met("folded: found under a map's value by a short name", short_of(MAP));
+    met("folded: found by A for a and by Z for z", turned(b"Aa") && turned(b"Zz"));
+    met("folded: found by more than 255 bytes", name.len() > 255);
+    let hidden = short.iter().filter(|hidden| **hidden != slot).count();
+    met("folded: a full name hides two short ones", by_full && hidden > 1);
+    met("folded: the empty name", name.is_empty());
+}
+
+/// Where nothing is found: what would have been, if other bytes than letters folded.
+fn unfolded_shapes(tree: &Tree, name: &[u8], met: &mut impl FnMut(&'static str, bool)) {
+    let mut other = vec![];
+    for slot in 0..tree.rows.len() {
+        for called in [tree.full_name(slot), tree.short_name(slot)] {
+            let near = called.len() == name.len();
+            if near && called.iter().zip(name).all(|(has, asked)| (has ^ asked) & !32 == 0) {
+                let unlike = called.iter().zip(name).filter(|(has, asked)| has != asked);
+                other.extend(unlike.map(|(has, _)| *has));
+            }
+        }
+    }
+    met("folded: nothing", true);
+    let beside = other.iter().any(|byte| b"@[`{".contains(byte));
+    met("folded: nothing, a byte beside the letters does not fold", beside);
+    met("folded: nothing, a byte above 127 does not fold", other.iter().any(|byte| *byte > 127));
+    met("folded: nothing, the name is longer than any pool", name.len() > POOL_BYTES);
+}
+
+fn ambiguous_shapes(tree: &Tree, name: &[u8], met: &mut impl FnMut(&'static str, bool)) {
+    let [full, short] = alike(tree, name);
+    let by_full = !full.is_empty();
+    let matching = if by_full { full } else { short };
+    let called = |slot: &usize| match by_full {
+        true => tree.full_name(*slot),
+        false => tree.short_name(*slot),
+    };
+    let names: Vec<Vec<u8>> = matching.iter().map(called).collect();
+    let across = matching.iter().any(|slot| tree.rows[*slot].level != tree.rows[matching[0]].level);
+    met("folded: 21 by full names", by_full);
+    met("folded: 21 by full names across dots", by_full && across);
+    met("folded: 21 by short names", !by_full);
+    let short_of = |kind: u8| !by_full && matching.iter().all(|at| leaves_out(tree, *at, kind));
+    met("folded: 21 by short names under a list's element", short_of(LIST));
+    met("folded: 21 by short names under a map's value", short_of(MAP));
+    let equal = twice(names.iter());
+    let letters = name.iter().any(u8::is_ascii_alphabetic);
+    met("folded: 21 by equal short names", equal);
+    met("folded: 21 by equal short names without letters", equal && !letters);
+    let exact = names.iter().filter(|called| *called == name).count();
+    met("folded: 21 beside an exact match", exact == 1);
+    met("folded: 21 by three columns", matching.len() > 2);
 }

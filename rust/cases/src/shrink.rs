@@ -158,7 +158,11 @@ fn smaller_asks(ask: &Ask) -> Vec<Ask> {
                 *identifiers = less;
             }
         }),
-        Ask::Name(name) => each(name, 1, &|ask, less| *ask = Ask::Name(less)),
+        Ask::Name(name) | Ask::Folded(name) => each(name, 1, &|ask, less| {
+            if let Ask::Name(name) | Ask::Folded(name) = ask {
+                *name = less;
+            }
+        }),
         Ask::Id(_) | Ask::Parent(_) | Ask::List => {}
     }
     smaller

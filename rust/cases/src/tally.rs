@@ -3,7 +3,7 @@
 use std::collections::BTreeMap;
 use std::fmt;
 
-use judge::{ADDED, ADDITIONS, BASE, DELETIONS, IDENTIFIERS, REBUILT, RECORD_BYTES};
+use judge::{ADDED, ADDITIONS, BASE, DELETIONS, IDENTIFIERS, LAST_REFUSAL, REBUILT, RECORD_BYTES};
 
 use crate::case::{Answer, Case};
 use crate::generate::{OPERATIONS, Origin};
@@ -79,6 +79,7 @@ fn possible(operation: &str) -> Vec<(u32, u32)> {
             possible.extend(base(&[1, 18]));
             possible.push((9, IDENTIFIERS));
         }
+        "folded" => possible.extend(base(&[21])),
         _ => {}
     }
     possible
@@ -124,10 +125,10 @@ impl Tally {
         self.refusals.get(&refusal).map_or(0, |counts| counts.of(operation))
     }
 
-    /// What never came up in any operation: refusals 1 to 20 and the shapes.
+    /// What never came up in any operation: of all refusals and shapes.
     pub fn missing(&self) -> Vec<String> {
         let met = |number: &u32| self.refusals.keys().any(|(known, _)| known == number);
-        let refusals = (1..=20).filter(|number| !met(number));
+        let refusals = (1..=LAST_REFUSAL).filter(|number| !met(number));
         let shapes = SHAPES.iter().filter(|shape| !self.shapes.contains_key(*shape));
         refusals.map(|n| format!("refusal {n}")).chain(shapes.map(|s| s.to_string())).collect()
     }

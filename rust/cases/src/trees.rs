@@ -63,7 +63,12 @@ pub struct Shape {
 
 /// A random tree.
 pub fn tree(random: &mut Random, shape: Shape) -> Vec<Node> {
-    let mut roots = grown(random, shape);
+    let roots = grown(random, shape);
+    finished(random, shape, roots)
+}
+
+/// A tree of these names, with ids; where ids and full names are to differ they do.
+pub fn finished(random: &mut Random, shape: Shape, mut roots: Vec<Node>) -> Vec<Node> {
     give_ids(random, &mut roots);
     if shape.distinct || random.chance(1, 2) {
         part_names(&mut roots);
@@ -77,7 +82,8 @@ pub fn tree(random: &mut Random, shape: Shape) -> Vec<Node> {
     roots
 }
 
-fn grown(random: &mut Random, shape: Shape) -> Vec<Node> {
+/// The records of a random tree, without ids; full names may stand twice.
+pub fn grown(random: &mut Random, shape: Shape) -> Vec<Node> {
     let mut left = match random.below(20) {
         0 => random.below(3),
         1 => shape.records,

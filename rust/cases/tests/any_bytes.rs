@@ -6,7 +6,7 @@ use judge::{ENTRY_BYTES, ID_BYTES, OUT_NAMES, OUT_RECORDS, RECORD_BYTES};
 fn any_case(random: &mut Random) -> Case {
     let (records, pool) = (random.noise(RECORD_BYTES), random.noise(40));
     let (out_records, out_names) = (OUT_RECORDS, OUT_NAMES);
-    let ask = match random.below(7) {
+    let ask = match random.below(8) {
         0 => Ask::Update {
             identifiers: random.noise(ID_BYTES),
             last_id: random.any_id(),
@@ -27,6 +27,7 @@ fn any_case(random: &mut Random) -> Case {
         3 => Ask::Name(random.noise(3)),
         4 => Ask::Id(random.any_id()),
         5 => Ask::Parent(random.any_id()),
+        6 => Ask::Folded(random.noise(3)),
         _ => Ask::List,
     };
     Case { records, pool, ask }

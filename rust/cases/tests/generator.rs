@@ -1,6 +1,6 @@
 //! What the generator makes.
 
-use cases::{Ask, Case, Generator, Sizes, Tally, answer, shrink};
+use cases::{Ask, Case, Generator, OPERATIONS, Sizes, Tally, answer, shrink};
 
 const SEED: u64 = 1;
 
@@ -11,7 +11,7 @@ fn usual() -> Generator {
 #[test]
 fn every_refusal_and_every_accepted_shape_comes_up() {
     let mut tally = Tally::default();
-    for n in 0..35_000 {
+    for n in 0..40_000 {
         let (case, origin) = usual().made(n);
         tally.count(&case, origin, &answer(&case));
     }
@@ -28,16 +28,46 @@ fn a_seed_makes_the_same_cases_again() {
     assert!((0..50).any(|n| usual().case(n) != other.case(n)));
 }
 
-#[test]
-fn equal_short_names_are_common() {
+/// The first cases of an operation.
+fn of(operation: &str, count: usize) -> impl Iterator<Item = u64> {
+    let turn = OPERATIONS.iter().position(|word| *word == operation).expect("an operation");
+    (turn as u64..).step_by(OPERATIONS.len()).take(count)
+}
+
+fn tally_of(operation: &str) -> Tally {
     let mut tally = Tally::default();
-    for n in (3..14_000).step_by(7) {
+    for n in of(operation, 2_000) {
         let (case, origin) = usual().made(n);
+        assert_eq!(case.ask.word(), operation);
         tally.count(&case, origin, &answer(&case));
     }
-    let twins = tally.shapes["name: of equal short names the first entered"].of("name");
-    let cases = tally.cases.of("name");
+    tally
+}
+
+#[test]
+fn equal_short_names_are_common() {
+    let tally = tally_of("name");
+    let twins = tally.shapes["name: of equal short names the first entered"].sum();
+    let cases = tally.cases.sum();
     assert!(twins * 20 > cases, "{twins} of {cases}");
+}
+
+/// Where case is forgotten: each outcome at each level.
+#[test]
+fn names_that_differ_in_case_alone_are_common() {
+    let tally = tally_of("folded");
+    let cases = tally.cases.sum();
+    for shape in [
+        "folded: found by the full name in another case",
+        "folded: found by a short name in another case",
+        "folded: nothing",
+        "folded: 21 by full names",
+        "folded: 21 by short names",
+        "folded: 21 beside an exact match",
+    ] {
+        let times = tally.shapes[shape].sum();
+        assert!(times * 20 > cases, "{shape}: {times} of {cases}");
+    }
 }
 
 #[test]
@@ -56,8 +86,7 @@ fn a_failing_case_is_shrunk() {
     let refused = |case: &Case| {
         answer(case).refusal().is_some_and(|r| (r.number, r.list) == (8, judge::BASE))
     };
-    let large = (0..200_000u64)
-        .filter(|n| n % 7 == 0)
+    let large = of("update", 30_000)
         .map(|n| usual().case(n))
         .find(|case| case.records.len() > 20 * 24 && refused(case))
         .expect("some case is refused with 8");

@@ -1,6 +1,7 @@
 //! The named cases, and the format that they are recorded in.
 
 use cases::{Judge, Recorded, answer, named, read_line, write_line};
+use judge::LAST_REFUSAL;
 
 #[test]
 fn every_named_case_has_the_answer_that_it_must_have() {
@@ -49,7 +50,7 @@ fn a_damaged_line_is_told() {
     }
 }
 
-/// What 01 tells by number stands in the list by name.
+/// What 01 and 02 tell by number stands in the list by name.
 #[test]
 fn the_named_cases_hold_every_refusal_and_all_worked_examples() {
     let titles: Vec<String> = named().into_iter().map(|one| one.title).collect();
@@ -58,13 +59,13 @@ fn the_named_cases_hold_every_refusal_and_all_worked_examples() {
         assert!(titles.iter().any(|title| title.starts_with(&start)), "{start}");
     }
     // 25 and 36 are points that no input can show; 36 has a case all the same
-    for reading in (1..=67).filter(|n| *n != 25) {
+    for reading in (1..=67).filter(|n| *n != 25).chain(145..=148) {
         let start = format!("reading {reading}:");
         assert!(titles.iter().any(|title| title.starts_with(&start)), "{start}");
     }
     let refusals: Vec<u32> =
         named().iter().filter_map(|one| answer(&one.case).refusal()).map(|r| r.number).collect();
-    for number in 1..=20 {
+    for number in 1..=LAST_REFUSAL {
         assert!(refusals.contains(&number), "refusal {number}");
     }
 }

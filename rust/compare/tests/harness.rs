@@ -44,6 +44,9 @@ impl Operations for Altered {
     fn find_name(&self, records: &[u8], pool: &[u8], name: &[u8]) -> Found {
         (self.found)(ByJudge.find_name(records, pool, name))
     }
+    fn find_folded(&self, records: &[u8], pool: &[u8], name: &[u8]) -> Found {
+        (self.found)(ByJudge.find_folded(records, pool, name))
+    }
     fn find_id(&self, records: &[u8], pool: &[u8], id: i32) -> Found {
         (self.found)(ByJudge.find_id(records, pool, id))
     }

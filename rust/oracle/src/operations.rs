@@ -14,7 +14,7 @@ use crate::fields::{Unfit, bytes, fields, ids, nodes, nodes_of};
 use crate::request::Request;
 use crate::spec::beside::id_reassigner::ReassignFieldIds;
 use crate::spec::beside::index::index_parents;
-use crate::spec::{Schema, Type, prune_columns};
+use crate::spec::{NestedFieldRef, Schema, Type, prune_columns};
 use crate::table::Table;
 use crate::verdict::Verdict;
 
@@ -113,7 +113,8 @@ pub fn verdict(case: &Case) -> Verdict {
         Ask::Update { .. } => update(case),
         Ask::Prune { .. } => prune(case),
         Ask::Renumber { .. } => renumber(case),
-        Ask::Name(name) => find_name(case, name),
+        Ask::Name(name) => find_name(case, name, EXACT),
+        Ask::Folded(name) => find_name(case, name, FOLDED),
         Ask::Id(id) => find_id(case, *id),
         Ask::Parent(id) => find_parent(case, *id),
         Ask::List => list(case),
@@ -127,9 +128,8 @@ pub fn operate(case: &Case) -> bool {
         Ask::Update { .. } => committed(case).is_ok(),
         Ask::Prune { .. } => pruned(case).is_ok(),
         Ask::Renumber { .. } => renumbered(case).is_ok(),
-        Ask::Name(name) => build(case, &[]).is_ok_and(|schema| {
-            str::from_utf8(name).is_ok_and(|n| schema.field_by_name(n).is_some())
-        }),
+        Ask::Name(name) => id_of(case, name, EXACT).is_ok_and(|id| id.is_some()),
+        Ask::Folded(name) => id_of(case, name, FOLDED).is_ok_and(|id| id.is_some()),
         Ask::Id(id) => build(case, &[]).is_ok_and(|schema| schema.field_by_id(*id).is_some()),
         Ask::Parent(id) => build(case, &[]).is_ok_and(|schema| parent_of(&schema, *id).is_some()),
         Ask::List => build(case, &[]).is_ok(),
@@ -312,10 +312,19 @@ fn found(case: &Case, id: Option<i32>) -> Answer {
     }
 }
 
-fn find_name(case: &Case, name: &[u8]) -> Stop<Answer> {
+/// The crate's two look-ups by name.
+type ByName = for<'a> fn(&'a Schema, &str) -> Option<&'a NestedFieldRef>;
+const EXACT: ByName = Schema::field_by_name;
+const FOLDED: ByName = Schema::field_by_name_case_insensitive;
+
+fn id_of(case: &Case, name: &[u8], by: ByName) -> Stop<Option<i32>> {
     let schema = build(case, &[])?;
     let name = str::from_utf8(name).map_err(|_| Verdict::Unfit("a name that is not UTF-8"))?;
-    Ok(found(case, schema.field_by_name(name).map(|field| field.id)))
+    Ok(by(&schema, name).map(|field| field.id))
+}
+
+fn find_name(case: &Case, name: &[u8], by: ByName) -> Stop<Answer> {
+    Ok(found(case, id_of(case, name, by)?))
 }
 
 fn find_id(case: &Case, id: i32) -> Stop<Answer> {

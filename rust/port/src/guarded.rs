@@ -127,6 +127,10 @@ impl<O: Operations> Operations for Guarded<O> {
         self.fenced(&[records, pool, name], &mut [], |l, _| self.by.find_name(l[0], l[1], l[2]))
     }
 
+    fn find_folded(&self, records: &[u8], pool: &[u8], name: &[u8]) -> Found {
+        self.fenced(&[records, pool, name], &mut [], |l, _| self.by.find_folded(l[0], l[1], l[2]))
+    }
+
     fn find_id(&self, records: &[u8], pool: &[u8], id: i32) -> Found {
         self.fenced(&[records, pool], &mut [], |l, _| self.by.find_id(l[0], l[1], id))
     }

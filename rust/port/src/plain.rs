@@ -64,6 +64,10 @@ impl Operations for Port {
         found(c::find_name(records, pool, name))
     }
 
+    fn find_folded(&self, records: &[u8], pool: &[u8], name: &[u8]) -> Found {
+        found(c::find_folded(records, pool, name))
+    }
+
     fn find_id(&self, records: &[u8], pool: &[u8], id: i32) -> Found {
         found(c::find_id(records, pool, id))
     }

@@ -4,8 +4,8 @@ use std::sync::atomic::{AtomicUsize, Ordering};
 
 use braidhurdle::c;
 use cases::{
-    Ask, ByJudge, Case, Generator, Sizes, answer, ask_of, lists, outcome, packed, prim, prune_by,
-    renumber_by, strukt, the_tree, update_of,
+    Ask, ByJudge, Case, Generator, Sizes, answer, ask_of, list_of, lists, outcome, packed, prim,
+    prune_by, renumber_by, strukt, the_tree, update_of,
 };
 use port::{Guarded, absent, beside_paper};
 
@@ -33,6 +33,7 @@ fn asked_of_t() -> Vec<Case> {
         prune_by(base(), &[2, 4], true),
         renumber_by(base(), &[4, 10], 1),
         ask_of(base(), Ask::Name(b"visits.day".to_vec())),
+        ask_of(base(), Ask::Folded(b"Visits.DAY".to_vec())),
         ask_of(base(), Ask::Id(7)),
         ask_of(base(), Ask::Parent(7)),
     ]
@@ -42,6 +43,23 @@ fn asked_of_t() -> Vec<Case> {
 fn same_on(case: &Case, what: &str) {
     let word = case.ask.word();
     assert_eq!(beside_paper(case, &Guarded::port()), Ok(true), "{word}: {what}\n{case:?}");
+}
+
+/// Where case is forgotten, and a byte can make two columns match: by full names and by short ones.
+fn nearly_ambiguous() -> Vec<Case> {
+    let members = || vec![prim(3, "Za"), prim(4, "ZB")];
+    let by_full = packed(&[strukt(1, "s", members())]);
+    let by_short = packed(&[list_of(1, "s", strukt(2, "element", members()))]);
+    [by_full, by_short].map(|base| ask_of(base, Ask::Folded(b"S.zb".to_vec()))).into()
+}
+
+#[test]
+fn one_byte_makes_two_columns_match() {
+    for mut case in nearly_ambiguous() {
+        let at = case.pool.iter().position(|byte| *byte == b'a').expect("the name Za");
+        case.pool[at] = b'b';
+        assert_eq!(answer(&case).refusal().map(|refusal| refusal.number), Some(21));
+    }
 }
 
 /// Each byte of each list through all values, and each list cut after each byte.
@@ -64,12 +82,12 @@ fn damaged_everywhere(case: &Case) {
 }
 
 #[test]
-fn t_damaged_in_every_byte_gets_the_texts_answer_from_every_entry() {
+fn trees_damaged_in_every_byte_get_the_texts_answer_from_every_entry() {
     if let Some(why) = absent() {
         println!("T was not put to the port: {why}");
         return;
     }
-    let cases = asked_of_t();
+    let cases = [asked_of_t(), nearly_ambiguous()].concat();
     let next = AtomicUsize::new(0);
     let threads = std::thread::available_parallelism().map_or(1, usize::from);
     std::thread::scope(|scope| {

@@ -1,6 +1,7 @@
 //! The cases that stand in the recorded list by name, each with the answer that it must have.
 
 mod faults;
+mod folded;
 mod found;
 mod limits;
 mod readings;
@@ -65,8 +66,8 @@ impl Expected {
     }
 }
 
-/// Every named case: the worked tree, the readings, the limits, faults two at a time, and
-/// what iceberg's own code decided.
+/// Every named case: the worked tree, the readings, the limits, faults two at a time, what
+/// iceberg's own code decided, and the look-up that forgets case.
 pub fn named() -> Vec<Named> {
     let mut all = Cases(vec![]);
     worked::put(&mut all);
@@ -74,6 +75,7 @@ pub fn named() -> Vec<Named> {
     limits::put(&mut all);
     faults::put(&mut all);
     found::put(&mut all);
+    folded::put(&mut all);
     all.0
 }
 
@@ -145,6 +147,10 @@ fn renumber(base: &[Node], identifiers: &[i32], start: i32) -> Case {
 
 fn name(base: &[Node], name: &str) -> Case {
     ask_of(packed(base), Ask::Name(name.as_bytes().to_vec()))
+}
+
+fn folding(base: &[Node], name: &str) -> Case {
+    ask_of(packed(base), Ask::Folded(name.as_bytes().to_vec()))
 }
 
 fn id(base: &[Node], id: i32) -> Case {
