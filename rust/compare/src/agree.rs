@@ -1,8 +1,10 @@
 //! Where the two judges have common ground, and whether they agree there.
 
+use std::collections::BTreeSet;
+
 use cases::{Answer, Ask, Case};
 use judge::{
-    ENTRY_BYTES, ID_BYTES, PRIMITIVE, RECORD_BYTES, REQUIRED, Refusal, Row, STRUCT, Unwrap,
+    ENTRY_BYTES, ID_BYTES, Names, PRIMITIVE, RECORD_BYTES, REQUIRED, Refusal, Row, STRUCT, Unwrap,
 };
 use oracle::Verdict;
 
@@ -30,12 +32,14 @@ const NOT_UTF8: &str = "names that are not UTF-8";
 const NOTHING_AT_ROOT: &str = "a panic: nothing yielded at the root";
 const VALUE_YIELDS_NOTHING: &str =
     "a panic: a chosen map value of struct kind that yields nothing, not full";
+const ONLY_LETTERS: &str = "only 26 letters fold";
+const AMBIGUOUS: &str = "ambiguity is refused";
 const HANDED_OUT_AGAIN: &str = "An identifier's id handed out again";
 const BYTES: &str = "1 to 6 and 10 speak of bytes that the crate never sees";
 const STRICTER: &str = "The builder's rule for identifiers is stricter than 9";
 
 /// Every agreement that is none of the same answer: all that a run may meet.
-pub const LISTED: [Agreement; 10] = [
+pub const LISTED: [Agreement; 12] = [
     Fact,
     Departure(ELEMENT_KEY_VALUE),
     Departure(PAST_LARGEST),
@@ -43,6 +47,8 @@ pub const LISTED: [Agreement; 10] = [
     Departure(NOT_UTF8),
     Departure(NOTHING_AT_ROOT),
     Departure(VALUE_YIELDS_NOTHING),
+    Departure(ONLY_LETTERS),
+    Departure(AMBIGUOUS),
     Departure(HANDED_OUT_AGAIN),
     Outside(BYTES),
     Outside(STRICTER),
@@ -120,12 +126,61 @@ pub fn agreement(case: &Case, paper: &Answer, said: &Verdict) -> Agreement {
     match said {
         Verdict::Unfit("a name that is not UTF-8") => Departure(NOT_UTF8),
         Verdict::Unfit(_) => Differ,
-        Verdict::Answer(answer) if answer == paper => Same,
-        Verdict::Answer(_) => Differ,
+        Verdict::Answer(answer) => answered(case, paper, answer),
         Verdict::Refused { number, base: true, .. } => base_refused(case, paper, *number),
         Verdict::Refused { number, place, .. } => refused(case, paper, *number, *place),
         Verdict::Panicked { place, text } => panicked(case, paper, *place, text),
     }
+}
+
+fn answered(case: &Case, paper: &Answer, said: &Answer) -> Agreement {
+    match &case.ask {
+        Ask::Folded(name) => forgotten_case(case, name, paper, said),
+        _ if said == paper => Same,
+        _ => Differ,
+    }
+}
+
+/// The crate puts every key of its names into one map, in lower case. Of keys that meet there the
+/// one that its hash map had last stays, so where they are of two columns only this can be asked:
+/// that it answers one of them. Which departure it is goes by the tree and the name alone.
+fn forgotten_case(case: &Case, name: &[u8], paper: &Answer, said: &Answer) -> Agreement {
+    let keys = keys(case);
+    let lower = |name: &[u8]| str::from_utf8(name).expect("the crate took it").to_lowercase();
+    let asked = lower(name);
+    let meet = |alike: &dyn Fn(&[u8]) -> bool| -> BTreeSet<i32> {
+        keys.iter().filter(|(key, _)| alike(key)).map(|(_, id)| *id).collect()
+    };
+    let by_crate = meet(&|key| lower(key) == asked);
+    let by_letters = meet(&|key| key.eq_ignore_ascii_case(name));
+    let fits = |answer: &Answer, ids: &BTreeSet<i32>| match answer {
+        Answer::Found { id, .. } => ids.contains(id),
+        Answer::Nothing => ids.is_empty(),
+        Answer::Refused(refusal) => refusal.number == 21 && !ids.is_empty(),
+        _ => false,
+    };
+    let refused = paper.refusal().is_some();
+    match fits(said, &by_crate) && fits(paper, &by_letters) {
+        false => Differ,
+        true if by_crate != by_letters => Departure(ONLY_LETTERS),
+        true if refused || by_letters.len() > 1 => Departure(AMBIGUOUS),
+        true if said == paper => Same,
+        true => Differ,
+    }
+}
+
+/// The crate's map from names to ids: every full name, and every short name that is no full name,
+/// with the first entered of those that have it. A key may stand here twice.
+fn keys(case: &Case) -> Vec<(Vec<u8>, i32)> {
+    let tree = judge::read_tree(&case.records, &case.pool, judge::BASE).expect("the crate took it");
+    let names = Names::of(&tree);
+    let slots = 0..tree.rows.len();
+    let called = slots.flat_map(|slot| [tree.full_name(slot), tree.short_name(slot)]);
+    let entry = |name: Vec<u8>| {
+        let slot = names.find(&name).expect("a column has it");
+        (name, tree.rows[slot].id)
+    };
+    called.map(entry).collect()
 }
 
 fn base_refused(case: &Case, paper: &Answer, number: u32) -> Agreement {

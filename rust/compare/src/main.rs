@@ -6,11 +6,11 @@ use cases::{Generator, Sizes};
 use compare::{Run, iceberg, recorded_list, replay};
 
 const USAGE: &str = "\
-compare run [SEED [COUNT [FROM]]]   random cases; COUNT is 70000 unless given, SEED 1, FROM 0
+compare run [SEED [COUNT [FROM]]]   random cases; COUNT is 80000 unless given, SEED 1, FROM 0
 compare record                      writes the recorded list to standard output
 compare replay FILE                 puts the lines of a file to the judges and the port";
 
-const COUNT: u64 = 70_000;
+const COUNT: u64 = 80_000;
 
 fn main() -> ExitCode {
     let arguments: Vec<String> = std::env::args().skip(1).collect();

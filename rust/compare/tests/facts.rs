@@ -154,3 +154,48 @@ fn names_that_are_not_utf8_have_no_counterpart() {
     case.pool[0] = 0xFF;
     assert_eq!(iceberg.verdict(&case), Verdict::Unfit("a name that is not UTF-8"));
 }
+
+/// What the crate finds where case is forgotten.
+fn folded(iceberg: Iceberg, base: &[Node], name: &str) -> Option<i32> {
+    match iceberg.verdict(&case(base, Ask::Folded(name.into()))) {
+        Verdict::Answer(Answer::Found { id, .. }) => Some(id),
+        Verdict::Answer(Answer::Nothing) => None,
+        other => panic!("{other:?}"),
+    }
+}
+
+#[test]
+fn the_crate_folds_letters_of_all_languages() {
+    let Some(iceberg) = iceberg() else { return };
+    for (has, asked) in [("\u{c4}", "\u{e4}"), ("\u{e4}", "\u{c4}"), ("\u{212a}", "k")] {
+        let base = [prim(1, has)];
+        assert_eq!(folded(iceberg, &base, asked), Some(1), "{asked}");
+        assert_eq!(answer(&case(&base, Ask::Folded(asked.into()))), Answer::Nothing, "{asked}");
+    }
+}
+
+/// Each build of a schema has hash maps of its own, so one of two columns comes up as well as the
+/// other: two full names, and a full name beside a short one.
+#[test]
+fn of_two_columns_the_crate_takes_either() {
+    let Some(iceberg) = iceberg() else { return };
+    let roots = [prim(1, "a"), prim(3, "A")];
+    let nested = [list_of(2, "l", strukt(4, "element", vec![prim(1, "a")])), prim(3, "L.a")];
+    for (base, asked) in [(&roots[..], "a"), (&nested[..], "l.a")] {
+        for id in [1, 3] {
+            let taken = (0..1_000).any(|_| folded(iceberg, base, asked) == Some(id));
+            assert!(taken, "{id} of {asked}");
+        }
+    }
+}
+
+/// Only the first entered of equal short names is in the crate's map.
+#[test]
+fn of_equal_short_names_the_crate_takes_the_first_entered() {
+    let Some(iceberg) = iceberg() else { return };
+    let inner = list_of(5, "1", strukt(3, "element", vec![prim(4, "element")]));
+    let base = [list_of(1, "l", strukt(2, "element", vec![inner]))];
+    for _ in 0..100 {
+        assert_eq!(folded(iceberg, &base, "L.1.Element"), Some(4));
+    }
+}

@@ -9,7 +9,11 @@ use port::{Guarded, beside_paper};
 struct Altered {
     changed: fn(Changed, &mut [u8], &mut [u8]) -> Changed,
     found: fn(Found) -> Found,
+    folded: Folded,
 }
+
+/// A look-up that forgets case.
+type Folded = fn(&[u8], &[u8], &[u8]) -> Found;
 
 impl Operations for Altered {
     fn update(&self, call: &UpdateCall, r: &mut [u8], n: &mut [u8]) -> Changed {
@@ -45,7 +49,7 @@ impl Operations for Altered {
         (self.found)(ByJudge.find_name(records, pool, name))
     }
     fn find_folded(&self, records: &[u8], pool: &[u8], name: &[u8]) -> Found {
-        (self.found)(ByJudge.find_folded(records, pool, name))
+        (self.found)((self.folded)(records, pool, name))
     }
     fn find_id(&self, records: &[u8], pool: &[u8], id: i32) -> Found {
         (self.found)(ByJudge.find_id(records, pool, id))
@@ -56,7 +60,7 @@ impl Operations for Altered {
 }
 
 fn right() -> Altered {
-    Altered { changed: |answer, _, _| answer, found: |answer| answer }
+    Altered { changed: |answer, _, _| answer, found: |answer| answer, folded: judge::find_folded }
 }
 
 /// How many of the named cases a port fails.
@@ -126,6 +130,62 @@ fn a_wrong_slot_is_found() {
 fn a_slot_where_nothing_is_found_is_found() {
     let found = |answer: Found| Found { slot: 1 - answer.found.min(1), ..answer };
     assert!(failures(Altered { found, ..right() }) > 5);
+}
+
+/// Which columns match by full and by short names, in a base that was accepted.
+fn alike(records: &[u8], pool: &[u8], name: &[u8]) -> [Vec<usize>; 2] {
+    let tree = judge::read_tree(records, pool, judge::BASE).expect("it was accepted");
+    judge::alike(&tree, name)
+}
+
+/// The bytes with some of them turned as capital letters are.
+fn turned(bytes: &[u8], turn: fn(u8) -> bool) -> Vec<u8> {
+    bytes.iter().map(|byte| if turn(*byte) { byte | 32 } else { *byte }).collect()
+}
+
+#[test]
+fn wrong_ways_to_forget_case_are_found() {
+    let wrong: [(&str, Folded); 8] = [
+        ("case is kept", judge::find_name),
+        ("the asked name alone folds", |r, p, n| judge::find_name(r, p, &n.to_ascii_lowercase())),
+        ("an exact match wins", |r, p, n| match judge::find_name(r, p, n) {
+            exact if exact.found == 1 => exact,
+            _ => judge::find_folded(r, p, n),
+        }),
+        ("the place is the first one's", |r, p, n| match judge::find_folded(r, p, n) {
+            Found { refusal: 21, list, .. } => {
+                let [full, short] = alike(r, p, n);
+                let place = full.first().or(short.first()).map_or(0, |slot| *slot as u32);
+                Found { refusal: 21, list, place, ..Found::default() }
+            }
+            answer => answer,
+        }),
+        ("of equal short names the first entered is taken", |r, p, n| {
+            match judge::find_folded(r, p, n) {
+                Found { refusal: 21, .. } => judge::find_name(r, p, n),
+                answer => answer,
+            }
+        }),
+        ("full and short names are one level", |r, p, n| match judge::find_folded(r, p, n) {
+            answer @ Found { found: 1, .. } => {
+                let [full, short] = alike(r, p, n);
+                let other = short.iter().find(|slot| !full.is_empty() && !full.contains(slot));
+                other.map_or(answer, |slot| judge::Refusal::new(21, 0, *slot).into())
+            }
+            answer => answer,
+        }),
+        ("bytes beside the letters fold", |r, p, n| {
+            let beside = |byte: u8| byte == b'@' || byte == b'[';
+            judge::find_folded(r, &turned(p, beside), &turned(n, beside))
+        }),
+        ("bytes above 127 fold", |r, p, n| {
+            let above = |byte: u8| byte > 127;
+            judge::find_folded(r, &turned(p, above), &turned(n, above))
+        }),
+    ];
+    for (what, folded) in wrong {
+        assert!(failures(Altered { folded, ..right() }) > 0, "{what}");
+    }
 }
 
 /// A port that is right but on trees of more than eleven records, where a slot is one too high.
