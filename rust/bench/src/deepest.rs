@@ -15,7 +15,7 @@ pub fn deepest() -> impl Iterator<Item = Case> {
     let table = SCHEMAS.iter().flat_map(|(name, _)| rows(name, MOST_RECORDS));
     let nested = [STRUCT, LIST, MAP, KEY].into_iter().flat_map(|kind| asked_of(&nested(kind)));
     let random = Generator { seed: 1, sizes: Sizes::Usual };
-    let random = (0..3_500).map(move |n| random.case(n)).filter(|case| case.ask != Ask::List);
+    let random = (0..4_000).map(move |n| random.case(n)).filter(|case| case.ask != Ask::List);
     table.map(|row| row.case).chain(nested).chain(random)
 }
 
@@ -47,6 +47,9 @@ fn asked_of(base: &[Node]) -> Vec<Case> {
     let level = |slot: &usize| tree.rows[*slot].level;
     let deepest = (0..tree.rows.len()).max_by_key(level).expect("it has records");
     let id = tree.rows[deepest].id;
+    let name = tree.full_name(deepest);
+    // not found, so that every walk goes down to the deepest record
+    let beyond = [&name[..], b"."].concat();
     let ids: Vec<i32> = tree.rows.iter().map(|row| row.id).collect();
     let gone: Vec<String> = (0..64).map(|n| format!("column_{n}")).collect();
     let gone: Vec<&str> = gone.iter().map(String::as_str).collect();
@@ -61,7 +64,10 @@ fn asked_of(base: &[Node]) -> Vec<Case> {
         prune_by(packed(base), &ids, true),
         prune_by(packed(base), &[id], false),
         renumber_by(packed(base), &[id], 1),
-        ask_of(packed(base), Ask::Name(tree.full_name(deepest))),
+        ask_of(packed(base), Ask::Folded(name.to_ascii_uppercase())),
+        ask_of(packed(base), Ask::Folded(beyond.to_ascii_uppercase())),
+        ask_of(packed(base), Ask::Name(name)),
+        ask_of(packed(base), Ask::Name(beyond)),
         ask_of(packed(base), Ask::Id(id)),
         ask_of(packed(base), Ask::Parent(id)),
     ]

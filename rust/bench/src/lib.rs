@@ -2,6 +2,7 @@
 //! built to be bad; the stack that an entry uses.
 
 mod deepest;
+mod folded;
 mod rows;
 mod schemas;
 mod stack;
@@ -9,6 +10,7 @@ mod timing;
 mod worst;
 
 pub use deepest::deepest;
+pub use folded::worst_folded;
 pub use rows::{Row, rows};
 pub use schemas::{SCHEMAS, schema};
 pub use stack::{marks, stack_used};

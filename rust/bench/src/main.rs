@@ -1,9 +1,9 @@
 //! The benchmark: for each schema, size and operation the port's time, the time of iceberg's
 //! own code from the same bytes (build and operation), how many times the port is faster, and
-//! a plain copy of the same bytes. Then the same for trees that are built to be bad, and the
-//! stack that each entry uses.
+//! a plain copy of the same bytes. Then the same for trees that are built to be bad, for the index
+//! and for the look-up that forgets case, and the stack that each entry uses.
 
-use bench::{Room, Row, SCHEMAS, SIZES, deepest, marks, rows, time, worst};
+use bench::{Room, Row, SCHEMAS, SIZES, deepest, marks, rows, time, worst, worst_folded};
 use cases::Operations;
 use oracle::Iceberg;
 use port::Port;
@@ -27,31 +27,27 @@ fn main() {
     }
     for (schema, what) in SCHEMAS {
         println!("\n{schema}: {what}");
-        heading();
-        for size in SIZES {
-            rows(schema, size).iter().for_each(|row| line(size, row, iceberg));
-        }
+        table(SIZES.into_iter().flat_map(|size| rows(schema, size)), iceberg);
     }
     println!("\nbuilt to be bad: look-ups by id, and one update");
-    heading();
-    for row in worst() {
-        line(row.case.records.len() / judge::RECORD_BYTES, &row, iceberg);
-    }
+    table(worst(), iceberg);
+    println!("\nbuilt to be bad for the look-up that forgets case: the exact one, then that");
+    table(worst_folded().into_iter().flatten(), iceberg);
     println!("\nbytes of stack, the most of all cases tried");
     if port::absent().is_none() {
         marks(deepest(), &Port).iter().for_each(|(entry, bytes)| println!("{bytes:>7} {entry}"));
     }
 }
 
-fn heading() {
+fn table(rows: impl IntoIterator<Item = Row>, iceberg: Option<Iceberg>) {
     println!(
         "{:>7} {:45}{:>12}{:>12}{:>9}{:>9}",
         "records", "", "ours", "iceberg", "times", "copy"
     );
-}
-
-fn line(records: usize, row: &Row, iceberg: Option<Iceberg>) {
-    println!("{records:>7} {:45}{}", row.what, figures(row, iceberg));
+    for row in rows {
+        let records = row.case.records.len() / judge::RECORD_BYTES;
+        println!("{records:>7} {:45}{}", row.what, figures(&row, iceberg));
+    }
 }
 
 fn machine() -> String {

@@ -24,18 +24,26 @@ pub fn rows(name: &str, records: usize) -> Vec<Row> {
         .collect();
     let ids: Vec<i32> = primitives.iter().step_by(2).map(|slot| tree.rows[*slot].id).collect();
     let last = records - 1;
-    let row = |what, case| Row { what, case, refusal: 0, crate_too: true };
+    let asked = tree.full_name(last);
+    // no name of a schema has a capital letter
+    let other_case = asked.to_ascii_uppercase();
     vec![
         row("update, 1 deletion and 1 addition", update(&base, &tree, &primitives, 1)),
         row("update, 64 deletions and 64 additions", update(&base, &tree, &primitives, 64)),
         row("prune, half the primitives", prune(&base, &ids)),
         row("renumber", renumber(&base)),
-        row("look-up by name", ask(&base, Ask::Name(tree.full_name(last)))),
+        row("look-up by name", ask(&base, Ask::Name(asked))),
+        row("look-up that forgets case", ask(&base, Ask::Folded(other_case))),
         row("look-up by id", ask(&base, Ask::Id(tree.rows[last].id))),
         row("look-up of the record above", ask(&base, Ask::Parent(deep(&tree)))),
         Row { refusal: 6, crate_too: false, ..row("1 to 6 alone", up_to_6(name, records)) },
         Row { refusal: 11, ..row("1 to 9 and one look-up", up_to_11(&base)) },
     ]
+}
+
+/// A case that is accepted, and that the crate can be asked for.
+pub fn row(what: &'static str, case: Case) -> Row {
+    Row { what, case, refusal: 0, crate_too: true }
 }
 
 /// Is a record a root or a struct's member, so that a deletion takes it out?

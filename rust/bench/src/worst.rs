@@ -6,7 +6,7 @@ use std::collections::HashMap;
 use cases::{Ask, Case, packed, prim, strukt, update_of};
 use judge::{LEVELS, MOST_RECORDS, Node};
 
-use crate::rows::Row;
+use crate::rows::{Row, row};
 use crate::schemas::numbered;
 
 const FACTOR: u32 = 16_777_619;
@@ -96,10 +96,6 @@ pub fn worst() -> Vec<Row> {
         look_up("32 structs, the same 31 leaves", &wide),
         row("the same, 1 deletion and 1 addition", updated),
     ]
-}
-
-fn row(what: &'static str, case: Case) -> Row {
-    Row { what, case, refusal: 0, crate_too: true }
 }
 
 /// A look-up by id: 2 to 8, then hardly more.

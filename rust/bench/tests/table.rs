@@ -1,7 +1,7 @@
 //! The benchmark times what its table says.
 
-use bench::{Room, SCHEMAS, SIZES, rows, schema, worst};
-use cases::{Answer, ByJudge, answer};
+use bench::{Room, SCHEMAS, SIZES, rows, schema, worst, worst_folded};
+use cases::{Answer, Ask, ByJudge, Case, answer};
 use judge::{LEVELS, RECORD_BYTES, Tree};
 
 #[test]
@@ -18,13 +18,43 @@ fn every_schema_has_exactly_its_records() {
 #[test]
 fn every_row_goes_as_far_as_it_says() {
     let table = SCHEMAS.iter().flat_map(|(name, _)| SIZES.map(|size| rows(name, size)));
-    for row in table.flatten().chain(worst()) {
+    let worst = worst().into_iter().chain(worst_folded().into_iter().flatten());
+    for row in table.flatten().chain(worst) {
         let records = row.case.records.len() / RECORD_BYTES;
         let refusal = answer(&row.case).refusal().map_or(0, |r| r.number);
         assert_eq!(refusal, row.refusal, "{records} {}", row.what);
         let called = Room::default().call(&row.case, &ByJudge);
         assert_eq!(called, Some(row.refusal), "{records} {}", row.what);
     }
+}
+
+/// The bytes of the own names that a walk over full or short names compares: where the names above
+/// match and what is asked ends behind the name or goes on with a dot.
+fn compared(tree: &Tree, name: impl Fn(usize) -> Vec<u8>, asked: &[u8]) -> usize {
+    let own = |slot: usize| {
+        let (name, own) = (name(slot), tree.rows[slot].name.len());
+        let above = asked.get(..name.len())?.get(..name.len() - own)?;
+        let fits = asked.get(name.len()).is_none_or(|next| *next == b'.');
+        (fits && above.eq_ignore_ascii_case(&name[..above.len()])).then_some(own)
+    };
+    (0..tree.rows.len()).filter_map(own).sum()
+}
+
+/// docs/PERFORMANCE.md has these numbers.
+#[test]
+fn walks_that_forget_case_compare_nearly_all_bytes() {
+    let bytes = worst_folded().map(|[exact, folded]| {
+        let found = answer(&exact.case);
+        assert_eq!(answer(&folded.case), found, "{}", exact.what);
+        let Case { records, pool, ask: Ask::Folded(asked) } = &folded.case else {
+            panic!("{} asks {:?}", folded.what, folded.case.ask)
+        };
+        let tree = judge::read_tree(records, pool, judge::BASE).expect("it is accepted");
+        let full = compared(&tree, |slot| tree.full_name(slot), asked);
+        let hidden = (0..tree.rows.len()).any(|s| tree.full_name(s).eq_ignore_ascii_case(asked));
+        full + if hidden { 0 } else { compared(&tree, |slot| tree.short_name(slot), asked) }
+    });
+    assert_eq!(bytes, [31_968, 32_768, 65_536, 65_536, 65_280, 32_768]);
 }
 
 #[test]

@@ -1,0 +1,81 @@
+//! Trees that are built to be bad for the look-up that forgets case. It walks over the records, and
+//! compares a record's own name where the names above it match and what is asked ends behind it, or
+//! goes on with a dot. So here names fold alike, or nearly so, and stand before a dot.
+
+use cases::{Ask, ask_of, list_of, packed, prim, strukt};
+use judge::{LEVELS, MOST_RECORDS, Node, Tree};
+
+use crate::rows::{Row, row};
+use crate::schemas::numbered;
+
+/// The n-th of the names of so many letters that differ in case alone: at the front by the bits of
+/// n, then as if by chance, so that no processor foresees it.
+fn cased(n: usize, letters: usize, between: &str) -> String {
+    let chance = (n as u64 + 1).wrapping_mul(0x9E37_79B9_7F4A_7C15);
+    let upper = |at: usize| match at {
+        0..10 => n >> at & 1 == 1,
+        _ => chance.rotate_left(7 * at as u32) >> 40 & 1 == 1,
+    };
+    let letter = |at: usize| if upper(at) { "X" } else { "x" };
+    (0..letters).map(letter).collect::<Vec<&str>>().join(between)
+}
+
+/// Names of 32 bytes that differ before their last one: names are compared from there, then whole.
+fn ending(n: usize) -> String {
+    format!("{}{n:03}x", cased(0, 28, ""))
+}
+
+/// Roots that each fold to a front of the last one's name, up to a dot in it.
+fn fronts() -> Vec<Node> {
+    let front = |n| prim(0, &cased(n, 16, "."));
+    let longest = prim(0, &cased(0, 128, "."));
+    numbered((1..MOST_RECORDS).map(front).chain([longest]).collect())
+}
+
+/// Chains of all levels. Their roots differ in case, the names below not at all, the last ones in
+/// a number.
+fn chains() -> Vec<Node> {
+    let inner = |inside, _| strukt(0, &cased(0, 32, ""), vec![inside]);
+    let chain = |n| {
+        let below = (2..LEVELS).fold(prim(0, &ending(n)), inner);
+        strukt(0, &cased(n, 32, ""), vec![below])
+    };
+    numbered((0..MOST_RECORDS / LEVELS).map(chain).collect())
+}
+
+/// Roots that differ in case alone.
+fn roots(count: usize, bytes: usize) -> Vec<Node> {
+    numbered((0..count).map(|n| prim(0, &cased(n, bytes, ""))).collect())
+}
+
+/// Lists that differ in case, of structs whose members differ in a number.
+fn lists() -> Vec<Node> {
+    let list = |n| {
+        let members = (0..30).map(|m| prim(0, &ending(30 * n + m))).collect();
+        list_of(0, &cased(n, 32, ""), strukt(0, "element", members))
+    };
+    numbered((0..32).map(list).collect())
+}
+
+/// The worst cases that are known: the exact look-up, and the same asked in another case.
+pub fn worst_folded() -> [[Row; 2]; 6] {
+    let full = |tree: &Tree| tree.full_name(tree.rows.len() - 1);
+    let short = |tree: &Tree| tree.short_name(tree.rows.len() - 1);
+    // all is compared, and nothing is found
+    let beyond = |tree: &Tree| [full(tree), b".".to_vec()].concat();
+    [
+        pair("1,024 roots, each a front of the last", &fronts(), full),
+        pair("64 chains of 16 levels", &chains(), full),
+        pair("64 chains of 16 levels, nothing found", &chains(), beyond),
+        pair("1,024 roots, nothing found", &roots(MOST_RECORDS, 32), beyond),
+        pair("128 roots, nothing found", &roots(128, 255), beyond),
+        pair("32 lists, a short name", &lists(), short),
+    ]
+}
+
+fn pair(what: &'static str, base: &[Node], name: impl Fn(&Tree) -> Vec<u8>) -> [Row; 2] {
+    let name = name(&Tree::of(base));
+    let folded = Ask::Folded(name.to_ascii_uppercase());
+    [(what, Ask::Name(name)), ("the same, case forgotten", folded)]
+        .map(|(what, ask)| row(what, ask_of(packed(base), ask)))
+}
