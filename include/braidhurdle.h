@@ -151,9 +151,10 @@ struct braidhurdle_changed braidhurdle_renumber(
 struct braidhurdle_found braidhurdle_find_name(
     const uint8_t *records, size_t records_len, const uint8_t *pool, size_t pool_len, const uint8_t *name, size_t name_len);
 
-/* The same where case is forgotten: A to Z equal a to z, in the tree's names and in the asked one, and no other byte folds. A full
- * name comes before short ones. Refusals 2 to 8; then 21, list 0, where two or more columns match by their full names, or, where
- * none does, by their short names: the place is the second one's slot, in slot order. From version 3 on. */
+/* The same where case is forgotten: A to Z equal a to z, in the tree's names and in the asked one, and no other byte folds.
+ * Refusals 2 to 8; then 21, list 0, where two or more columns match by their full names, or, if none does, by their short names,
+ * whether or not one is spelt as asked: the place is the slot of the second, in slot order. One full name hides any number of
+ * short ones. From version 3 on. */
 struct braidhurdle_found braidhurdle_find_folded(
     const uint8_t *records, size_t records_len, const uint8_t *pool, size_t pool_len, const uint8_t *name, size_t name_len);
 

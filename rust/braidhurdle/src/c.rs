@@ -18,7 +18,7 @@
 #[repr(C)]
 #[derive(Clone, Copy, Debug, Default, PartialEq, Eq, Hash)]
 pub struct Changed {
-    /// 0 where accepted, else 01's number.
+    /// 0 where accepted, else the refusal's number.
     pub refusal: u32,
     /// The list that a refusal speaks of.
     pub list: u32,
@@ -36,7 +36,7 @@ pub struct Changed {
 #[repr(C)]
 #[derive(Clone, Copy, Debug, Default, PartialEq, Eq, Hash)]
 pub struct Found {
-    /// 0 where the tree was accepted, else 01's number.
+    /// 0 where there is an answer, else the refusal's number.
     pub refusal: u32,
     /// The list that a refusal speaks of.
     pub list: u32,
@@ -144,7 +144,8 @@ function! {
     find_name is braidhurdle_find_name(records pool name;;;) -> Found
 }
 function! {
-    /// The same where case is forgotten: A to Z equal a to z. Two columns at one level: refusal 21.
+    /// The column of a full name, or else of a short name, where A to Z equal a to z. Refusal 21
+    /// where two columns match at the same level.
     find_folded is braidhurdle_find_folded(records pool name;;;) -> Found
 }
 function! {

@@ -110,6 +110,18 @@ impl Tree {
         self.lent().column_by_name(name)
     }
 
+    /// The column of a name where case is forgotten, as [`Tree::find_folded`] finds it.
+    ///
+    /// # Errors
+    ///
+    /// Refusals 2 to 8 and 21.
+    pub fn column_by_folded_name(
+        &self,
+        name: impl AsRef<[u8]>,
+    ) -> Result<Option<Column<'_>>, Refusal> {
+        self.lent().column_by_folded_name(name)
+    }
+
     /// The roots with all that is inside them, as [`Tree::build`] takes them.
     ///
     /// # Errors
@@ -163,8 +175,25 @@ impl<'a> TreeRef<'a> {
     ///
     /// Refusals 2 to 8.
     pub fn column_by_name(self, name: impl AsRef<[u8]>) -> Result<Option<Column<'a>>, Refusal> {
-        let found = self.find_name(name)?;
-        Ok(found.and_then(|(_, slot)| Columns::of_accepted(self).nth(slot.0 as usize)))
+        self.find_name(name).map(|found| self.found_column(found))
+    }
+
+    /// The column of a name where case is forgotten.
+    ///
+    /// # Errors
+    ///
+    /// Refusals 2 to 8 and 21.
+    pub fn column_by_folded_name(
+        self,
+        name: impl AsRef<[u8]>,
+    ) -> Result<Option<Column<'a>>, Refusal> {
+        self.find_folded(name).map(|found| self.found_column(found))
+    }
+
+    /// The column that a look-up found, which tested the tree before.
+    fn found_column(self, found: Option<(FieldId, Slot)>) -> Option<Column<'a>> {
+        let (_, slot) = found?;
+        Columns::of_accepted(self).nth(slot.0 as usize)
     }
 
     /// The name at a slot, the very part of the pool that holds it; none where there is none.

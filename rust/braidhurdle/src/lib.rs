@@ -6,7 +6,8 @@
 //! any thread.
 //!
 //! A schema is a [`Tree`]: 24-byte records in preorder, and a pool that holds their names. Document
-//! 01 (`docs/01-scope.md`) has the layout, the rules and the limits.
+//! 01 (`docs/01-scope.md`) has the layout, the rules and the limits; document 02
+//! (`docs/02-change-requests.md`) what was asked for since.
 //!
 //! # Change a schema
 //!
@@ -57,6 +58,8 @@
 //! assert_eq!(codes, [0, 4]);
 //! let day = tree.column_by_name("visit.day")?.ok_or("no such column")?;
 //! assert_eq!((day.id, day.name_str()), (FieldId(2), Some("day")));
+//! // What people type may have another case. What may be either of two columns is refused.
+//! assert_eq!(tree.column_by_folded_name("Visit.DAY")?, Some(day));
 //!
 //! // A name that lies outside its pool is refused: 4, in the base, at slot 0.
 //! tree.pool.clear();

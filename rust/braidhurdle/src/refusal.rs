@@ -4,8 +4,8 @@ use core::fmt;
 
 use crate::c;
 
-/// Why a request is turned down: 01's number, the list it speaks of, and the lowest place in that
-/// list at which the fault stands. Nothing was changed.
+/// Why a request is turned down: a number of 01 or 02, the list it speaks of, and the lowest place
+/// in that list at which the fault stands. Nothing was changed.
 ///
 /// ```
 /// use braidhurdle::{FieldId, RefusalKind, RefusalList, Tree};
@@ -22,7 +22,7 @@ use crate::c;
 /// ```
 #[derive(Clone, Copy, Debug, PartialEq, Eq, PartialOrd, Ord, Hash)]
 pub struct Refusal {
-    /// 01's number: [`RefusalKind`] has them all.
+    /// What it says: [`RefusalKind`] has all numbers.
     pub number: u32,
     /// The list's number: [`RefusalList`] has them all.
     pub list: u32,
@@ -30,7 +30,7 @@ pub struct Refusal {
     pub place: u32,
 }
 
-/// An enum of numbers, each with 01's words.
+/// An enum of numbers, each with the words of the definitions.
 macro_rules! numbered {
     (
         $(#[$doc:meta])*
@@ -47,13 +47,13 @@ macro_rules! numbered {
             /// All of them, by number.
             pub const ALL: &'static [$name] = &[$($name::$variant,)+];
 
-            /// 01's number.
+            /// Its number.
             #[must_use]
             pub fn number(self) -> u32 {
                 self as u32
             }
 
-            /// The one of a number; none where 01 does not have it.
+            /// The one of a number; none where no one has it.
             #[must_use]
             pub fn from_number(number: u32) -> Option<$name> {
                 match number {
@@ -62,7 +62,7 @@ macro_rules! numbered {
                 }
             }
 
-            /// 01's words.
+            /// Its words.
             #[must_use]
             pub fn words(self) -> &'static str {
                 match self {
@@ -115,6 +115,7 @@ numbered! {
         RebuiltPastLimit = 19: "the rebuilt tree passes a limit on trees (records, levels or name \
             sum)",
         ListOrMapChosen = 20: "pruning meets a list or map chosen directly, not in full mode",
+        Ambiguous = 21: "two columns match at the same level where case is forgotten",
     }
 }
 
@@ -131,28 +132,28 @@ numbered! {
 }
 
 impl Refusal {
-    /// What the number says; none where 01 does not have it.
+    /// What the number says; none where no refusal has it.
     #[must_use]
     pub fn kind(self) -> Option<RefusalKind> {
         RefusalKind::from_number(self.number)
     }
 
-    /// The list; none where 01 does not have it.
+    /// The list; none where no list has its number.
     #[must_use]
     pub fn in_list(self) -> Option<RefusalList> {
         RefusalList::from_number(self.list)
     }
 
-    /// What the number says, in 01's words.
+    /// What the number says, in words.
     #[must_use]
     pub fn meaning(self) -> &'static str {
-        self.kind().map_or("a number that 01 does not have", RefusalKind::words)
+        self.kind().map_or("a number that no refusal has", RefusalKind::words)
     }
 
-    /// The list's name, in 01's words.
+    /// The list's name.
     #[must_use]
     pub fn list_name(self) -> &'static str {
-        self.in_list().map_or("a list that 01 does not have", RefusalList::words)
+        self.in_list().map_or("a number that no list has", RefusalList::words)
     }
 
     fn none_or(number: u32, list: u32, place: u32) -> Result<(), Refusal> {
@@ -183,7 +184,7 @@ impl c::Changed {
 }
 
 impl c::Found {
-    /// The numbers of a look-up in an accepted tree.
+    /// The numbers of a look-up that is not refused.
     ///
     /// # Errors
     ///

@@ -114,6 +114,34 @@ impl Tree {
         self.lent().find_name(name)
     }
 
+    /// The column of a full name, or else of a short name, where case is forgotten: for names that
+    /// people type. A to Z equal a to z, and no other byte folds. Where two or more columns match
+    /// by their full names, or, if none does, by their short names, it is refused, whether or not
+    /// one is spelt as asked: the place is the slot of the second.
+    ///
+    /// ```
+    /// use braidhurdle::{Field, FieldId, RefusalKind, Slot, Tree};
+    ///
+    /// let cost = Field::primitive("cost", 3).id(FieldId(2));
+    /// let node = Field::structure("node", [cost]).id(FieldId(1));
+    /// let tree = Tree::build(&[node.clone()])?;
+    /// assert_eq!(tree.find_folded("Node.Cost")?, Some((FieldId(2), Slot(1))));
+    ///
+    /// // Which of the two is meant nobody can say; exactly spelt they are told apart.
+    /// let tree = Tree::build(&[node, Field::primitive("Node", 9).id(FieldId(3))])?;
+    /// let refusal = tree.find_folded("node").unwrap_err();
+    /// assert_eq!((refusal.kind(), refusal.place), (Some(RefusalKind::Ambiguous), 2));
+    /// assert_eq!(tree.find_name("Node")?, Some((FieldId(3), Slot(2))));
+    /// # Ok::<(), Box<dyn std::error::Error>>(())
+    /// ```
+    ///
+    /// # Errors
+    ///
+    /// Refusals 2 to 8 and 21.
+    pub fn find_folded(&self, name: impl AsRef<[u8]>) -> Result<Option<(FieldId, Slot)>, Refusal> {
+        self.lent().find_folded(name)
+    }
+
     /// The slot of an id.
     ///
     /// # Errors
@@ -234,6 +262,15 @@ impl<'a> TreeRef<'a> {
     /// Refusals 2 to 8.
     pub fn find_name(self, name: impl AsRef<[u8]>) -> Result<Option<(FieldId, Slot)>, Refusal> {
         found(c::find_name(self.records, self.pool, name.as_ref()))
+    }
+
+    /// The column of a full name, or else of a short name, where A to Z equal a to z.
+    ///
+    /// # Errors
+    ///
+    /// Refusals 2 to 8, and 21 where two columns match at the same level.
+    pub fn find_folded(self, name: impl AsRef<[u8]>) -> Result<Option<(FieldId, Slot)>, Refusal> {
+        found(c::find_folded(self.records, self.pool, name.as_ref()))
     }
 
     /// The slot of an id.

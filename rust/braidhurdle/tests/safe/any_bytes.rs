@@ -38,7 +38,13 @@ fn no_bytes_are_without_an_answer() {
             used(tree.lent());
             accepted += 1;
         }
-        let _ = tree.find_name(random.noise(3));
+        let name = random.noise(3);
+        let exact = tree.find_name(&name);
+        // what is refused of the tree is refused in either way
+        match tree.find_folded(&name) {
+            Err(refusal) if refusal.number != 21 => assert_eq!(exact, Err(refusal)),
+            _ => assert!(exact.is_ok()),
+        }
         let _ = tree.find_parent(id);
         let mode = if random.chance(1, 2) { Mode::Plain } else { Mode::Full };
         let _ = tree.lent().prune_in(&[id], mode, &mut room).map(used);
@@ -64,8 +70,10 @@ fn lists_that_are_only_read_may_share_bytes() {
     for _ in 0..2_000 {
         let bytes = any_tree(&mut random).records;
         let copy = |bytes: &[u8]| bytes.to_vec();
-        let apart = c::find_name(&copy(&bytes), &copy(&bytes), &copy(&bytes));
-        assert_eq!(c::find_name(&bytes, &bytes, &bytes), apart);
+        for find in [c::find_name, c::find_folded] {
+            let apart = find(&copy(&bytes), &copy(&bytes), &copy(&bytes));
+            assert_eq!(find(&bytes, &bytes, &bytes), apart);
+        }
     }
     let pool = t().pool;
     let request = RequestRef { pool: &pool, last_id: FieldId(10), ..RequestRef::default() };

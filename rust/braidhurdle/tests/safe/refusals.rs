@@ -5,6 +5,7 @@ use braidhurdle::layout::{MOST_IDENTIFIERS, MOST_SELECTED};
 use braidhurdle::{Field, FieldId, Mode, Refusal, RefusalKind, RefusalList, Request, Tree, c};
 
 const SCOPE: &str = include_str!("../../../../docs/01-scope.md");
+const REQUESTS: &str = include_str!("../../../../docs/02-change-requests.md");
 
 fn refused(number: u32, list: u32, place: u32) -> Refusal {
     Refusal { number, list, place }
@@ -24,11 +25,19 @@ fn floor() -> Field {
 }
 
 #[test]
-fn every_number_has_the_words_of_01s_table() {
-    for kind in RefusalKind::ALL {
+fn every_number_up_to_20_has_the_words_of_01s_table() {
+    for kind in RefusalKind::ALL.iter().filter(|kind| kind.number() <= 20) {
         let number = kind.number();
         let meaning = refused(number, 0, 0).meaning();
         assert!(SCOPE.contains(&format!("| {number} | {meaning}")), "{number}: {meaning}");
+    }
+}
+
+#[test]
+fn every_number_from_21_on_is_one_of_02() {
+    for kind in RefusalKind::ALL.iter().filter(|kind| kind.number() > 20) {
+        let said = format!("{} {}", kind.number(), format!("{kind:?}").to_lowercase());
+        assert!(REQUESTS.contains(&said), "{said}");
     }
 }
 
@@ -54,13 +63,18 @@ fn a_refusal_says_number_list_and_place_in_words() {
         refused(8, 4, 6).to_string(),
         "refused 8 at 4 6: a full name equals an earlier one (rebuilt tree, place 6)"
     );
+    assert_eq!(
+        refused(21, 0, 1).to_string(),
+        "refused 21 at 0 1: two columns match at the same level where case is forgotten (base, \
+         place 1)"
+    );
 }
 
 #[test]
-fn numbers_that_01_does_not_have_are_shown_all_the_same() {
+fn numbers_that_are_in_no_table_are_shown_all_the_same() {
     assert_eq!(
         refused(0, 99, u32::MAX).to_string(),
-        "refused 0 at 99 4294967295: a number that 01 does not have (a list that 01 does not have, \
+        "refused 0 at 99 4294967295: a number that no refusal has (a number that no list has, \
          place 4294967295)"
     );
     assert_eq!((refused(0, 99, 0).kind(), refused(0, 99, 0).in_list()), (None, None));
@@ -155,6 +169,14 @@ fn refusal_20_is_met_by_a_chosen_map() {
     let parts = [FieldId(3)];
     assert_eq!(t().prune(&parts, Mode::Plain), Err(refused(20, 0, 6)));
     assert!(t().prune(&parts, Mode::Full).is_ok());
+}
+
+#[test]
+fn refusal_21_is_met_by_two_columns_that_differ_in_case_alone() {
+    let [node, visits, parts] = roots();
+    let tree = Tree::build(&[node, visits, parts, primitive(11, "NODE")]).expect("it fits");
+    assert_eq!(tree.find_folded("Node"), Err(refused(21, 0, 10)));
+    assert!(tree.find_folded("Node.Cost").is_ok());
 }
 
 #[test]
