@@ -62,6 +62,8 @@ pub enum Of {
     },
     Check,
     Find(Named),
+    /// By a name of which case is forgotten.
+    FindFolded(Vec<u8>),
     Parent(FieldId),
     Prune {
         keep: Vec<Named>,
@@ -104,10 +106,11 @@ pub fn given() -> Result<Ask, clap::Error> {
     let asked = match name {
         "list" => Of::List { plain: of.get_flag("plain") },
         "check" => Of::Check,
-        "find" => Of::Find(match of.get_one("id") {
-            Some(id) => Named::Id(*id),
-            None => Named::Path(one(of, "NAME")),
-        }),
+        "find" => match of.get_one("id") {
+            Some(id) => Of::Find(Named::Id(*id)),
+            None if of.get_flag("ignore-case") => Of::FindFolded(one(of, "NAME")),
+            None => Of::Find(Named::Path(one(of, "NAME"))),
+        },
         "parent" => Of::Parent(one(of, "ID")),
         "prune" => Of::Prune { keep: named(of, "keep"), full: of.get_flag("full"), out: out(of) },
         "renumber" => Of::Renumber {
@@ -187,11 +190,19 @@ fn find() -> Command {
                 .help("A full name, or else a short one")
                 .required_unless_present("id"),
         )
+        .arg(
+            flag("ignore-case", "Forgets case: A to Z equal a to z")
+                .short('i')
+                .conflicts_with("id"),
+        )
         .arg(an_id(option("id", "ID", "Finds the column of this id")).conflicts_with("NAME"))
         .after_help(
             "Prints id, slot and full name. Status 1 where nothing is found. A name that begins\n\
              with - stands after --.\n\n\
-             Example:\n  braid find examples/T visits.day\n  braid find examples/T --id 7",
+             With -i these 26 letters fold and no others: Ä is not ä. Where two columns match,\n\
+             both by their full names or both by their short ones, it is refused (21).\n\n\
+             Example:\n  braid find examples/T visits.day\n  \
+             braid find examples/T -i Node.Cost\n  braid find examples/T --id 7",
         )
 }
 

@@ -7,7 +7,7 @@ use std::path::{Path, PathBuf};
 use braidhurdle::files::{ENDINGS, FileFault, Over, Stored, Why, with_ending};
 use braidhurdle::layout::RECORD_BYTES;
 use braidhurdle::names::{quoted, shown};
-use braidhurdle::{Columns, Field, FieldId, Mode, Overlong, Request, Slot, Tree};
+use braidhurdle::{Columns, Field, FieldId, Mode, Overlong, Refusal, Request, Slot, Tree};
 
 use crate::arguments::{Added, Addition, Ask, Named, Of, Out};
 use crate::changes::{self, Changes};
@@ -38,6 +38,10 @@ pub fn answer(ask: Ask) -> Result<Vec<u8>, Fault> {
         Of::Check => check(&given, kept),
         Of::Find(Named::Path(name)) => found(&given, by_name(&given, &name)?),
         Of::Find(Named::Id(id)) => found(&given, by_id(&given, id)?),
+        Of::FindFolded(name) => {
+            let given = Given { ask: Asked::Folded { name: &name }, ..given };
+            found(&given, slot_of(&given, &name, tree.find_folded(&name))?)
+        }
         Of::Parent(id) => parent(&given, id),
         Of::Prune { keep, full, out } => prune(given, &keep, full, &out),
         Of::Renumber { from, identifiers, out } => renumber(given, from, &identifiers, &out),
@@ -97,7 +101,16 @@ fn check(given: &Given, kept: Option<FieldId>) -> Result<Vec<u8>, Fault> {
 }
 
 fn by_name(given: &Given, name: &[u8]) -> Result<Slot, Fault> {
-    match given.tree.find_name(name).map_err(|why| given.refused(why))? {
+    slot_of(given, name, given.tree.find_name(name))
+}
+
+/// What the look-up of a name found, or else which may have been meant.
+fn slot_of(
+    given: &Given,
+    name: &[u8],
+    found: Result<Option<(FieldId, Slot)>, Refusal>,
+) -> Result<Slot, Fault> {
+    match found.map_err(|why| given.refused(why))? {
         Some((_, slot)) => Ok(slot),
         None => {
             let near = near::question(given.tree, name);

@@ -23,7 +23,7 @@ pub fn passed(given: &Given) -> Vec<String> {
     };
     limit("identifiers", given.identifiers.len(), MOST_IDENTIFIERS);
     match &given.ask {
-        Asked::LookUp | Asked::Renumber { .. } => {}
+        Asked::LookUp | Asked::Folded { .. } | Asked::Renumber { .. } => {}
         Asked::Prune { chosen } => limit("chosen ids", *chosen, MOST_SELECTED),
         Asked::Update { asked, request } => {
             limit("deletions", asked.dropped.len(), MOST_ENTRIES);

@@ -1,8 +1,10 @@
-//! Any list of records read for words, a refused one too: what stands below what, and full names.
+//! Any list of records read for words, a refused one too: what stands below what, and the names.
+
+use std::iter::successors;
 
 use braidhurdle::layout::{RECORD_BYTES, Record};
 use braidhurdle::names::shown;
-use braidhurdle::{FieldId, Tree};
+use braidhurdle::{FieldId, Kind, Tree};
 
 /// A record, and where it stands.
 pub struct Row<'a> {
@@ -55,11 +57,47 @@ impl<'a> Outline<'a> {
 
     /// The names from the root down, joined by dots; a name that lies outside its pool is a dash.
     pub fn full_name(&self, slot: usize) -> Vec<u8> {
-        let row = &self.0[slot];
-        let name = row.name.unwrap_or(b"-");
-        match row.above {
-            Some(above) => [&self.full_name(above), &b"."[..], name].concat(),
-            None => name.to_vec(),
+        self.joined(slot, |_| true)
+    }
+
+    /// The same without those above it that are a struct, and a list's element or a map's value.
+    fn short_name(&self, slot: usize) -> Vec<u8> {
+        let is_held = |slot: usize| match self.kind_above(slot) {
+            Some(Kind::List) => true,
+            Some(Kind::Map) => self.0[slot].nth == 1,
+            _ => false,
+        };
+        self.joined(slot, |above| self.kind(above) != Some(Kind::Struct) || !is_held(above))
+    }
+
+    /// The names of those above that are said, and its own.
+    fn joined(&self, slot: usize, said: impl Fn(usize) -> bool) -> Vec<u8> {
+        let above = successors(self.0[slot].above, |above| self.0[*above].above);
+        let slots = [slot].into_iter().chain(above.filter(|above| said(*above)));
+        let mut names: Vec<&[u8]> = slots.map(|slot| self.0[slot].name.unwrap_or(b"-")).collect();
+        names.reverse();
+        names.join(&b'.')
+    }
+
+    fn kind(&self, slot: usize) -> Option<Kind> {
+        Kind::from_number(self.0[slot].record.kind)
+    }
+
+    /// The kind of the record above.
+    pub fn kind_above(&self, slot: usize) -> Option<Kind> {
+        self.kind(self.0[slot].above?)
+    }
+
+    /// The records whose full name this is but for case, or, if there is none, whose short name it
+    /// is; and the word for which.
+    pub fn alike(&self, name: &[u8]) -> (&'static str, Vec<usize>) {
+        let alike = |called: fn(&Self, usize) -> Vec<u8>| {
+            let same = |slot: &usize| called(self, *slot).eq_ignore_ascii_case(name);
+            (0..self.0.len()).filter(same).collect::<Vec<_>>()
+        };
+        match alike(Self::full_name) {
+            full if full.is_empty() => ("short", alike(Self::short_name)),
+            full => ("full", full),
         }
     }
 

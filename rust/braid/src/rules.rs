@@ -40,9 +40,7 @@ fn children(kind: Kind, children: u16) -> String {
 
 /// What an element, key or value must be named.
 pub fn label(outline: &Outline, slot: usize) -> String {
-    let row = &outline.0[slot];
-    let above = row.above.map(|above| outline.0[above].record.kind);
-    let (which, name) = match (above.and_then(Kind::from_number), row.nth) {
+    let (which, name) = match (outline.kind_above(slot), outline.0[slot].nth) {
         (Some(Kind::List), _) => ("a list's child", "element"),
         (_, 0) => ("a map's first child", "key"),
         _ => ("a map's second child", "value"),

@@ -25,6 +25,7 @@ pub struct Given<'a> {
 /// What was asked of the tree.
 pub enum Asked<'a> {
     LookUp,
+    Folded { name: &'a [u8] },
     Prune { chosen: usize },
     Renumber { from: FieldId },
     Update { asked: changes::Asked<'a>, request: &'a Request },
@@ -86,14 +87,26 @@ impl<'a> Given<'a> {
             }
             5 => format!(": it stands at level {} of at most {MOST_LEVELS}", row.level),
             6 => format!(": {}", rules::label(&outline, place)),
-            7 | 8 => match outline.equal(number, place) {
-                Some(earlier) => format!(", and before it {}", self.spot(&outline, earlier)),
-                None => String::new(),
-            },
+            7 | 8 => self.before(&outline, outline.equal(number, place)),
             20 => format!(", a {}", rules::kind(row.record)),
+            21 => self.ambiguous(&outline),
             _ => String::new(),
         };
         self.at(&outline, place) + &why
+    }
+
+    /// The earlier one of two records that are not told apart.
+    fn before(&self, outline: &Outline, earlier: Option<usize>) -> String {
+        let words = |earlier| format!(", and before it {}", self.spot(outline, earlier));
+        earlier.map(words).unwrap_or_default()
+    }
+
+    /// The first record that the name means where case is forgotten, and by which of its names.
+    fn ambiguous(&self, outline: &Outline) -> String {
+        let Asked::Folded { name } = self.ask else { return String::new() };
+        let (full_or_short, alike) = outline.alike(name);
+        let before = self.before(outline, alike.first().copied());
+        format!("{before}: but for case {} is the {full_or_short} name of both", quoted(name))
     }
 
     /// A record with where it stands: in which files, or in which line of a picture.

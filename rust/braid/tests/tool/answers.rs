@@ -56,6 +56,34 @@ fn find_goes_by_full_name_short_name_and_id() {
 }
 
 #[test]
+fn find_forgets_case_where_it_is_asked_to() {
+    let folder = Folder::with_t();
+    for arguments in
+        ["find T -i Node.Cost", "find -i T NODE.cost", "find T node.cost --ignore-case"]
+    {
+        assert_eq!(folder.braid(arguments).answer(), "id 5 slot 2 node.cost\n", "{arguments}");
+    }
+    assert_eq!(folder.braid("find T -i VISITS.Day").answer(), "id 7 slot 5 visits.element.day\n");
+    let words = "no column is named \"VISITS.DAI\"; did you mean visits.element.day?\n";
+    assert_eq!(folder.braid("find T -i VISITS.DAI").complaint(1), words);
+    assert_eq!(folder.braid("find T -i x").complaint(1), "no column is named \"x\"\n");
+}
+
+#[test]
+fn a_name_that_differs_in_case_alone_is_asked_back() {
+    let folder = Folder::with_t();
+    for (name, column) in [("Node.Cost", "node.cost"), ("PARTS.PRICE", "parts.value.price")] {
+        let words = format!("did you mean {column}? Only `find -i` forgets case\n");
+        let said = folder.braid(&format!("find T {name}")).complaint(1);
+        assert_eq!(said, format!("no column is named \"{name}\"; {words}"));
+    }
+    // of two, the first is near
+    folder.braid("update T --add COST:3 --under node --out U").answer();
+    let words = "no column is named \"node.Cost\"; did you mean node.cost?\n";
+    assert_eq!(folder.braid("find U node.Cost").complaint(1), words);
+}
+
+#[test]
 fn a_look_up_that_finds_nothing_ends_with_status_1() {
     let folder = Folder::with_t();
     let words = "no column is named \"day\"; did you mean visits.element.day?\n";
@@ -157,6 +185,22 @@ fn names_on_the_command_line_are_bytes() {
     assert_eq!(output.stdout, b"id 2 slot 1 \"\\xff\"\n");
     folder.braid("update X --add=-y:1 --under=-x --out Y").answer();
     assert_eq!(folder.braid("find Y -- -x.-y").answer(), "id 3 slot 1 -x.-y\n");
+}
+
+#[test]
+fn names_of_which_case_is_forgotten_are_bytes_too() {
+    let folder = Folder::new();
+    let picture = "1 -x: struct\n2 \"\\xffA\": struct\n3 Ä: struct\n4 @[: struct\n";
+    folder.piped("make - --out X", picture.as_bytes()).answer();
+    assert_eq!(folder.braid("find X -i -- -X").answer(), "id 1 slot 0 -x\n");
+    let mut find = folder.command(&["find", "X", "-i"]);
+    let output = find.arg(OsStr::from_bytes(b"\xffa")).output().expect("the tool runs");
+    assert_eq!(output.stdout, b"id 2 slot 1 \"\\xffA\"\n");
+    // the 26 letters fold, and no others
+    assert_eq!(folder.braid("find X -i Ä").answer(), "id 3 slot 2 Ä\n");
+    for name in ["ä", "`{"] {
+        assert_eq!(folder.run(&["find", "X", "-i", name]).status, 1, "{name}");
+    }
 }
 
 #[test]

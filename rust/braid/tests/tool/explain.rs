@@ -2,7 +2,7 @@
 
 use std::fs;
 
-use braidhurdle::{Refusal, c};
+use braidhurdle::{RefusalKind, c};
 
 use crate::folder::{Folder, checkout};
 
@@ -23,12 +23,11 @@ fn flat(text: &str) -> String {
 #[test]
 fn every_refusal_has_its_part_with_all_that_belongs_to_it() {
     let parts = parts();
-    assert_eq!(parts.len(), 20);
-    for (part, number) in parts.iter().zip(1..) {
-        assert!(part.starts_with(&format!("{number}\n\n")), "{part}");
+    assert_eq!(parts.len(), RefusalKind::ALL.len());
+    for (part, kind) in parts.iter().zip(RefusalKind::ALL) {
+        assert!(part.starts_with(&format!("{}\n\n", kind.number())), "{part}");
         let paragraphs: Vec<String> = part.split("\n\n").skip(1).map(flat).collect();
-        let meaning = Refusal { number, list: 0, place: 0 }.meaning();
-        assert_eq!(paragraphs[0], format!("Means: {meaning}."));
+        assert_eq!(paragraphs[0], format!("Means: {kind}."));
         assert!(paragraphs[1].starts_with("List "), "{part}");
         for begin in ["Rule: ", "Example:", "Cause: ", "Cure: "] {
             let found = paragraphs.iter().filter(|text| text.starts_with(begin)).count();
@@ -45,9 +44,10 @@ fn explain_prints_the_part_of_a_refusal_or_a_line_of_each() {
         assert_eq!(said, format!("Refusal {}\n", part.trim_end()));
     }
     let all = folder.braid("explain").answer();
-    assert_eq!(all.lines().count(), 20);
+    assert_eq!(all.lines().count(), RefusalKind::ALL.len());
     assert!(all.contains("\n17: the name is taken\n"), "{all}");
-    for number in ["0", "21", "x", "-1"] {
+    let behind = (RefusalKind::ALL.len() + 1).to_string();
+    for number in ["0", &behind, "x", "-1"] {
         assert_eq!(folder.run(&["explain", number]).status, 3);
     }
 }
@@ -76,7 +76,8 @@ fn the_commands_of_the_page_are_refused_in_the_very_words_of_the_page() {
         }
     }
     met.dedup();
-    let all_but_two: Vec<u32> = (1..=20).filter(|number| ![1, 10].contains(number)).collect();
+    let numbers = RefusalKind::ALL.iter().map(|kind| kind.number());
+    let all_but_two: Vec<u32> = numbers.filter(|number| ![1, 10].contains(number)).collect();
     assert_eq!(met, all_but_two);
     assert!(!folder.files().contains(&"U.rec".into()), "a refusal writes nothing");
 }

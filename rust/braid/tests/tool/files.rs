@@ -243,6 +243,9 @@ fn wrong_arguments_end_with_status_3_and_help_with_0() {
         "find T node --id 1",
         "find T --id x",
         "find T --id 2147483648",
+        "find T -i",
+        "find T -i node --id 1",
+        "parent T --ignore-case 7",
         "parent T",
         "prune T --keep 7",
         "prune T --out U",
@@ -268,6 +271,15 @@ fn wrong_arguments_end_with_status_3_and_help_with_0() {
     }
     assert_eq!(folder.files(), ["T.last", "T.names", "T.rec"]);
     assert!(folder.braid("--help").answer().contains("Exit status: 0 "));
+}
+
+#[test]
+fn an_id_has_no_case_to_forget() {
+    let folder = Folder::with_t();
+    let said = folder.braid("find T -i --id 7").complaint(3);
+    assert!(said.contains("'--ignore-case' cannot be used with '--id <ID>'"), "{said}");
+    let said = folder.braid("parent T -i 7").complaint(3);
+    assert!(said.lines().next().is_some_and(|line| line.contains("'-i'")), "{said}");
 }
 
 #[test]

@@ -12,7 +12,8 @@ fn damaged(at: usize, value: u8, words: &str) {
     let (mut records, names) = folder.pair("T");
     records[at] = value;
     folder.put("T", &records, &names);
-    for arguments in ["list T", "list T --plain", "check T", "find T node", "parent T 1"] {
+    let look_ups = ["list T", "list T --plain", "check T", "find T node", "find T -i node"];
+    for arguments in look_ups.into_iter().chain(["parent T 1"]) {
         assert_eq!(folder.braid(arguments).refusal()[0], format!("refused {words}"));
     }
     refused(&folder, "prune T --keep 1 --out U", words);
@@ -279,6 +280,7 @@ fn a_deletion_is_told_with_its_path_and_what_it_finds_or_may_have_meant() {
         ("node.prise", "; did you mean parts.value.price?"),
         ("day", "; did you mean visits.element.day?"),
         ("buttons", "; did you mean node.button?"),
+        ("NODE.Cost", "; did you mean node.cost? Only `find -i` forgets case"),
         ("elevator", ""),
         ("x", ""),
     ] {
@@ -429,6 +431,53 @@ fn a_list_or_map_chosen_directly_is_told_with_its_kind() {
     refused(&Folder::with_t(), "prune T --keep 2 --out U", &words);
     let words = format!("20 at 0 6: {chosen} id 3 slot 6 parts, a map");
     refused(&Folder::with_t(), "prune T --keep parts --out U", &words);
+}
+
+#[test]
+fn columns_that_are_alike_but_for_case_are_told_with_their_names() {
+    let folder = Folder::new();
+    let twins = |first: i32| vec![prim(first, "a"), prim(first + 1, "A"), prim(first + 2, "b")];
+    let list = list_of(4, "L", strukt(5, "element", twins(6)));
+    let (records, names) = packed(&[&twins(1)[..], &[list]].concat());
+    folder.put("X", &records, &names);
+    let says = |name: &str, second: usize, words: &str| {
+        let two = "two columns match at the same level where case is forgotten";
+        let words = format!("21 at 0 {second}: {two}: X: {words}");
+        refused(&folder, &format!("find X -i {name}"), &words);
+    };
+    // an exact match is no help
+    for name in ["a", "A"] {
+        let both = format!("but for case \"{name}\" is the full name of both");
+        says(name, 1, &format!("id 2 slot 1 A, and before it id 1 slot 0 a: {both}"));
+    }
+    says(
+        "l.a",
+        6,
+        "id 7 slot 6 L.element.A, and before it id 6 slot 5 L.element.a: but for case \"l.a\" is \
+         the short name of both",
+    );
+    assert_eq!(folder.braid("find X -i l.B").answer(), "id 8 slot 7 L.element.b\n");
+    assert_eq!(folder.braid("find X A").answer(), "id 2 slot 1 A\n");
+}
+
+#[test]
+fn equal_short_names_are_told_where_case_is_forgotten() {
+    let folder = Folder::new();
+    let inner = list_of(5, "1", strukt(3, "element", vec![prim(4, "element")]));
+    let (records, names) =
+        packed(&[map_of(1, "m", prim(6, "key"), strukt(2, "value", vec![inner]))]);
+    folder.put("X", &records, &names);
+    refused(
+        &folder,
+        "find X -i m.1.element",
+        "21 at 0 5: two columns match at the same level where case is forgotten: X: id 4 slot 5 \
+         m.value.1.element.element, and before it id 3 slot 4 m.value.1.element: but for case \
+         \"m.1.element\" is the short name of both",
+    );
+    assert_eq!(
+        folder.braid("find X m.1.element").answer(),
+        "id 4 slot 5 m.value.1.element.element\n"
+    );
 }
 
 #[test]
