@@ -4,7 +4,7 @@
  *     cc -std=c11 -Wall -Wextra -Werror -Iinclude examples/c/calls.c target/staticlib/libbraidhurdle.a -o target/calls
  *     target/calls
  *
- * It prints each answer, and ends with another status than 0 if one is not what 01 says. */
+ * It prints each answer, and ends with another status than 0 if one is not what 01 says, or 02 (1/13) where case is forgotten. */
 #include <stdio.h>
 #include <string.h>
 
@@ -107,6 +107,23 @@ static void look_ups(void)
     held("find_parent: above a root stands nothing", nothing(braidhurdle_find_parent(T, 1)));
 }
 
+/* Two columns whose names differ in case alone. */
+static const uint8_t twins[] = {RECORD(1, 0, 1, PRIMITIVE, OPTIONAL, 0), RECORD(2, 1, 1, PRIMITIVE, OPTIONAL, 0)};
+#define TWINS twins, sizeof twins, (const uint8_t *)"aA", 2
+
+static void look_ups_without_case(void)
+{
+    const uint8_t *cost = (const uint8_t *)"Node.Cost", *day = (const uint8_t *)"VISITS.Day", *a = (const uint8_t *)"a";
+    struct braidhurdle_found f = braidhurdle_find_folded(TWINS, a, 1);
+    held("find_folded: Node.Cost is id 5 at slot 2", found(braidhurdle_find_folded(T, cost, 9), 5, 2));
+    held("find_folded: VISITS.Day is id 7 at slot 5", found(braidhurdle_find_folded(T, day, 10), 7, 5));
+    held("find_folded: Day is nothing", nothing(braidhurdle_find_folded(T, day + 7, 3)));
+    held("find_folded: a beside A is refused with 21 at slot 1",
+         f.refusal == BRAIDHURDLE_AMBIGUOUS && f.list == BRAIDHURDLE_LIST_BASE && f.place == 1 && !f.found && !f.id && !f.slot);
+    held("find_name: a beside A is id 1 at slot 0, and Node.Cost is nothing",
+         found(braidhurdle_find_name(TWINS, a, 1), 1, 0) && nothing(braidhurdle_find_name(T, cost, 9)));
+}
+
 static int shown(struct braidhurdle_name n, const char *name)
 {
     return n.refusal == 0 && n.found == 1 && n.length == strlen(name) && memcmp(pool + n.offset, name, n.length) == 0;
@@ -204,6 +221,8 @@ static void nulls(void)
     held("null: nothing renumbered", answered(braidhurdle_renumber(NOTHING, NOTHING, NOTHING, 1, ROOM, NOTHING), t, 0, ""));
     held("null: no name", nothing(braidhurdle_find_name(T, NOTHING)));
     held("null: no column of that name", nothing(braidhurdle_find_name(NOTHING, NOTHING, pool, 4)));
+    held("null: no name in any case", nothing(braidhurdle_find_folded(T, NOTHING)));
+    held("null: no column of that name in any case", nothing(braidhurdle_find_folded(NOTHING, NOTHING, pool, 4)));
     held("null: no column of that id", nothing(braidhurdle_find_id(NOTHING, NOTHING, 1)));
     held("null: no column above it", nothing(braidhurdle_find_parent(NOTHING, NOTHING, 1)));
     held("null: no room is refused with 1",
@@ -214,7 +233,9 @@ static void nulls(void)
 
 int main(void)
 {
+    held("abi_3: the version is the header's", braidhurdle_abi_3() == BRAIDHURDLE_VERSION);
     look_ups();
+    look_ups_without_case();
     names_of_slots();
     updates();
     prunings();

@@ -34,6 +34,10 @@ fn main() -> Result<(), Box<dyn Error>> {
         "visits.fault is column {}, today at slot {}",
         fault.id, fault.slot
     );
+    // What a fitter types has any case; had two columns matched, it would be refused.
+    if tree.column_by_folded_name("Visits.Fault")? == Some(fault) {
+        println!("Visits.Fault is the same column, where case is forgotten");
+    }
     print("cut to it", &tree.prune(&[fault.id], Mode::Plain)?)?;
 
     // A request that can't be done says why; the tree is as it was.

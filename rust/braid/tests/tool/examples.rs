@@ -52,10 +52,12 @@ fn running_make_gives_the_very_files_that_are_here() {
 }
 
 #[test]
-fn show_shows_a_picture_an_update_and_a_refusal() {
+fn show_shows_a_picture_an_update_look_ups_and_a_refusal() {
     let said = script("examples/show", &[]);
     assert!(said.starts_with("$ braid list examples/node-4\n1 node: struct required\n"), "{said}");
     assert!(said.contains("\nlast id 25\n"), "{said}");
+    assert!(said.contains("visits.duration\nid 24 slot 15 visits.element.duration\n"), "{said}");
+    assert!(said.contains("-i Node.Serial\nid 5 slot 1 node.serial\n"), "{said}");
     assert!(said.contains("\nrefused 11 at 2 0: "), "{said}");
 }
 
