@@ -34,10 +34,12 @@ fn every_number_up_to_20_has_the_words_of_01s_table() {
 }
 
 #[test]
-fn every_number_from_21_on_is_one_of_02() {
+fn every_number_from_21_on_is_given_by_a_request_of_02() {
+    let given = REQUESTS.lines().filter_map(|request| Some(request.split_once("Refusals: ")?.1));
+    let words = given.flat_map(|given| given.split(|c: char| !c.is_ascii_digit()));
+    let numbers: Vec<u32> = words.filter_map(|word| word.parse().ok()).collect();
     for kind in RefusalKind::ALL.iter().filter(|kind| kind.number() > 20) {
-        let said = format!("{} {}", kind.number(), format!("{kind:?}").to_lowercase());
-        assert!(REQUESTS.contains(&said), "{said}");
+        assert!(numbers.contains(&kind.number()), "{kind:?}");
     }
 }
 
