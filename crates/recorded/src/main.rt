@@ -174,10 +174,11 @@ fn replay_line(
         Line::Renumber => {
             tally.judged(renumbering::replay(text, inputs, records, names, identifiers))
         }
-        Line::Name => tally.judged(look_ups::replay_name(text, inputs)),
+        Line::Name => tally.judged(look_ups::replay_name(text, inputs, false)),
         Line::Id => tally.judged(look_ups::replay_id(text, inputs)),
         Line::Parent => tally.judged(look_ups::replay_parent(text, inputs)),
         Line::List => tally.judged(lister::replay(text, inputs, names)),
+        Line::Folded => tally.judged(look_ups::replay_name(text, inputs, true)),
         Line::Comment => tally,
         Line::Unknown => tally.judged(Verdict::Unreadable),
     }

@@ -11,6 +11,7 @@ pub enum Line {
     Id,
     Parent,
     List,
+    Folded,
     Comment,
     Unknown,
 }
@@ -32,6 +33,7 @@ pub struct Tally {
     pub id: u64,
     pub parent: u64,
     pub list: u64,
+    pub folded: u64,
     pub agree: u64,
     pub differ: u64,
 }
@@ -91,6 +93,9 @@ pub fn line_of(text: &[u8], word: &[u8]) -> Line {
     if equal(word, b"list") {
         return Line::List;
     }
+    if equal(word, b"folded") {
+        return Line::Folded;
+    }
     Line::Unknown
 }
 
@@ -106,6 +111,7 @@ impl Tally {
             id: 0,
             parent: 0,
             list: 0,
+            folded: 0,
             agree: 0,
             differ: 0,
         }
@@ -135,6 +141,9 @@ impl Tally {
             }
             Line::List => {
                 self.list = more(self.list);
+            }
+            Line::Folded => {
+                self.folded = more(self.folded);
             }
             Line::Comment => {}
             Line::Unknown => {}
@@ -169,6 +178,7 @@ impl Tally {
         tell_count(b"id ", self.id);
         tell_count(b"parent ", self.parent);
         tell_count(b"list ", self.list);
+        tell_count(b"folded ", self.folded);
         io::print_decimal(STDOUT_FILENO, self.agree);
         io::write_all(STDOUT_FILENO, b" cases agree, ");
         io::print_decimal(STDOUT_FILENO, self.differ);

@@ -14,7 +14,7 @@ use crate::run::check;
 /// The seed of the random part.
 const SEED: u64 = 20_260;
 /// Random cases in the list.
-const RANDOM: u64 = 3_000;
+const RANDOM: u64 = 3_428;
 
 /// Where the list stands in the repository.
 pub fn recorded_path() -> PathBuf {
@@ -30,7 +30,10 @@ pub fn recorded_list(iceberg: Iceberg) -> String {
     }
     lines.push(format!("# random, seed {SEED}"));
     let generator = Generator { seed: SEED, sizes: Sizes::Small };
-    lines.extend((0..RANDOM).map(|n| entry(generator.case(n), iceberg)));
+    let mut random: Vec<Case> = (0..RANDOM).map(|n| generator.case(n)).collect();
+    // those of 02 behind the others, so that an operation more only adds lines
+    random.sort_by_key(|case| case.ask.word() == "folded");
+    lines.extend(random.into_iter().map(|case| entry(case, iceberg)));
     header(&lines) + &lines.join("\n") + "\n"
 }
 
@@ -67,6 +70,7 @@ fn header(lines: &[String]) -> String {
 # id       JUDGE RECORDS POOL ID = found ID SLOT, or nothing
 # parent   JUDGE RECORDS POOL ID = found ID SLOT (of the record above), or nothing
 # list     JUDGE RECORDS POOL = ok TEXT (every byte that the lister writes)
+# folded   JUDGE RECORDS POOL NAME = found ID SLOT, or nothing (the name where case is forgotten)
 # any of them = refused NUMBER LIST PLACE
 #
 # Fields stand between single blanks. Byte strings are lower-case hex, - if empty. Numbers are
