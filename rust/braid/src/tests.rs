@@ -4,7 +4,7 @@ use std::path::Path;
 
 use braidhurdle::layout::{ENTRY_BYTES, ID_BYTES, RECORD_BYTES};
 use braidhurdle::{Field, FieldId, Refusal, Request, Tree};
-use cases::{Case, Generator, Random, Sizes};
+use cases::{Ask, Case, Generator, OPERATIONS, Sizes};
 use judge::UpdateCall;
 
 use crate::Fault;
@@ -141,53 +141,19 @@ fn a_damaged_tree_is_told_whatever_its_bytes() {
     }
 }
 
-/// Names that meet each other where case is forgotten: as they are, across dots, and as the labels
-/// that short names leave out.
-const NAMES: [&str; 4] = ["a", "A", "a.A", "element"];
-
-fn any_columns(random: &mut Random, levels: usize, last: &mut i32) -> Vec<Field> {
-    let names: Vec<&str> = (0..=random.below(3)).map(|_| *random.pick(&NAMES)).collect();
-    names.into_iter().map(|name| any_column(random, name, levels, last)).collect()
-}
-
-fn any_column(random: &mut Random, name: &str, levels: usize, last: &mut i32) -> Field {
-    *last += 1;
-    let id = FieldId(*last);
-    let kind = if levels == 1 { 0 } else { *random.pick(&[0, 1, 2, 3, 3]) };
-    let mut held = |name: &str| any_column(random, name, levels - 1, last);
-    let field = match kind {
-        0 => Field::primitive(name, 1),
-        1 => Field::list(name, held("element")),
-        2 => Field::map(name, held("key"), held("value")),
-        _ => Field::structure(name, any_columns(random, levels - 1, last)),
-    };
-    field.id(id)
-}
-
-/// The name of a column in any case, with some labels left out; or any other name.
-fn asked(random: &mut Random, tree: &Tree) -> Vec<u8> {
-    let names: Vec<Vec<u8>> = tree.columns().into_iter().flatten().map(|c| c.full_name()).collect();
-    if random.chance(1, 9) {
-        return random.pick(&NAMES).to_ascii_uppercase().into();
-    }
-    let parts = random.pick(&names).split(|byte| *byte == b'.');
-    let said = |part: &&[u8]| ![&b"element"[..], b"value"].contains(part) || random.chance(1, 2);
-    let name = parts.filter(said).collect::<Vec<_>>().join(&b'.');
-    if random.chance(1, 2) { name.to_ascii_uppercase() } else { name }
-}
-
 #[test]
 fn columns_that_are_alike_but_for_case_are_those_that_the_library_finds() {
-    let mut random = Random::new(143);
+    let generator = Generator { seed: 143, sizes: Sizes::Usual };
+    let turn = OPERATIONS.iter().position(|word| *word == "folded").expect("it takes turns");
     let mut met = [[0; 3]; 2];
-    for n in 0..20_000 {
-        let members = any_columns(&mut random, 3, &mut 2);
-        let element = Field::structure("element", members).id(FieldId(2));
-        let tree = Tree::build(&[Field::list("L", element).id(FieldId(1))]).expect("it fits");
+    for n in (turn as u64..40_000).step_by(OPERATIONS.len()) {
+        let Case { records, pool, ask: Ask::Folded(name) } = generator.case(n) else {
+            panic!("case {n} asks for something else");
+        };
+        let tree = Tree::new(records, pool);
         if tree.check().is_err() {
             continue;
         }
-        let name = asked(&mut random, &tree);
         let (full_or_short, alike) = Outline::of(&tree).alike(&name);
         let found = tree.find_folded(&name);
         let slots = found.map(|found| found.map(|(_, slot)| slot.0 as usize));

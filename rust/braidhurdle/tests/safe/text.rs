@@ -66,6 +66,7 @@ fn safe(case: &Case, room: &mut Room) -> Option<Result<Answer, Refusal>> {
             })
         }
         Ask::Name(name) => tree.find_name(name).map(found),
+        Ask::Folded(name) => tree.find_folded(name).map(found),
         Ask::Id(id) => {
             let asked = FieldId(*id);
             tree.find_id(asked).map(|slot| found(slot.map(|slot| (asked, slot))))
