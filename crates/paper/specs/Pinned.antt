@@ -133,7 +133,8 @@ folded-names =
     ∷ (find-folding "DAY" gives nothing)
     -- The letters at both ends fold; what stands beside them does not, and no byte above 127 does.
     ∷ (of tree-of (primitive "AZaz" 1) ask find-folding "azAZ" gives found (pos 1))
-    ∷ (of tree-of (primitive "@[" 1) ask find-folding "`{" gives nothing)  -- 147
+    ∷ (of tree-of (primitive "@" 1) ask find-folding "`" gives nothing)  -- 147
+    ∷ (of tree-of (primitive "[" 1) ask find-folding "{" gives nothing)  -- 147
     ∷ (of tree-of (primitive "Ä" 1) ask find-folding "ä" gives nothing)
     -- An exact match beside another is no help; nor are equal short names, with letters or without; slots count, not entry.
     ∷ (of tree-of (primitive "a" 1 then primitive "A" 2) ask find-folding "a" gives refusal 21 list 0 place 1)  -- 146
