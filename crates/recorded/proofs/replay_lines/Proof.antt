@@ -1,4 +1,5 @@
--- A line ends where a line feed was found before the end, so the next begins at the end at the latest.
+-- A line ends where a line feed was found before the end, so the next begins at the end at the latest. The ranges of the arguments
+-- stand too far back for a search, so it is handed them.
 use borrow.Author.Needs.{needs}
 use Prim.Native.Nat.{_≤_, _-_}
 use lib.ListN.{length}
@@ -27,7 +28,7 @@ replay-lines-spec =
     (λ c. search needs)  -- returns
     (λ c κs. search needs)  -- part-requires
     (λ c κs. search needs)  -- replay-line-requires
-    (λ c. search needs)  -- add-at
+    (λ c. let f = c .before .before .before .before .before .before .before .before .before .before .before .before .before .before .before .before .before .before .before .before .before .before .fits in search needs)  -- add-at
     (λ c. search needs)  -- loop-less
     (λ c. search needs)  -- loop-again
     )
