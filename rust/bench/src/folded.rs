@@ -8,67 +8,62 @@ use judge::{LEVELS, MOST_RECORDS, Node, Tree};
 use crate::rows::{Row, row};
 use crate::schemas::numbered;
 
-/// The n-th of the names of so many letters that differ in case alone: at the front by the bits of
-/// n, then as if by chance, so that no processor foresees it.
+/// The n-th of the names of so many letters that differ in case alone.
 fn cased(n: usize, letters: usize, between: &str) -> String {
-    let chance = (n as u64 + 1).wrapping_mul(0x9E37_79B9_7F4A_7C15);
-    let upper = |at: usize| match at {
-        0..10 => n >> at & 1 == 1,
-        _ => chance.rotate_left(7 * at as u32) >> 40 & 1 == 1,
-    };
-    let letter = |at: usize| if upper(at) { "X" } else { "x" };
+    let letter = |at: usize| if at < 10 && n >> at & 1 == 1 { "X" } else { "x" };
     (0..letters).map(letter).collect::<Vec<&str>>().join(between)
 }
 
-/// Names of 32 bytes that differ before their last one: names are compared from there, then whole.
-fn ending(n: usize) -> String {
-    format!("{}{n:03}x", cased(0, 28, ""))
+/// The n-th of the names of so many bytes that differ in a number alone, before their last byte:
+/// names are compared from there, then whole.
+fn counted(n: usize, bytes: usize) -> String {
+    format!("{}{n:03}x", cased(0, bytes - 4, ""))
 }
+
+/// Bytes are compared sixteen at a step, and those that are left one by one: names of this length
+/// take longest.
+const LONG: usize = 31;
+/// All of them one by one: the worst beside the exact look-up.
+const SHORT: usize = 15;
 
 /// Roots that each fold to a front of the last one's name, up to a dot in it.
 fn fronts() -> Vec<Node> {
-    let front = |n| prim(0, &cased(n, 16, "."));
+    let front = |n| prim(0, &cased(n, LONG.div_ceil(2), "."));
     let longest = prim(0, &cased(0, 128, "."));
     numbered((1..MOST_RECORDS).map(front).chain([longest]).collect())
 }
 
 /// Chains of all levels. Their roots differ in case, the names below not at all, the last ones in
 /// a number.
-fn chains() -> Vec<Node> {
-    let inner = |inside, _| strukt(0, &cased(0, 32, ""), vec![inside]);
+fn chains(bytes: usize) -> Vec<Node> {
+    let inner = |inside, _| strukt(0, &cased(0, bytes, ""), vec![inside]);
     let chain = |n| {
-        let below = (2..LEVELS).fold(prim(0, &ending(n)), inner);
-        strukt(0, &cased(n, 32, ""), vec![below])
+        let below = (2..LEVELS).fold(prim(0, &counted(n, bytes)), inner);
+        strukt(0, &cased(n, bytes, ""), vec![below])
     };
     numbered((0..MOST_RECORDS / LEVELS).map(chain).collect())
-}
-
-/// Roots that differ in case alone.
-fn roots(count: usize, bytes: usize) -> Vec<Node> {
-    numbered((0..count).map(|n| prim(0, &cased(n, bytes, ""))).collect())
 }
 
 /// Lists that differ in case, of structs whose members differ in a number.
 fn lists() -> Vec<Node> {
     let list = |n| {
-        let members = (0..30).map(|m| prim(0, &ending(30 * n + m))).collect();
-        list_of(0, &cased(n, 32, ""), strukt(0, "element", members))
+        let members = (0..30).map(|m| prim(0, &counted(30 * n + m, LONG))).collect();
+        list_of(0, &cased(n, LONG, ""), strukt(0, "element", members))
     };
     numbered((0..32).map(list).collect())
 }
 
 /// The worst cases that are known: the exact look-up, and the same asked in another case.
-pub fn worst_folded() -> [[Row; 2]; 6] {
+pub fn worst_folded() -> [[Row; 2]; 5] {
     let full = |tree: &Tree| tree.full_name(tree.rows.len() - 1);
     let short = |tree: &Tree| tree.short_name(tree.rows.len() - 1);
     // all is compared, and nothing is found
     let beyond = |tree: &Tree| [full(tree), b".".to_vec()].concat();
     [
         pair("1,024 roots, each a front of the last", &fronts(), full),
-        pair("64 chains of 16 levels", &chains(), full),
-        pair("64 chains of 16 levels, nothing found", &chains(), beyond),
-        pair("1,024 roots, nothing found", &roots(MOST_RECORDS, 32), beyond),
-        pair("128 roots, nothing found", &roots(128, 255), beyond),
+        pair("64 chains of 16 levels", &chains(LONG), full),
+        pair("64 chains of 16 levels, nothing found", &chains(LONG), beyond),
+        pair("64 chains of shorter names, nothing found", &chains(SHORT), beyond),
         pair("32 lists, a short name", &lists(), short),
     ]
 }
