@@ -10,7 +10,7 @@ use crate::case::{Ask, Case};
 use crate::random::Random;
 use crate::trees::{Shape, each, finished, grown, lay, name};
 
-/// Records that a tree may have beside those of its shape.
+/// Records that are called like others, beside those that a tree has by its shape.
 const MORE: usize = 3;
 
 /// Names at the ends of the letters and beside them, and letters that are none of the 26.
