@@ -1,7 +1,7 @@
 -- The walk that forgets case: each turn of the loop over siblings leaves what is to be answered to the rest of the row. `search meets`.
 use mathlib.Core.Path.{_≡_, refl, sym, ap, _∙_}
 use mathlib.Core.Bool.{Bool, true, false, _&&_, cond, true≢false}
-use mathlib.Core.List.{List, [], _∷_, _++_}
+use mathlib.Core.List.{List, [], _∷_, _++_, append-nil}
 use mathlib.Core.Option.{Option, none, some}
 use Prim.Native.Nat.{ℕ, zero, suc, _+_, _-_, _<_, _≤_}
 use native.Mathlib.Numerals.{add-one}
@@ -21,7 +21,7 @@ use Rattle.laws.proofs.Basics.{none≢some, some-is, or-else-none}
 use Rattle.laws.proofs.Folding.{folded-length}
 use Rattle.laws.proofs.RoundTrip.{both}
 use Rattle.plan.specs.Walk.{walk}
-use Rattle.plan.proofs.Walks.{walk-none, walk-deep, walk-past, walk-in}
+use Rattle.plan.proofs.Walks.{walk-none, walk-deep, walk-past, walk-in, filled}
 use Rattle.record.specs.declared.Slot.{Slot}
 use Rattle.record.specs.Trees.{Trees}
 use Rattle.plan.specs.Named.{names-in, kinds-in}
@@ -113,14 +113,20 @@ module _ (name : ℕ → List ℕ) (kind : ℕ → Kind) (short : Bool) where
   -- ---- the loop over the siblings; W is the whole answer
 
   module _ (kids : ℕ → ℕ) (x : List ℕ) (n lv c k : ℕ) (role : Role) (pos one : ℕ) where
-    pub meet-out : (j : ℕ) → length x < pos → j ≡ walk kids n lv c k .next → Past (record { 0 = j }) one ≡ meeting name kind short role (left-at (folded x) pos) one (walk kids n lv c k)
+    meet-out : (j : ℕ) → length x < pos → j ≡ walk kids n lv c k .next → Past (record { 0 = j }) one ≡ meeting name kind short role (left-at (folded x) pos) one (walk kids n lv c k)
     unfolding meeting met
     meet-out j l ej = rw (left-out (folded x) pos (omega (arith, folded-length x)), matched-nothing (walk kids n lv c k .trees) role, ej)
 
-    pub meet-deep : lv ≡ 0 → Past (record { 0 = k }) one ≡ meeting name kind short role (left-at (folded x) pos) one (walk kids n lv c k)
+    meet-deep : lv ≡ 0 → Past (record { 0 = k }) one ≡ meeting name kind short role (left-at (folded x) pos) one (walk kids n lv c k)
     meet-deep e = nothing-met role (left-at (folded x) pos) one (walk kids n lv c k) k (walk-deep kids n lv c k e)
 
     module _ (W : Met) (eW : W ≡ meeting name kind short role (left-at (folded x) pos) one (walk kids n lv c k)) where
+      pub leave-out : (j : ℕ) → length x < pos → j ≡ walk kids n lv c k .next → Past (record { 0 = j }) one ≡ W
+      leave-out j l ej = meet-out j l ej ∙ sym eW
+
+      pub leave-deep : lv ≡ 0 → Past (record { 0 = k }) one ≡ W
+      leave-deep e = meet-deep e ∙ sym eW
+
       pub leave-past : n ≤ k → Past (record { 0 = k }) one ≡ W
       leave-past l = nothing-met role (left-at (folded x) pos) one (walk kids n lv c k) k (walk-past kids n lv c k l) ∙ sym eW
 
@@ -161,6 +167,13 @@ module _ (name : ℕ → List ℕ) (kind : ℕ → Kind) (short : Bool) where
               let e : inside-part ≡ nothing (k + 1) = walk-none kids n (lv - 1) (kids k) (k + 1) (sym ek ∙ z) in
               onward ∙ rw (e, en)
 
+          -- The last of a row: what is inside it is all that is left.
+          pub turn-down : (m : ℕ) → m ≡ kids k → (rl : Role) (deep : ℕ) → rl ≡ first (kind k) → left-at (folded x) deep ≡ inside (short && skipped role (kind k)) (left-at (folded x) pos) (name k) → c ≡ 1 → W ≡ meeting name kind short rl (left-at (folded x) deep) i (walk kids n (lv - 1) m (k + 1))
+          unfolding meeting matched
+          turn-down m ek rl deep er ed e1 =
+              let e : rest ≡ nothing (inside-part .next) = walk-none kids n lv (c - 1) (inside-part .next) (omega arith) in
+              onward ∙ rw (e, append-nil inner, ek, er, ed)
+
           module _ (m : ℕ) (ek : m ≡ kids k) (rl : Role) (deep : ℕ) (er : rl ≡ first (kind k)) (ed : left-at (folded x) deep ≡ inside (short && skipped role (kind k)) (left-at (folded x) pos) (name k)) (w : Met) (ew : w ≡ meeting name kind short rl (left-at (folded x) deep) i (walk kids n (lv - 1) m (k + 1))) where
             inner-met : w ≡ met i inner (inside-part .next)
             unfolding meeting
@@ -169,10 +182,17 @@ module _ (name : ℕ → List ℕ) (kind : ℕ → Kind) (short : Bool) where
             pub turn-in : (j : Slot) → w ≡ Twice j → Twice j ≡ W
             turn-in j e = sym (onward ∙ met-twice inner others i (inside-part .next) (rest .next) j (sym inner-met ∙ e))
 
+            -- The walk goes on behind the record.
+            pub turn-further : (j : Slot) (v : ℕ) → w ≡ Past j v → k < j .0
+            turn-further j v e =
+                let z = met-past inner others i (inside-part .next) (rest .next) j v (sym inner-met ∙ e) in
+                let y = filled kids n (lv - 1) (kids k) (k + 1) (omega arith) .count in
+                omega (arith, z .1)
+
             pub turn-on : (j : Slot) (v : ℕ) (nr : Role) → w ≡ Past j v → nr ≡ after role → W ≡ meeting name kind short nr (left-at (folded x) pos) v (walk kids n lv (c - 1) (j .0))
             unfolding meeting
             turn-on j v nr e en =
                 let z = met-past inner others i (inside-part .next) (rest .next) j v (sym inner-met ∙ e) in
                 onward ∙ z .0 ∙ rw (z .1, en)
 
-pub ruleset meets = (meet-out, meet-deep, leave-past, leave-done)
+pub ruleset meets = (leave-out, leave-deep, leave-past, leave-done)

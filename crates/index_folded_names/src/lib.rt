@@ -55,43 +55,58 @@ pub fn meet_row<'a>(
         (left-at (folded (now (x .entry))) pos) first
         (walk-in (now (plan .entry)) m (row .levels) (row .count) (row .slot)) ⌝ }
 {
-    let levels = row.levels;
-    if x.len() < pos {
-        return Met::Past(Slot(row_next(plan, m, row)), first);
-    }
-    if levels == 0 {
-        return Met::Past(Slot(row.slot), first);
-    }
+    let mut levels = row.levels;
     let mut at = row.slot;
     let mut left = row.count;
     let mut part = role;
+    let mut from = pos;
     let mut met = first;
     while 0 < left {
+        // Nothing here can match: the row is passed over.
+        if x.len() < from {
+            let rest = Siblings {
+                slot: at,
+                count: left,
+                levels,
+            };
+            return Met::Past(Slot(row_next(plan, m, rest)), met);
+        }
+        if levels == 0 {
+            return Met::Past(Slot(at), met);
+        }
         if m <= at {
             return Met::Past(Slot(at), met);
         }
-        let f = fit_at(trees, plan, m, at, true, x, pos);
+        let f = fit_at(trees, plan, m, at, true, x, from);
         let me = own_place(f, at);
         if both(met, me) {
             return Met::Twice(Slot(at));
         }
         met = either(met, me);
-        let role_here = part;
-        part = next_role(part);
-        left -= 1;
         let members = plan[MEMBERS][at];
         // Nothing is inside a leaf: no call is made for it.
         if members == 0 {
             at += 1;
+            left -= 1;
+            part = next_role(part);
             continue;
         }
-        let inside = inside_at(trees, plan, m, at, role_here, short, f, x, pos);
+        let inside = inside_at(trees, plan, m, at, part, short, f, x, from);
+        let inner_role = inside.role;
+        // The last of a row: its inside is what is left, and needs no call either.
+        if left == 1 {
+            at += 1;
+            left = members;
+            levels -= 1;
+            part = inner_role;
+            from = inside.pos;
+            continue;
+        }
         let inner = Siblings {
             slot: at + 1,
             count: members,
             levels: levels - 1,
         };
-        let inner_role = inside.role;
         match meet_row(trees, plan, m, inner, inner_role, short, x, inside.pos, met) {
             Met::Twice(k) => {
                 return Met::Twice(k);
@@ -101,6 +116,8 @@ pub fn meet_row<'a>(
                 met = one;
             }
         }
+        left -= 1;
+        part = next_role(part);
     }
     Met::Past(Slot(at), met)
 }

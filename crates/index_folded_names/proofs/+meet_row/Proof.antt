@@ -1,5 +1,6 @@
 -- What is left of the row gives the whole answer; levels fall.
 use mathlib.Core.Path.{_≡_, refl}
+use native.Mathlib.Omega.{arith}
 use borrow.Author.Needs.{needs}
 use Rattle.paper.specs.Folded.{folded}
 use Rattle.record.specs.Trees.{trees-in}
@@ -8,8 +9,8 @@ use Rattle.plan.specs.Walk.{walk-in}
 use Rattle.index_turns.specs.Turn.{left-at}
 use Rattle.index_turns.proofs.Fitting.{room-under}
 use Rattle.index_folded_names.specs.Met.{folded-in, meeting}
-use Rattle.index_folded_names.proofs.Meeting.{meets, own-met, left-met, turn-twice, turn-leaf, turn-in, turn-on}
-use Prim.Native.Nat.{ℕ, _<_}
+use Rattle.index_folded_names.proofs.Meeting.{meets, own-met, left-met, turn-twice, turn-leaf, turn-down, turn-in, turn-further, turn-on}
+use Prim.Native.Nat.{ℕ, _-_, _<_, _≤_}
 use borrow.Fn.Kinds.{In}
 use borrow.Fn.PlainCycle.{Measures, is, falls, and}
 use Rattle.index_folded_names.proofs.meet_row.Reads as meet-row
@@ -36,12 +37,14 @@ meet-row-below t =
     and 4 meet-row-kinds.ps (falls 4 meet-row-kinds.ps _<_ μ-meet-row t) meet-row.Pre
 
 abbrev meet-row-Inv-loop : meet-row-lts.InvT-loop
-meet-row-Inv-loop trees plan m short x pos first levels at₀ left₀ part₀ met₀ at left part met =
-    meeting (folded-in (trees-in trees) plan) (kinds-in (trees-in trees) plan) short part₀ (left-at (folded x) pos) met₀ (walk-in plan m levels left₀ at₀)
-    ≡ meeting (folded-in (trees-in trees) plan) (kinds-in (trees-in trees) plan) short part (left-at (folded x) pos) met (walk-in plan m levels left at)
+meet-row-Inv-loop trees plan m short x pos first levels₀ at₀ left₀ part₀ from₀ met₀ levels at left part from met =
+    (levels ≤ levels₀)
+    × (meeting (folded-in (trees-in trees) plan) (kinds-in (trees-in trees) plan) short part₀ (left-at (folded x) from₀) met₀ (walk-in plan m levels₀ left₀ at₀)
+    ≡ meeting (folded-in (trees-in trees) plan) (kinds-in (trees-in trees) plan) short part (left-at (folded x) from) met (walk-in plan m levels left at))
 
+-- The walk goes on, over siblings and into the last of them.
 abbrev meet-row-μ-loop : meet-row-lts.MeasureT-loop
-meet-row-μ-loop trees plan m short x pos first levels at₀ left₀ part₀ met₀ at left part met = left
+meet-row-μ-loop trees plan m short x pos first levels₀ at₀ left₀ part₀ from₀ met₀ levels at left part from met = m - at
 
 pub +meet-row-spec : {M : Type 1} → statement M
 +meet-row-spec = close μ-meet-row λ t. meet-row-lts.spec (
@@ -66,31 +69,37 @@ pub +meet-row-spec : {M : Type 1} → statement M
     meet-row.Post
     meet-row-Inv-loop
     meet-row-μ-loop
+    (λ c. search (meets, needs))  -- loop-holds
     (λ c κs. search needs)  -- row-next-requires
     (λ c. search (meets, needs))  -- returns
     (λ c. search (meets, needs))  -- returns-2
-    (λ c. refl)  -- loop-holds
     (λ c. search (meets, needs))  -- returns-3
     (λ c κs. search needs)  -- fit-at-requires
     (λ c κs. search needs)  -- own-place-requires
     (λ c κs. search needs)  -- both-requires
-    (λ c. turn-twice _ _ _ _ _ _ _ _ _ _ _ _ _ (c .before .before .before .before .before .before .loop .inv) _ _ (c .before .before .before .before .before .before .before .if2 .left) (c .before .before .before .before .before .loop-test .taken) (c .before .before .before .before .if3 .left) (own-met _ _ _ _ _ (c .before .before .before .before .before .before .before .before .if1 .left) (c .before .before .before .fit-at .ensures) _ (c .before .before .own-place .ensures)) (c .before .both .ensures) (c .if4 .taken))  -- returns-4
+    (λ c. turn-twice _ _ _ _ _ _ _ _ _ _ _ _ _ (c .before .before .before .before .before .before .before .before .loop .inv .1) _ _ (c .before .before .before .before .before .if2 .left) (c .before .before .before .before .before .before .before .loop-test .taken) (c .before .before .before .before .if3 .left) (own-met _ _ _ _ _ (c .before .before .before .before .before .before .if1 .left) (c .before .before .before .fit-at .ensures) _ (c .before .before .own-place .ensures)) (c .before .both .ensures) (c .if4 .taken))  -- returns-4
     (λ c κs. search needs)  -- either-requires
-    (λ c κs. search needs)  -- next-role-requires
-    (λ c. search needs)  -- sub-left
     (λ c. search needs)  -- mul-members
     (λ c. search needs)  -- index-1-members
     (λ c. search needs)  -- index-2-members
     (λ c. search needs)  -- add-at
+    (λ c. search needs)  -- sub-left
+    (λ c κs. search needs)  -- next-role-requires
     (λ c. search needs)  -- loop-less
-    (λ c. turn-leaf _ _ _ _ _ _ _ _ _ _ _ _ _ (c .before .before .before .before .before .before .before .before .before .before .loop .inv) _ _ (c .before .before .before .before .before .before .before .before .before .before .before .if2 .left) (c .before .before .before .before .before .before .before .before .before .loop-test .taken) (c .before .before .before .before .before .before .before .before .if3 .left) (own-met _ _ _ _ _ (c .before .before .before .before .before .before .before .before .before .before .before .before .if1 .left) (c .before .before .before .before .before .before .before .fit-at .ensures) _ (c .before .before .before .before .before .before .own-place .ensures)) (c .before .before .before .before .before .both .ensures) _ (c .before .before .before .before .if4 .left) (c .before .before .before .either .ensures) _ _ refl (c .if5 .taken) (c .before .before .next-role .ensures))  -- loop-again
-    (λ c κs. (search needs, (search needs, (room-under _ _ _ _ _ (c .before .before .before .before .before .before .before .before .before .before .before .before .if1 .left) (c .before .before .before .before .before .before .before .fit-at .ensures), search needs))))  -- inside-at-requires
-    (λ c. search needs)  -- add-t36
-    (λ c. search needs)  -- sub-t40
+    (λ c. (search needs, turn-leaf _ _ _ _ _ _ _ _ _ _ _ _ _ (c .before .before .before .before .before .before .before .before .before .before .before .before .loop .inv .1) _ _ (c .before .before .before .before .before .before .before .before .before .if2 .left) (c .before .before .before .before .before .before .before .before .before .before .before .loop-test .taken) (c .before .before .before .before .before .before .before .before .if3 .left) (own-met _ _ _ _ _ (c .before .before .before .before .before .before .before .before .before .before .if1 .left) (c .before .before .before .before .before .before .before .fit-at .ensures) _ (c .before .before .before .before .before .before .own-place .ensures)) (c .before .before .before .before .before .both .ensures) _ (c .before .before .before .before .if4 .left) (c .before .before .before .either .ensures) _ _ refl (c .before .if5 .taken) (c .next-role .ensures)))  -- loop-again
+    (λ c κs. (search needs, (search needs, (room-under _ _ _ _ _ (c .before .before .before .before .before .before .before .before .before .if1 .left) (c .before .before .before .before .before .before .fit-at .ensures), search needs))))  -- inside-at-requires
+    (λ c. search needs)  -- add-at-2
+    (λ c. search needs)  -- sub-levels
+    (λ c. search needs)  -- loop-less-2
+    (λ c. (search needs, turn-down _ _ _ _ _ _ _ _ _ _ _ _ _ (c .before .before .before .before .before .before .before .before .before .before .before .before .before .loop .inv .1) _ _ (c .before .before .before .before .before .before .before .before .before .before .if2 .left) (c .before .before .before .before .before .before .before .before .before .before .before .before .loop-test .taken) (c .before .before .before .before .before .before .before .before .before .if3 .left) (own-met _ _ _ _ _ (c .before .before .before .before .before .before .before .before .before .before .before .if1 .left) (c .before .before .before .before .before .before .before .before .fit-at .ensures) _ (c .before .before .before .before .before .before .before .own-place .ensures)) (c .before .before .before .before .before .before .both .ensures) _ (c .before .before .before .before .before .if4 .left) (c .before .before .before .before .either .ensures) _ refl _ _ (c .before .inside-at .ensures .members) (left-met _ _ _ _ _ _ (c .before .before .before .before .before .before .before .before .before .before .before .if1 .left) (c .before .before .before .before .before .before .before .before .fit-at .ensures) _ _ _ (c .before .inside-at .ensures)) (c .if6 .taken)))  -- loop-again-2
+    (λ c. search needs)  -- add-t27
+    (λ c. search needs)  -- sub-t39
     (λ c κs. (search needs, (search needs, search needs)))  -- meet-row-requires
     (λ c. search needs)  -- enum-known-k
-    (λ c. turn-in _ _ _ _ _ _ _ _ _ _ _ _ _ (c .before .before .before .before .before .before .before .before .before .before .before .before .before .before .before .loop .inv) _ _ (c .before .before .before .before .before .before .before .before .before .before .before .before .before .before .before .before .if2 .left) (c .before .before .before .before .before .before .before .before .before .before .before .before .before .before .loop-test .taken) (c .before .before .before .before .before .before .before .before .before .before .before .before .before .if3 .left) (own-met _ _ _ _ _ (c .before .before .before .before .before .before .before .before .before .before .before .before .before .before .before .before .before .if1 .left) (c .before .before .before .before .before .before .before .before .before .before .before .before .fit-at .ensures) _ (c .before .before .before .before .before .before .before .before .before .before .before .own-place .ensures)) (c .before .before .before .before .before .before .before .before .before .before .both .ensures) _ (c .before .before .before .before .before .before .before .before .before .if4 .left) (c .before .before .before .before .before .before .before .before .either .ensures) _ refl _ _ (c .before .before .before .before .inside-at .ensures .members) (left-met _ _ _ _ _ _ (c .before .before .before .before .before .before .before .before .before .before .before .before .before .before .before .before .before .if1 .left) (c .before .before .before .before .before .before .before .before .before .before .before .before .fit-at .ensures) _ _ _ (c .before .before .before .before .inside-at .ensures)) _ (c .before .before .before .meet-row .ensures) _ (search needs))  -- returns-5
+    (λ c. turn-in _ _ _ _ _ _ _ _ _ _ _ _ _ (c .before .before .before .before .before .before .before .before .before .before .before .before .before .before .before .before .before .loop .inv .1) _ _ (c .before .before .before .before .before .before .before .before .before .before .before .before .before .before .if2 .left) (c .before .before .before .before .before .before .before .before .before .before .before .before .before .before .before .before .loop-test .taken) (c .before .before .before .before .before .before .before .before .before .before .before .before .before .if3 .left) (own-met _ _ _ _ _ (c .before .before .before .before .before .before .before .before .before .before .before .before .before .before .before .if1 .left) (c .before .before .before .before .before .before .before .before .before .before .before .before .fit-at .ensures) _ (c .before .before .before .before .before .before .before .before .before .before .before .own-place .ensures)) (c .before .before .before .before .before .before .before .before .before .before .both .ensures) _ (c .before .before .before .before .before .before .before .before .before .if4 .left) (c .before .before .before .before .before .before .before .before .either .ensures) _ refl _ _ (c .before .before .before .before .before .inside-at .ensures .members) (left-met _ _ _ _ _ _ (c .before .before .before .before .before .before .before .before .before .before .before .before .before .before .before .if1 .left) (c .before .before .before .before .before .before .before .before .before .before .before .before .fit-at .ensures) _ _ _ (c .before .before .before .before .before .inside-at .ensures)) _ (c .before .before .before .meet-row .ensures) _ (search needs))  -- returns-5
     (λ c. search needs)  -- enum-known-next
-    (λ c. search needs)  -- loop-less-2
-    (λ c. turn-on _ _ _ _ _ _ _ _ _ _ _ _ _ (c .before .before .before .before .before .before .before .before .before .before .before .before .before .before .before .loop .inv) _ _ (c .before .before .before .before .before .before .before .before .before .before .before .before .before .before .before .before .if2 .left) (c .before .before .before .before .before .before .before .before .before .before .before .before .before .before .loop-test .taken) (c .before .before .before .before .before .before .before .before .before .before .before .before .before .if3 .left) (own-met _ _ _ _ _ (c .before .before .before .before .before .before .before .before .before .before .before .before .before .before .before .before .before .if1 .left) (c .before .before .before .before .before .before .before .before .before .before .before .before .fit-at .ensures) _ (c .before .before .before .before .before .before .before .before .before .before .before .own-place .ensures)) (c .before .before .before .before .before .before .before .before .before .before .both .ensures) _ (c .before .before .before .before .before .before .before .before .before .if4 .left) (c .before .before .before .before .before .before .before .before .either .ensures) _ refl _ _ (c .before .before .before .before .inside-at .ensures .members) (left-met _ _ _ _ _ _ (c .before .before .before .before .before .before .before .before .before .before .before .before .before .before .before .before .before .if1 .left) (c .before .before .before .before .before .before .before .before .before .before .before .before .fit-at .ensures) _ _ _ (c .before .before .before .before .inside-at .ensures)) _ (c .before .before .before .meet-row .ensures) _ _ _ (c .before .next .given .1) (c .before .before .before .before .before .before .before .next-role .ensures))  -- loop-again-2
+    (λ c. search needs)  -- sub-left-2
+    (λ c κs. search needs)  -- next-role-requires-2
+    (λ c. omega (arith, turn-further _ _ _ _ _ _ _ _ _ _ _ _ _ (c .before .before .before .before .before .before .before .before .before .before .before .before .before .before .before .before .before .before .loop .inv .1) _ _ (c .before .before .before .before .before .before .before .before .before .before .before .before .before .before .before .if2 .left) (c .before .before .before .before .before .before .before .before .before .before .before .before .before .before .before .before .before .loop-test .taken) (c .before .before .before .before .before .before .before .before .before .before .before .before .before .before .if3 .left) (own-met _ _ _ _ _ (c .before .before .before .before .before .before .before .before .before .before .before .before .before .before .before .before .if1 .left) (c .before .before .before .before .before .before .before .before .before .before .before .before .before .fit-at .ensures) _ (c .before .before .before .before .before .before .before .before .before .before .before .before .own-place .ensures)) (c .before .before .before .before .before .before .before .before .before .before .before .both .ensures) _ (c .before .before .before .before .before .before .before .before .before .before .if4 .left) (c .before .before .before .before .before .before .before .before .before .either .ensures) _ refl _ _ (c .before .before .before .before .before .before .inside-at .ensures .members) (left-met _ _ _ _ _ _ (c .before .before .before .before .before .before .before .before .before .before .before .before .before .before .before .before .if1 .left) (c .before .before .before .before .before .before .before .before .before .before .before .before .before .fit-at .ensures) _ _ _ (c .before .before .before .before .before .before .inside-at .ensures)) _ (c .before .before .before .before .meet-row .ensures) _ _ (c .before .before .next .given .1)))  -- loop-less-3
+    (λ c. (c .before .before .before .before .before .before .before .before .before .before .before .before .before .before .before .before .before .before .loop .inv .0, turn-on _ _ _ _ _ _ _ _ _ _ _ _ _ (c .before .before .before .before .before .before .before .before .before .before .before .before .before .before .before .before .before .before .loop .inv .1) _ _ (c .before .before .before .before .before .before .before .before .before .before .before .before .before .before .before .if2 .left) (c .before .before .before .before .before .before .before .before .before .before .before .before .before .before .before .before .before .loop-test .taken) (c .before .before .before .before .before .before .before .before .before .before .before .before .before .before .if3 .left) (own-met _ _ _ _ _ (c .before .before .before .before .before .before .before .before .before .before .before .before .before .before .before .before .if1 .left) (c .before .before .before .before .before .before .before .before .before .before .before .before .before .fit-at .ensures) _ (c .before .before .before .before .before .before .before .before .before .before .before .before .own-place .ensures)) (c .before .before .before .before .before .before .before .before .before .before .before .both .ensures) _ (c .before .before .before .before .before .before .before .before .before .before .if4 .left) (c .before .before .before .before .before .before .before .before .before .either .ensures) _ refl _ _ (c .before .before .before .before .before .before .inside-at .ensures .members) (left-met _ _ _ _ _ _ (c .before .before .before .before .before .before .before .before .before .before .before .before .before .before .before .before .if1 .left) (c .before .before .before .before .before .before .before .before .before .before .before .before .before .fit-at .ensures) _ _ _ (c .before .before .before .before .before .before .inside-at .ensures)) _ (c .before .before .before .before .meet-row .ensures) _ _ _ (c .before .before .next .given .1) (c .next-role2 .ensures)))  -- loop-again-3
     (λ c. search (meets, needs))  -- returns-6
