@@ -9,16 +9,18 @@ use paper::Role;
 use paper::next_role;
 use plan::MEMBERS;
 use plan::PlanRows;
+use plan::name_of;
 use record::Siblings;
 use record::Slot;
 use record::Trees;
 ghost use mathlib.Core.Path.{_≡_};
-ghost use mathlib.Core.Bool.{_&&_};
-ghost use Prim.Native.Nat.{_≤_};
-ghost use lib.Dec.{ltb};
+ghost use mathlib.Core.Bool.{not, _&&_};
+ghost use Prim.Native.Nat.{_-_, _≤_, _<_};
+ghost use lib.Dec.{eqb, ltb};
+ghost use lib.ListN.{length};
 ghost use Rattle.paper.specs.Folded.{folded};
 ghost use Rattle.record.specs.Trees.{trees-in};
-ghost use Rattle.plan.specs.Named.{kinds-in, SourcesIn};
+ghost use Rattle.plan.specs.Named.{names-in, kinds-in, SourcesIn};
 ghost use Rattle.plan.specs.Walk.{walk-in};
 ghost use Rattle.index_turns.specs.Turn.{left-at};
 ghost use Rattle.index_folded_names.specs.Met.{folded-in, meeting};
@@ -34,6 +36,26 @@ fn both(a: usize, b: usize) -> bool
     ensures { λ r. ⌜ r ≡ (ltb 0 a && ltb 0 b) ⌝ }
 {
     (0 < a) & (0 < b)
+}
+
+// Whether a record without members can't match: its name is not as long as what is left of x. Most are passed over so.
+fn misses<'a>(
+    trees: &Trees<'a>,
+    plan: &PlanRows,
+    m: usize,
+    at: usize,
+    members: u32,
+    x: &[u8],
+    pos: usize,
+) -> bool
+    requires { ⌜ (at < m) × ((pos ≤ length (now x))
+        × SourcesIn (trees-in (now trees)) (now plan) m) ⌝ }
+    ensures { λ r. ⌜ r ≡ (eqb members 0 && not (eqb
+        (length (names-in (trees-in (now (trees .entry))) (now (plan .entry)) at))
+        (length (now (x .entry)) - pos))) ⌝ }
+{
+    let name = name_of(trees, plan, m, at);
+    (members == 0) & (name.len() != x.len() - pos)
 }
 
 // The records of a row of trees whose names fold to what is left of x from `pos` on, in slot order, up to the second. `first` is the
@@ -77,13 +99,19 @@ pub fn meet_row<'a>(
         if m <= at {
             return Met::Past(Slot(at), met);
         }
+        let members = plan[MEMBERS][at];
+        if misses(trees, plan, m, at, members, x, from) {
+            at += 1;
+            left -= 1;
+            part = next_role(part);
+            continue;
+        }
         let f = fit_at(trees, plan, m, at, true, x, from);
         let me = own_place(f, at);
         if both(met, me) {
             return Met::Twice(Slot(at));
         }
         met = either(met, me);
-        let members = plan[MEMBERS][at];
         // Nothing is inside a leaf: no call is made for it.
         if members == 0 {
             at += 1;
