@@ -1,6 +1,7 @@
 //! Trees that are built to be bad for the look-up that forgets case. It walks over the records, and
-//! compares a record's own name where the names above it match and what is asked ends behind it, or
-//! goes on with a dot. So here names fold alike, or nearly so, and stand before a dot.
+//! compares a record's own name where the names above it match and what is asked ends behind it or,
+//! if the record has members, goes on with a dot. So here names fold alike, or nearly so, and most
+//! stand before a dot.
 
 use cases::{Ask, ask_of, list_of, packed, prim, strukt};
 use judge::{LEVELS, MOST_RECORDS, Node, Tree};
