@@ -58,13 +58,18 @@ fn lists() -> Vec<Node> {
 pub fn worst_folded() -> [[Row; 2]; 5] {
     let full = |tree: &Tree| tree.full_name(tree.rows.len() - 1);
     let short = |tree: &Tree| tree.short_name(tree.rows.len() - 1);
-    // all is compared, and nothing is found
-    let beyond = |tree: &Tree| [full(tree), b".".to_vec()].concat();
+    // in the place of a digit: all is compared, and nothing is found
+    let wrong = |tree: &Tree| {
+        let mut name = full(tree);
+        let digit = name.len() - 2;
+        name[digit] = b'?';
+        name
+    };
     [
         pair("1,024 roots, each a front of the last", &fronts(), full),
         pair("64 chains of 16 levels", &chains(LONG), full),
-        pair("64 chains of 16 levels, nothing found", &chains(LONG), beyond),
-        pair("64 chains of shorter names, nothing found", &chains(SHORT), beyond),
+        pair("64 chains of 16 levels, nothing found", &chains(LONG), wrong),
+        pair("64 chains of shorter names, nothing found", &chains(SHORT), wrong),
         pair("32 lists, a short name", &lists(), short),
     ]
 }

@@ -14,7 +14,7 @@ pub use folded::worst_folded;
 pub use rows::{Row, rows};
 pub use schemas::{SCHEMAS, schema};
 pub use stack::{marks, stack_used};
-pub use timing::{Room, copy_all, time};
+pub use timing::{Call, Room, copy_all, times};
 pub use worst::worst;
 
 /// Records in a schema.

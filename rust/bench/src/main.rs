@@ -3,13 +3,14 @@
 //! a plain copy of the same bytes. Then the same for trees that are built to be bad, for the index
 //! and for the look-up that forgets case, and the stack that each entry uses.
 
-use bench::{Room, Row, SCHEMAS, SIZES, deepest, marks, rows, time, worst, worst_folded};
-use cases::Operations;
+use std::hint::black_box;
+
+use bench::{Call, Room, Row, SCHEMAS, SIZES, deepest, marks, rows, times, worst, worst_folded};
 use oracle::Iceberg;
 use port::Port;
 
 fn main() {
-    println!("microseconds of processor time of one call, best of 20 rounds; {}", machine());
+    println!("microseconds of processor time of one call, best of 50 rounds; {}", machine());
     if cfg!(debug_assertions) {
         println!(
             "this is no release build, so its times say nothing: cargo run --profile bench -p bench"
@@ -44,9 +45,11 @@ fn table(rows: impl IntoIterator<Item = Row>, iceberg: Option<Iceberg>) {
         "{:>7} {:45}{:>12}{:>12}{:>9}{:>9}",
         "records", "", "ours", "iceberg", "times", "copy"
     );
-    for row in rows {
+    let rows: Vec<Row> = rows.into_iter().collect();
+    let calls: Vec<Option<Call>> = rows.iter().flat_map(|row| calls(row, iceberg)).collect();
+    for (row, times) in rows.iter().zip(times(&calls).chunks(3)) {
         let records = row.case.records.len() / judge::RECORD_BYTES;
-        println!("{records:>7} {:45}{}", row.what, figures(&row, iceberg));
+        println!("{records:>7} {:45}{}", row.what, figures(times));
     }
 }
 
@@ -55,22 +58,30 @@ fn machine() -> String {
     format!("{} {}, {cores} cores", std::env::consts::OS, std::env::consts::ARCH)
 }
 
-fn figures(row: &Row, iceberg: Option<Iceberg>) -> String {
-    let mut room = Room::default();
-    let ours = port::absent().is_none().then(|| timed(&mut room, row, &Port));
-    let theirs = iceberg.filter(|_| row.crate_too).map(|i| time(|| i.operate(&row.case)));
-    let copy = time(|| room.copy(&row.case));
+/// The port's call, the crate's and a copy. The port's answer is looked at first.
+fn calls(row: &Row, iceberg: Option<Iceberg>) -> [Option<Call<'_>>; 3] {
+    let case = &row.case;
+    let ours = port::absent().is_none().then(|| -> Call {
+        assert_eq!(Room::default().call(case, &Port), Some(row.refusal), "{}", row.what);
+        Box::new(|room| {
+            black_box(room.call(case, &Port));
+        })
+    });
+    let theirs = iceberg.filter(|_| row.crate_too).map(|iceberg| -> Call {
+        Box::new(move |_| {
+            black_box(iceberg.operate(case));
+        })
+    });
+    [ours, theirs, Some(Box::new(|room| room.copy(case)))]
+}
+
+fn figures(times: &[Option<f64>]) -> String {
     let shown =
         |time: Option<f64>| time.map_or(format!("{:>12}", "-"), |t| format!("{:>12.3}", t / 1e3));
-    let ratio = ours.zip(theirs).map_or("-".into(), |(o, t)| match t / o {
+    let ratio = times[0].zip(times[1]).map_or("-".into(), |(o, t)| match t / o {
         less if less < 1.0 => format!("{less:.3}"),
         more => format!("{more:.1}"),
     });
-    format!("{}{}{ratio:>9}{:>9.3}", shown(ours), shown(theirs), copy / 1e3)
-}
-
-/// The time of an operation; its answer is looked at first.
-fn timed(room: &mut Room, row: &Row, by: &impl Operations) -> f64 {
-    assert_eq!(room.call(&row.case, by), Some(row.refusal), "{}", row.what);
-    time(|| room.call(&row.case, by))
+    let copy = times[2].map_or("-".into(), |t| format!("{:.3}", t / 1e3));
+    format!("{}{}{ratio:>9}{copy:>9}", shown(times[0]), shown(times[1]))
 }

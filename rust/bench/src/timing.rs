@@ -5,25 +5,40 @@ use std::hint::black_box;
 use cases::{Ask, Case, Operations};
 use judge::{OUT_NAMES, OUT_RECORDS};
 
-const ROUNDS: usize = 20;
-const ROUND_NANOSECONDS: i64 = 2_000_000;
+const ROUNDS: usize = 50;
+const TURN_NANOSECONDS: i64 = 1_000_000;
 
-/// Nanoseconds of one call: the best of some rounds, in this thread's own processor time, so
-/// that other work on the machine does little harm.
-pub fn time<T>(mut call: impl FnMut() -> T) -> f64 {
-    let mut calls = 1u32;
-    let mut round = || loop {
+/// What is timed; the buffers are everybody's.
+pub type Call<'a> = Box<dyn Fn(&mut Room) + 'a>;
+
+/// Nanoseconds of one call of each: the best of some rounds, in this thread's own processor time, so
+/// that other work on the machine does little harm. In a round all take turns: the machine's clock
+/// moves, and so it moves for all of them.
+pub fn times(calls: &[Option<Call>]) -> Vec<Option<f64>> {
+    let mut room = Room::default();
+    let mut counts = vec![1; calls.len()];
+    let mut best = vec![None; calls.len()];
+    for _ in 0..ROUNDS {
+        for ((call, count), best) in calls.iter().zip(&mut counts).zip(&mut best) {
+            let Some(call) = call else { continue };
+            let time = turn(|| call(&mut room), count);
+            *best = Some(best.map_or(time, |best: f64| best.min(time)));
+        }
+    }
+    best
+}
+
+/// Nanoseconds of one call, of as many as fill a turn.
+fn turn(mut call: impl FnMut(), count: &mut u32) -> f64 {
+    loop {
         let start = processor_time();
-        for _ in 0..calls {
-            black_box(call());
-        }
+        (0..*count).for_each(|_| call());
         let spent = processor_time() - start;
-        if spent >= ROUND_NANOSECONDS {
-            return spent as f64 / f64::from(calls);
+        if spent >= TURN_NANOSECONDS {
+            return spent as f64 / f64::from(*count);
         }
-        calls *= 2;
-    };
-    (0..ROUNDS).map(|_| round()).fold(f64::MAX, f64::min)
+        *count *= 2;
+    }
 }
 
 /// `timespec` of a 64-bit system.
