@@ -4,10 +4,11 @@ use Prim.Native.Nat.{ℕ}
 use mathlib.Core.Path.{_≡_, refl}
 use mathlib.Core.Bool.{true, false}
 use mathlib.Core.List.{List, [], _∷_, _++_, map}
+use mathlib.Core.Option.{Option}
 use Rattle.paper.specs.Answer.{Answer, _>>=_, lowest}
 use Rattle.paper.specs.Refusals.{last-refusal}
 use Rattle.paper.specs.Forest.{empty, size, siblings, levels, preorder, counts, mapped, _then_}
-use Rattle.paper.specs.Rows.{rows, entered, look-name, look-id, look-parent}
+use Rattle.paper.specs.Rows.{Row, rows, entered, look-name, look-id, look-parent}
 use Rattle.paper.specs.Folded.{fold, folded, matching, look-folded}
 use Rattle.paper.specs.Sound.{text, fitting, misnamed, names, ids, sound, name-bytes, within}
 use Rattle.paper.specs.Prune.{prune}
@@ -25,8 +26,9 @@ use Rattle.paper.specs.Encode as Encode
 use Rattle.paper.specs.Limits.{room, whole, sum-from, name-sum, tree-sized, pool-sized}
 use Rattle.paper.specs.Limits.{sized, sized-ids, sized-update}
 use Rattle.paper.specs.Entries.{Result, update-entry, prune-entry, renumber-entry, read}
-use Rattle.paper.specs.Entries.{find-name, find-folded, find-id, find-parent}
-use Rattle.paper.specs.Outcome.{Changed, changed, Found, found, leaves, out-records, out-names, out-identifiers}
+use Rattle.paper.specs.Entries.{find-name, find-folded, find-id, find-parent, find-ids}
+use Rattle.paper.specs.Outcome.{Changed, changed, Found, found, Searched, searched}
+use Rattle.paper.specs.Outcome.{leaves, out-records, out-names, out-identifiers, out-slots}
 use Rattle.paper.specs.Lister.{digits, decimal, signed, lines, listing, lister}
 use Rattle.paper.specs.Sample.{primitive, T-records, T-pool}
 use Rattle.paper.specs.Asked.{Lending, lending, T-lent, at-root, signed-id, answer-of, answer}
@@ -55,6 +57,10 @@ shared =
     let s = row24 1 0 1 1 0 1 0 0 ++ row24 2 0 1 0 0 0 0 0 ++ row24 3 1 0 0 0 0 0 0 in
     put-prune prune-entry (lending s (text "a") [] 3) (1 ∷ 3 ∷ []) true
 
+-- Ids 9, 1 and 99 of T, with room for so many bytes.
+abbrev three : (room : ℕ) → Answer (List (Option Row))
+three = find-ids T-records T-pool (9 ∷ 0 ∷ 0 ∷ 0 ∷ 1 ∷ 0 ∷ 0 ∷ 0 ∷ 99 ∷ 0 ∷ 0 ∷ 0 ∷ [])
+
 abbrev two-of-a-name : Lending
 two-of-a-name = tree-of (primitive "a" 1 then primitive "a" 2)
 
@@ -73,6 +79,9 @@ abbrev sought : (refusal list place found id slot : ℕ) → Found
 sought refusal list place found id slot =
     record { refusal = refusal; list = list; place = place; found = found; id = id; slot = slot }
 
+abbrev counted : (refusal list place found : ℕ) → Searched
+counted refusal list place found = record { refusal = refusal; list = list; place = place; found = found }
+
 -- ---- what is held
 
 pub record Held : Type 0 where
@@ -89,6 +98,11 @@ pub record Held : Type 0 where
       ∷ found (find-parent T-records T-pool 7) ∷ found (find-name T-records T-pool (text "day"))
       ∷ found (find-name (two-of-a-name .records) (two-of-a-name .pool) (text "a")) ∷ []
       ≡ sought 0 0 0 1 3 6 ∷ sought 0 0 0 1 9 8 ∷ sought 0 0 0 1 6 4 ∷ sought 0 0 0 0 0 0 ∷ sought 8 0 1 0 0 0 ∷ []
+  -- The four numbers of a search for many ids, and its slots: each where it is, 4,294,967,295 where none is; the old bytes behind.
+  pub searched-numbers : map searched (three 12 ∷ three 11 ∷ []) ≡ counted 0 0 0 2 ∷ counted 1 0 0 0 ∷ []
+  pub slots-are :
+      leaves out-slots (three 13) (text "thirteen bytes") ∷ leaves out-slots (three 11) (text "eleven byte") ∷ []
+      ≡ (8 ∷ 0 ∷ 0 ∷ 0 ∷ 0 ∷ 0 ∷ 0 ∷ 0 ∷ 255 ∷ 255 ∷ 255 ∷ 255 ∷ text "es") ∷ text "eleven byte" ∷ []
   -- The buffers: the answer's bytes, then the old ones; after a refusal and an empty answer all the old ones (50).
   pub buffers :
       leaves out-names (chosen (1 ∷ [])) (text "a buffer") ∷ leaves out-identifiers from-11 (1 ∷ 1 ∷ 1 ∷ 1 ∷ 1 ∷ 1 ∷ 1 ∷ 1 ∷ 1 ∷ [])
@@ -116,7 +130,7 @@ unfolding answer answer-of signed-id _>>=_ lowest size siblings levels preorder 
     ok-deletion ok-addition path-in entries-ok path-of parent-path deletion-paths addition-paths id-list
     deep row-with row roots fields decode row24 encode-records encode-names record-bytes pool-bytes Encode.id-bytes
     room whole sum-from name-sum tree-sized pool-sized sized sized-ids sized-update
-    update-entry prune-entry renumber-entry read find-name find-folded find-id find-parent changed found leaves
+    update-entry prune-entry renumber-entry read find-name find-folded find-id find-parent find-ids changed found searched out-slots leaves
     digits decimal signed lines listing lister
 pins =
     record {
@@ -124,6 +138,8 @@ pins =
       each-met = refl;
       changed-numbers = refl;
       found-numbers = refl;
+      searched-numbers = refl;
+      slots-are = refl;
       buffers = refl;
       packed = refl;
       lines-are = refl;

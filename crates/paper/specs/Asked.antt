@@ -15,7 +15,7 @@ use Rattle.paper.specs.Sound.{text, ids}
 use Rattle.paper.specs.Bytes.{turned}
 use Rattle.paper.specs.Encode.{bytes16, bytes32, encode-records, record-bytes, pool-bytes}
 use Rattle.paper.specs.Lent.{Stored, Lent}
-use Rattle.paper.specs.Entries.{Result, update-entry, prune-entry, renumber-entry, find-name, find-folded, find-id, find-parent}
+use Rattle.paper.specs.Entries.{Result, update-entry, prune-entry, renumber-entry, find-name, find-folded, find-id, find-parent, find-ids}
 use Rattle.paper.specs.Sample.{primitive, T-records, T-pool}
 
 -- ---- what is lent beside a request
@@ -86,6 +86,8 @@ pub data Ask : Type 0 where
   find-folding : String → Ask
   find-number : (id : ℕ) → Ask
   find-above : (id : ℕ) → Ask
+  -- Ids as bytes, and room for so many bytes of slots.
+  find-numbers : (ids : List ℕ) (room : ℕ) → Ask
   drop_add_ : List String → List New → Ask
   request : Lists → Ask
   choose : List ℕ → Ask
@@ -93,19 +95,23 @@ pub data Ask : Type 0 where
   -- The same of what is lent.
   of_ask_ : Lending → Ask → Ask
 
+abbrev pub find-each : List ℕ → Ask
+find-each ids = find-numbers (id-bytes ids) (length (id-bytes ids))
+
 -- ---- answers
 
 -- The signed id of an id of the definitions, which is 2^31 more. `pos n` is n, and `negsuc n` is -(n + 1).
 unfoldable pub signed-id : ℕ → ℤ
 signed-id id = cond (ltb id 2_147_483_648) (negsuc (2_147_483_647 - id)) (pos (id - 2_147_483_648))
 
--- What is answered: a tree's ids in slot order, and with an update's the last id; what is found; a refusal.
+-- What is answered: a tree's ids in slot order, and with an update's the last id; what is found; the slots of many ids; a refusal.
 infix 20 refusal_list_place_
 pub data Reply : Type 0 where
   tree : (ids : List ℤ) → Reply
   updated : (ids : List ℤ) (last : ℤ) → Reply
   found : ℤ → Reply
   nothing : Reply
+  at-slots : List (Option ℕ) → Reply
   refusal_list_place_ : ℕ → ℕ → ℕ → Reply
 
 abbrev pub ids-are : List ℕ → Reply
@@ -215,6 +221,14 @@ find-reply (ok none) = nothing
 find-reply (ok (some row)) = found (signed-id (row .field .id))
 find-reply (refused n l p) = refusal n list l place p
 
+abbrev slot-if : Option Row → Option ℕ
+slot-if none = none
+slot-if (some row) = some (row .slot)
+
+abbrev slots-reply : Answer (List (Option Row)) → Reply
+slots-reply (ok rows) = at-slots (map slot-if rows)
+slots-reply (refused n l p) = refusal n list l place p
+
 unfoldable pub answer-of : Lending → Ask → Reply
 answer-of given (renumber-from start) = tree-reply (put-renumber given start)
 answer-of given (identifiers-from start) = identifiers-reply (put-renumber given start)
@@ -222,6 +236,7 @@ answer-of given (find name) = find-reply (find-name (given .records) (given .poo
 answer-of given (find-folding name) = find-reply (find-folded (given .records) (given .pool) (text name))
 answer-of given (find-number id) = find-reply (find-id (given .records) (given .pool) id)
 answer-of given (find-above id) = find-reply (find-parent (given .records) (given .pool) id)
+answer-of given (find-numbers ids room) = slots-reply (find-ids (given .records) (given .pool) ids room)
 answer-of given (drop drops add adds) = update-reply (put-update update-entry given (lists drops adds))
 answer-of given (request asked) = update-reply (put-update update-entry given asked)
 answer-of given (choose selected) = tree-reply (put-prune prune-entry given selected false)

@@ -15,10 +15,10 @@ use Rattle.paper.specs.Bytes.{from}
 use Rattle.paper.specs.Encode.{row24, record-bytes, pool-bytes}
 use Rattle.paper.specs.Sample.{column, primitive, required, struct, listing, mapping, T-records}
 use Rattle.paper.specs.Asked.{Lending, lending, lent, T-lent, New, new, at-root, _under_, Lists, entry}
-use Rattle.paper.specs.Asked.{Ask, renumber-from, identifiers-from, find, find-folding, find-number, find-above}
+use Rattle.paper.specs.Asked.{Ask, renumber-from, identifiers-from, find, find-folding, find-number, find-above, find-numbers, find-each}
 use Rattle.paper.specs.Asked.{drop_add_, request}
 use Rattle.paper.specs.Asked.{choose, choose-full, of_ask_}
-use Rattle.paper.specs.Asked.{Reply, tree, updated, ids-are, _with-last_, found, nothing, refusal_list_place_}
+use Rattle.paper.specs.Asked.{Reply, tree, updated, ids-are, _with-last_, found, nothing, at-slots, refusal_list_place_}
 use Rattle.paper.specs.Worked.{Example, _gives_}
 
 -- ---- small trees
@@ -145,6 +145,15 @@ folded-names =
     ∷ (of tree-of (list-of (primitive "a" 3 then primitive "A" 4) then primitive "L.a" 5) ask find-folding "l.A"
     gives found (pos 5))
     ∷ (of tree-of (list-of (primitive "a" 3 then primitive "A" 4)) ask find-folding "l.A" gives refusal 21 list 0 place 3)
+    ∷ []
+
+-- 02, 2/13: the slot of each id, in the order asked, as often as it is asked; ids are signed; the tree is tested if none is asked.
+abbrev many-ids : List Example
+many-ids =
+    (find-each (9 ∷ 3 ∷ 99 ∷ 9 ∷ 6 ∷ []) gives at-slots (some 8 ∷ some 6 ∷ none ∷ some 8 ∷ some 4 ∷ []))
+    ∷ (of minus-one ask find-each (2 ∷ 4_294_967_295 ∷ 1 ∷ []) gives at-slots (some 1 ∷ some 0 ∷ none ∷ []))
+    ∷ (find-each [] gives at-slots [])
+    ∷ (of tree-of (primitive "a" 1 then primitive "a" 2) ask find-each [] gives refusal 8 list 0 place 1)
     ∷ []
 
 abbrev updates : List Example
@@ -277,7 +286,7 @@ byte-rules =
 -- The limits: what is still let through, and one more.
 abbrev pub limits : List Example
 limits =
-    -- 64 deletions, additions, identifiers; 1,024 selected ids.
+    -- 64 deletions, additions, identifiers; 1,024 selected ids, and as many asked for.
     (lists-are (zeros 512) [] (tree-of empty) gives refusal 3 list 2 place 0)
     ∷ (lists-are (zeros 520) [] (tree-of empty) gives refusal 2 list 0 place 0)
     ∷ (lists-are [] (zeros 512) (tree-of empty) gives refusal 10 list 3 place 0)
@@ -286,6 +295,8 @@ limits =
     ∷ (of lent empty (zeros 65) 0 ask drop [] add [] gives refusal 2 list 0 place 0)
     ∷ (of tree-of empty ask choose (zeros 1024) gives ids-are [])
     ∷ (of tree-of empty ask choose (zeros 1025) gives refusal 2 list 0 place 0)
+    ∷ (of tree-of empty ask find-each (zeros 1024) gives at-slots (replicate 1024 none))
+    ∷ (of tree-of empty ask find-each (zeros 1025) gives refusal 2 list 0 place 0)
     -- 32,768 bytes in a pool, and as the sum of the name lengths, whatever else the records hold; 1,024 records.
     ∷ (of lending [] (zeros 32768) [] 0 ask find "a" gives nothing)
     ∷ (of lending [] (zeros 32769) [] 0 ask find "a" gives refusal 2 list 0 place 0)
@@ -314,6 +325,7 @@ number-told (tree i) = 0
 number-told (updated i last) = 0
 number-told (found i) = 0
 number-told nothing = 0
+number-told (at-slots s) = 0
 number-told (refusal n list l place p) = n
 
 -- From 1 to the last.
@@ -349,7 +361,7 @@ met =
 abbrev each-tells : Lending → Reply → List Example
 each-tells given told =
     map (λ q. (of given ask q) gives told)
-    ((drop [] add []) ∷ choose [] ∷ renumber-from 1 ∷ find "a" ∷ find-folding "a" ∷ find-number 1 ∷ find-above 1 ∷ [])
+    ((drop [] add []) ∷ choose [] ∷ renumber-from 1 ∷ find "a" ∷ find-folding "a" ∷ find-number 1 ∷ find-above 1 ∷ find-each [] ∷ [])
 
 -- Of the base: 2 and 3; 3 and 4; 4 and 5; 5 and 6; 6 and 7; 7 and 8. 8 and 21. 1 and 2, where there are buffers.
 abbrev base-order : List Example
@@ -362,7 +374,7 @@ base-order =
     ++ each-tells (tree-of (primitive "a" 1 then primitive "a" 2 then primitive "b" 1)) (refusal 7 list 0 place 2)
     ++ (of tree-of (primitive "a" 1 then primitive "A" 2 then primitive "a" 3) ask find-folding "a" gives refusal 8 list 0 place 2)
     ∷ map (λ q. (of narrow (longer empty) ask q) gives refusal 1 list 0 place 0)
-    ((drop [] add []) ∷ choose [] ∷ renumber-from 1 ∷ [])
+    ((drop [] add []) ∷ choose [] ∷ renumber-from 1 ∷ find-numbers (zeros 4) 3 ∷ [])
 
 -- No record, and identifiers of 3 bytes.
 abbrev three-bytes : Lending
@@ -387,6 +399,11 @@ own-order =
     ∷ (of with-room 24576 32768 2 three-bytes ask renumber-from 1 gives refusal 1 list 0 place 0)  -- 1
     ∷ (of with-room 24576 32768 3 three-bytes ask renumber-from 1 gives refusal 2 list 0 place 0)
     ∷ (of with-room 24576 32767 0 (tree-of empty) ask drop [] add [] gives refusal 1 list 0 place 0)
+    -- The same of ids that are asked for; and their 2 comes before 3 of the base.
+    ∷ (find-numbers (zeros 3) 2 gives refusal 1 list 0 place 0)
+    ∷ (find-numbers (zeros 3) 3 gives refusal 2 list 0 place 0)
+    ∷ (find-numbers (zeros 4) 3 gives refusal 1 list 0 place 0)
+    ∷ (of tree-of (odd "a" 1) ask find-numbers (zeros 3) 3 gives refusal 2 list 0 place 0)
     ∷ []
 
 -- Of an update's lists: base 6 and additions tree 3; its 3 and 4; 4 and 5; 5 and 6; its 6 and deletions 3; their 3 and 4; their
@@ -438,4 +455,4 @@ decided-order =
     ∷ []
 
 abbrev pub pinned : List Example
-pinned = names ++ folded-names ++ updates ++ others ++ byte-rules ++ met ++ base-order ++ own-order ++ lists-order ++ decided-order
+pinned = names ++ folded-names ++ many-ids ++ updates ++ others ++ byte-rules ++ met ++ base-order ++ own-order ++ lists-order ++ decided-order
