@@ -89,7 +89,7 @@ changed-told (ok r) = refl
 changed-told (refused n l p) = refl
 
 -- the numbers are laid out, and the buffers are the entry's
-pub left-told : (a : Answer Result) (buffers : List Buffer) (c : Changed) (r : ChangedNumbers) (news : List (List ℕ))
+pub left-told : (a : Answer Result) (buffers : List (Buffer Result)) (c : Changed) (r : ChangedNumbers) (news : List (List ℕ))
     → Answers changes a buffers c news → r ≡ changed-numbers c → Answers laid a buffers r news
 left-told a buffers c r news h e = record { told = e ∙ ap changed-numbers (h .told) ∙ changed-told a; left = h .left }
 

@@ -46,7 +46,7 @@ checked-refused (ok u) a r e d = let z : _≡_ {A = ℕ} 0 1 = cc in absurd (ome
 checked-refused (refused n l p) a r e d = cc
 
 -- A refusal changes no byte of any buffer.
-pub refuses : (x : Answer Result) (y : Refusal) (buffers : List Buffer) → x ≡ refused-as y
-    → Answers changes x buffers (changed.Refused y) (map (λ (buffer : Buffer). buffer .old) buffers)
+pub refuses : (x : Answer Result) (y : Refusal) (buffers : List (Buffer Result)) → x ≡ refused-as y
+    → Answers changes x buffers (changed.Refused y) (map (λ (buffer : Buffer Result). buffer .old) buffers)
 unfolding changes leaves
 refuses x y buffers e = rw e (record { told = refl; left = refl })

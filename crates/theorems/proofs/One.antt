@@ -15,7 +15,7 @@ use Rattle.laws.proofs.Basics.{ok-is}
 use Rattle.theorems.specs.Again.{ReadsAgain}
 use Rattle.theorems.specs.One.{PromisedFound, Untouched, NoByteChanges}
 
-pub one-answer : {A : Type 0} (says : Answer Result → A) (answer : Answer Result) (buffers : List Buffer)
+pub one-answer : {A : Type 0} (says : Answer Result → A) (answer : Answer Result) (buffers : List (Buffer Result))
     → (said said′ : A) (news news′ : List (List ℕ)) → Answers says answer buffers said news
     → Answers says answer buffers said′ news′ → (said ≡ said′) × (news ≡ news′)
 one-answer says answer buffers said said′ news news′ h k = (h .told ∙ sym (k .told), h .left ∙ sym (k .left))
@@ -23,7 +23,7 @@ one-answer says answer buffers said said′ news news′ h k = (h .told ∙ sym 
 pub one-found : (a : Answer (Option Row)) (x y : Found) → PromisedFound a x → PromisedFound a y → x ≡ y
 one-found a x y p q = p ∙ sym q
 
-told-untouched : (answer : Answer Result) (buffers : List Buffer) (said : Changed) (news : List (List ℕ))
+told-untouched : (answer : Answer Result) (buffers : List (Buffer Result)) (said : Changed) (news : List (List ℕ))
     → Answers changed answer buffers said news → (said .refusal ≡ 0 → ⊥) → Untouched buffers news
 unfolding leaves changed
 told-untouched (ok r) buffers said news h f = absurd (f (ap (λ (c : Changed). c .refusal) (h .told)))

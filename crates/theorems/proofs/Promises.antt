@@ -177,7 +177,7 @@ renumbering-gives-each-once = renumber-numbers
 
 -- No second answer fits: two outcomes that keep the promise of an entry that writes (`Answers`) are one.
 -- `answer` is the definition's, `said` is what is told, `news` what the buffers hold afterwards;
-pub one-answer : {A : Type 0} (says : Answer Result → A) (answer : Answer Result) (buffers : List Buffer)
+pub one-answer : {A : Type 0} (says : Answer Result → A) (answer : Answer Result) (buffers : List (Buffer Result))
     → (said said′ : A) (news news′ : List (List ℕ)) → Answers says answer buffers said news
     → Answers says answer buffers said′ news′ → (said ≡ said′) × (news ≡ news′)
 one-answer = One.one-answer

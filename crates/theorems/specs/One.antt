@@ -15,17 +15,17 @@ use Rattle.paper.specs.Outcome.{Changed, changed, Found, found, Buffer, Answers
 -- ---- answers
 
 -- Each buffer is as it was.
-abbrev pub Untouched : (buffers : List Buffer) (news : List (List ℕ)) → Type 0
+abbrev pub Untouched : (buffers : List (Buffer Result)) (news : List (List ℕ)) → Type 0
 Untouched buffers news = news ≡ map (λ buffer. buffer .old) buffers
 
 -- Of an outcome that keeps an entry's promise:
 pub record NoByteChanges : Type 1 where
   -- Where the definition refuses, in whatever words it is told, no buffer changes;
-  pub refused-by : {A : Type 0} (says : Answer Result → A) (number list place : ℕ) (buffers : List Buffer)
+  pub refused-by : {A : Type 0} (says : Answer Result → A) (number list place : ℕ) (buffers : List (Buffer Result))
       → (said : A) (news : List (List ℕ)) → Answers says (refused number list place) buffers said news
       → Untouched buffers news
   -- and so where the number that is told is not 0.
-  pub told : (answer : Answer Result) (buffers : List Buffer) (said : Changed) (news : List (List ℕ))
+  pub told : (answer : Answer Result) (buffers : List (Buffer Result)) (said : Changed) (news : List (List ℕ))
       → Answers changed answer buffers said news → (said .refusal ≡ 0 → ⊥) → Untouched buffers news
 
 -- A look-up hands back its numbers alone, whichever of the four it is: the answer is any of theirs.

@@ -121,7 +121,7 @@ module _ (l : Trees) (lists : Lists) (last : ℕ) (out text : List ℕ) where
   abbrev open-first : Answer Forests
   open-first = opening l lists last (length out) (length text)
 
-  abbrev buffers : List Buffer
+  abbrev buffers : List (Buffer Result)
   buffers = for-records out ∷ for-names text ∷ []
 
   abbrev Ends-so : Changed → List ℕ → List ℕ → Type 0
