@@ -3,7 +3,7 @@ use mathlib.Core.Path.{_≡_, refl}
 use mathlib.Core.List.{map}
 use Rattle.paper.specs.Answer.{_>>=_, lowest}
 use Rattle.paper.specs.Forest.{size, siblings, preorder, counts, mapped, _then_}
-use Rattle.paper.specs.Rows.{rows, entered, look-name}
+use Rattle.paper.specs.Rows.{rows, entered, look-name, look-id}
 use Rattle.paper.specs.Sound.{fitting, misnamed, names, ids, sound}
 use Rattle.paper.specs.Prune.{prune}
 use Rattle.paper.specs.Renumber.{renumber}
@@ -16,16 +16,16 @@ use Rattle.paper.specs.Layout.{deep, row-with, row, roots}
 use Rattle.paper.specs.Decode.{fields, decode}
 use Rattle.paper.specs.Encode.{row24, encode-records, encode-names, record-bytes, pool-bytes}
 use Rattle.paper.specs.Limits.{room, whole, sum-from, name-sum, tree-sized, pool-sized, sized, sized-ids, sized-update}
-use Rattle.paper.specs.Entries.{update-entry, prune-entry, renumber-entry, read, find-name}
+use Rattle.paper.specs.Entries.{update-entry, prune-entry, renumber-entry, read, find-name, find-ids}
 use Rattle.paper.specs.Asked.{signed-id, answer-of, answer}
 use Rattle.paper.specs.Pinned.{limits}
 
 pub limits-hold : map (λ e. answer (e .asked)) limits ≡ map (λ e. e .given) limits
-unfolding answer answer-of signed-id _>>=_ lowest size siblings preorder counts mapped _then_ rows entered look-name
+unfolding answer answer-of signed-id _>>=_ lowest size siblings preorder counts mapped _then_ rows entered look-name look-id
     fitting misnamed names ids sound prune renumber planned update
     word16 word32 turned ok-bytes in-pool kind-from name-of field-at from
     ok-deletion ok-addition path-in entries-ok path-of parent-path deletion-paths addition-paths id-list
     deep row-with row roots fields decode row24 encode-records encode-names record-bytes pool-bytes
     room whole sum-from name-sum tree-sized pool-sized sized sized-ids sized-update
-    update-entry prune-entry renumber-entry read find-name
+    update-entry prune-entry renumber-entry read find-name find-ids
 limits-hold = refl
