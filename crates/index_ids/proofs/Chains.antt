@@ -61,6 +61,19 @@ module _ (p : ℕ → Bool) where
   pub below-not : (best k : ℕ) → p k ≡ false → lowest-below p best (suc k) ≡ lowest-below p best k
   below-not best k e = below-suc best k ∙ rw e
 
+  -- none passes, or one does and none below it
+  pub none-below : (best k : ℕ) → ((i : ℕ) → i < k → p i ≡ false) → lowest-below p best k ≡ best
+  none-below best zero f = below-zero best
+  none-below best (suc k) f = below-not best k (f k (omega arith)) ∙ none-below best k (λ i l. f i (omega arith))
+
+  pub one-below : (best k j : ℕ) → j < k → p j ≡ true → ((i : ℕ) → i < j → p i ≡ false) → lowest-below p best k ≡ suc j
+  one-below best zero j l e f = absurd (omega arith)
+  one-below best (suc k) j l e f = below-suc best k ∙ go (eqb-cases j k) (λ b q. one-below b k j q e f)
+    where
+      go : (j ≡ k) ⊎ (j ≡ k → ⊥) → ((b : ℕ) → j < k → lowest-below p b k ≡ suc j) → lowest-below p (pick (p k) (suc k) best) k ≡ suc j
+      go (inl i) g = rw (sym (ap p i) ∙ e) (none-below (suc k) k (λ a q. f a (omega arith)) ∙ ap suc (sym i))
+      go (inr i) g = g _ (omega arith)
+
   -- slots of other buckets can be passed over
   module _ (bucket : ℕ → ℕ) (b : ℕ) (only : (j : ℕ) → p j ≡ true → bucket j ≡ b) where
     never : (k : ℕ) → (bucket k ≡ b → ⊥) → p k ≡ false
