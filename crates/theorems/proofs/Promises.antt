@@ -20,7 +20,7 @@ use Rattle.paper.specs.Encode.{record-bytes, pool-bytes}
 use Rattle.paper.specs.Limits.{sized}
 use Rattle.paper.specs.Lent.{Stored, Lent}
 use Rattle.paper.specs.Entries.{Result, update-entry, prune-entry, renumber-entry, read, find-name, find-folded}
-use Rattle.paper.specs.Outcome.{changed, Found, Buffer, Answers}
+use Rattle.paper.specs.Outcome.{changed, searched, Found, Buffer, Answers}
 use Rattle.paper.specs.Sample.{T, T-records, T-pool}
 use Rattle.paper.specs.Asked.{AnUpdate, APruner, signed-id, answer, update-reply, _with-last_}
 use Rattle.paper.specs.Worked.{examples}
@@ -46,7 +46,7 @@ use Rattle.theorems.proofs.Ends as Ends
 use Rattle.theorems.proofs.Again.{decoded-again, update-again, prune-again, renumber-again}
 use Rattle.theorems.proofs.Again.{prune-parts, renumber-numbers}
 use Rattle.theorems.proofs.One as One
-use Rattle.theorems.proofs.Told.{refusals-told, none-accepted}
+use Rattle.theorems.proofs.Told.{refusals-told, none-accepted, none-searched}
 use Rattle.theorems.proofs.Numbered.{one-number-each}
 use Rattle.theorems.proofs.Limits.{limits-hold}
 use Rattle.theorems.proofs.Sites.{ids-are-no-slots}
@@ -177,7 +177,7 @@ renumbering-gives-each-once = renumber-numbers
 
 -- No second answer fits: two outcomes that keep the promise of an entry that writes (`Answers`) are one.
 -- `answer` is the definition's, `said` is what is told, `news` what the buffers hold afterwards;
-pub one-answer : {A : Type 0} (says : Answer Result → A) (answer : Answer Result) (buffers : List (Buffer Result))
+pub one-answer : {R A : Type 0} (says : Answer R → A) (answer : Answer R) (buffers : List (Buffer R))
     → (said said′ : A) (news news′ : List (List ℕ)) → Answers says answer buffers said news
     → Answers says answer buffers said′ news′ → (said ≡ said′) × (news ≡ news′)
 one-answer = One.one-answer
@@ -205,10 +205,15 @@ an-id-is-no-slot = ids-are-no-slots
 pub refusals-are-told : RefusalsTold
 refusals-are-told = refusals-told
 
--- So it is not taken for an acceptance, which says 0.
+-- So it is not taken for an acceptance, which says 0;
 pub zero-is-accepted : (answer : Answer Result) (n l p : ℕ) → Told answer → changed answer .refusal ≡ 0
     → answer ≡ refused n l p → ⊥
 zero-is-accepted = none-accepted
+
+-- nor is that of a search for many ids.
+pub zero-is-searched : (answer : Answer (List (Option Row))) (n l p : ℕ) → Told answer → searched answer .refusal ≡ 0
+    → answer ≡ refused n l p → ⊥
+zero-is-searched = none-searched
 
 -- No second tree fits the bytes of an answer.
 pub one-tree : (result result′ : Result) → ReadsAgain result → ReadsAgain result′
