@@ -87,6 +87,13 @@ module _ (p : ℕ → Bool) where
     skip best zero = rw (last-zero bucket b)
     skip best (suc k) = ⊎-elim (λ e. rw (last-in bucket b k e)) (λ e. rw (last-out bucket b k e, below-not best k (never k e)) (skip best k)) (eqb-cases (bucket k) b)
 
+-- A test picks the place.
+pub better-is : (t r : Bool) (at best : ℕ) → r ≡ t → r ≡ true → at ≡ pick t at best
+better-is t r at best e h = rw (sym e ∙ h)
+
+pub better-not : (t r : Bool) (at best : ℕ) → r ≡ t → r ≡ false → best ≡ pick t at best
+better-not t r at best e h = rw (sym e ∙ h)
+
 -- ---- what a search finds is a slot of those searched
 
 below-most : (p : ℕ → Bool) (b best k : ℕ) → best ≤ b → k ≤ b → lowest-below p best k ≤ b

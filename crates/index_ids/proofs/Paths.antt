@@ -1,5 +1,5 @@
 -- Laws of paths: what goes together meets the same places, places rise, and a slot stands after as many steps on whichever way.
-use mathlib.Core.Path.{_≡_, refl, sym, _∙_}
+use mathlib.Core.Path.{_≡_, refl, sym, ap, _∙_}
 use mathlib.Core.Logic.{_⊎_, inl, inr}
 use mathlib.Core.List.{List}
 use Prim.Native.Nat.{ℕ, zero, suc, _+_, _<_, _≤_}
@@ -155,4 +155,23 @@ module _ (ids : List ℕ) (t : List (List ℕ)) (none : (b : ℕ) → b < 1024 �
       record {
         head = λ x. rw (nowhere x 0) record { none = λ e i p q. absurd (omega arith); after = λ j e. absurd (omega arith); below = λ j e. absurd (omega arith); goes = λ j e. absurd (omega arith); first = λ i p q. absurd (omega arith) };
         link = λ x d l. absurd (let z = nowhere x d in omega arith);
+      }
+
+-- Rows that are as they were.
+module _ (ids : List ℕ) (t u : List (List ℕ)) (m : ℕ) (same : (r : ℕ) → r < 3 → row u r ≡ row t r) where
+  linked-kept : (b w : ℕ) → b < 2 → linked u b w ≡ linked t b w
+  unfolding linked
+  linked-kept b zero l = refl
+  linked-kept b (suc k) l = ap (λ (z : List ℕ). getD z k 0) (same (suc b) (omega arith))
+
+  met-kept : (x d : ℕ) → met u x d ≡ met t x d
+  unfolding met
+  met-kept x zero = ap (λ (z : List ℕ). getD z (bucket-of x) 0) (same 0 (omega arith))
+  met-kept x (suc d) = linked-kept (bit d x) (met u x d) (omega arith) ∙ ap (linked t (bit d x)) (met-kept x d)
+
+  pub rows-kept : IdsChained ids t m → IdsChained ids u m
+  rows-kept h =
+      record {
+        head = λ x. rw (met-kept x 0) (h .head x);
+        link = λ x d l. rw (met-kept x d, met-kept x (suc d)) (h .link x d (rw (met-kept x d) at l));
       }
