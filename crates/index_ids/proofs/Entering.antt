@@ -140,6 +140,7 @@ module _ (ids : List ℕ) (t : List (List ℕ)) (k : ℕ) (h : IdsChained ids t 
     where
       stays : (r ≡ l → b ≡ c → ⊥) → Cell r b
       stays q = else q (kept-in t k n l c (f .low) (f .small) lk r b q g)
+
       go : (r ≡ l) ⊎ (r ≡ l → ⊥) → (b ≡ c) ⊎ (b ≡ c → ⊥) → Cell r b
       go (inl p) (inl q) = here p q
       go (inl p) (inr q) = stays (λ i j. q j)
@@ -163,6 +164,7 @@ module _ (ids : List ℕ) (t : List (List ℕ)) (k : ℕ) (h : IdsChained ids t 
       goes : (i : ℕ) → met t x d ≡ suc i → met t′ x d ≡ suc i → Cell (suc (bit d x)) i → met t′ x (suc d) ≡ suc j
       goes i ei a (here p q) = absurd (let z = met-linked t x d i ei ∙ written (suc (bit d x)) i p q in omega arith)
       goes i ei a (else q z) = met-linked t′ x d i a ∙ z ∙ sym (met-linked t x d i ei) ∙ e
+
       go : (w : ℕ) → met t x d ≡ w → ((i : ℕ) → met t x d ≡ suc i → met t′ x d ≡ suc i) → met t′ x (suc d) ≡ suc j
       go zero ew g = absurd (let z = met-stops t x d ew in omega arith)
       go (suc i) ew g = goes i ew (g i ew) (link-cell x d i ew)
@@ -183,6 +185,7 @@ module _ (ids : List ℕ) (t : List (List ℕ)) (k : ℕ) (h : IdsChained ids t 
       goes : (i : ℕ) → met t x d ≡ suc i → Cell (suc (bit d x)) i → met t′ x (suc d) ≡ suc k
       goes i ei (here p q) = met-linked t′ x d i (kept-met x d i ei) ∙ written-now (suc (bit d x)) i p q
       goes i ei (else q z) = absurd (let a = met-linked t′ x d i (kept-met x d i ei) ∙ z ∙ sym (met-linked t x d i ei) ∙ e in omega arith)
+
       go : (w : ℕ) → met t x d ≡ w → (met t x d ≡ 0 → 0 < met t′ x d → met t′ x d ≡ suc k) → met t′ x (suc d) ≡ suc k
       go zero ew g = absurd (let a = past-new x d (g ew (went t′ x d (suc d) (omega arith) l)) in omega arith)
       go (suc i) ew g = goes i ew (link-cell x d i ew)
@@ -218,6 +221,7 @@ module _ (ids : List ℕ) (t : List (List ℕ)) (k : ℕ) (h : IdsChained ids t 
           together-more d x y
           (together-on d x (id-in ids j) (own-way ids t k h x d j e) y (together-back d y (id-in ids j) (own-way ids t k h y d j o)))
           (let z : l ≡ suc (bit d y) = rw (← i) el in omega arith)
+
       go : (s : ℕ) → f .steps ≡ s → Together (suc d) x y
       go zero i = absurd (let z = f .cell .head i .0 in omega arith)
       go (suc s) i =
@@ -229,8 +233,10 @@ module _ (ids : List ℕ) (t : List (List ℕ)) (k : ℕ) (h : IdsChained ids t 
     where
       a : met t y d ≡ suc j
       a = sym (met-together t d x y (together-less (suc d) x y T d (omega arith))) ∙ e
+
       b : met t y (suc d) ≡ 0
       b = sym (met-together t (suc d) x y T) ∙ e₂
+
       at : (s : ℕ) → s ≡ d → l ≡ suc (bit s y) → met t y s ≡ suc c → ⊥
       at s i el em =
           let m : met t y d ≡ suc c = rw (← i) em in
@@ -238,6 +244,7 @@ module _ (ids : List ℕ) (t : List (List ℕ)) (k : ℕ) (h : IdsChained ids t 
           let v = T .bits d (omega arith) in
           let u = a in
           q (omega arith) (omega arith)
+
       go : (s : ℕ) → f .steps ≡ s → ⊥
       go zero i = let z : met t y 0 ≡ 0 = ap (met t y) (sym i) ∙ ended in let u = a in let w = went t y 0 d (omega arith) (omega arith) in omega arith
       go (suc s) i =
@@ -259,6 +266,7 @@ module _ (ids : List ℕ) (t : List (List ℕ)) (k : ℕ) (h : IdsChained ids t 
       at : met t x 0 ≡ 0 → Cell 0 (bucket-of x) → First ids x 0 0 (suc k) (met t′ x 0)
       at e (here p q) = rw (met-head t′ x ∙ written-now 0 (bucket-of x) p q) (found-new ids x 0 0 k (met t x 0) (h .head x) e (omega arith) (same-head x p q))
       at e (else q z) = rw (met-head t′ x ∙ z ∙ sym (met-head t x) ∙ e) (found-none ids x 0 0 k (met t x 0) (h .head x) e (other-head x e q))
+
       go : (w : ℕ) → met t x 0 ≡ w → First ids x 0 0 (suc k) (met t′ x 0)
       go zero e = at e (head-cell x)
       go (suc j) e = rw (kept-met x 0 j e ∙ sym e) (found-still ids x 0 0 k (met t x 0) (h .head x) j e)
@@ -268,8 +276,10 @@ module _ (ids : List ℕ) (t : List (List ℕ)) (k : ℕ) (h : IdsChained ids t 
     where
       nothing : First ids x (suc d) (suc k) (suc k) 0
       nothing = record { none = λ e i p q. absurd (omega arith); after = λ j e. absurd (omega arith); below = λ j e. absurd (omega arith); goes = λ j e. absurd (omega arith); first = λ i p q. absurd (omega arith) }
+
       old : (j : ℕ) → met t x d ≡ suc j → First ids x (suc d) (met t x d) k (met t x (suc d))
       old j e = h .link x d (omega arith)
+
       at : (j : ℕ) → met t x d ≡ suc j → met t x (suc d) ≡ 0 → Cell (suc (bit d x)) j → First ids x (suc d) (met t x d) (suc k) (met t′ x (suc d))
       at j e e₂ (here p q) =
           rw (met-linked t′ x d j (kept-met x d j e) ∙ written-now (suc (bit d x)) j p q)
@@ -277,9 +287,11 @@ module _ (ids : List ℕ) (t : List (List ℕ)) (k : ℕ) (h : IdsChained ids t 
       at j e e₂ (else q z) =
           rw (met-linked t′ x d j (kept-met x d j e) ∙ z ∙ sym (met-linked t x d j e) ∙ e₂)
           (found-none ids x (suc d) (met t x d) k (met t x (suc d)) (old j e) e₂ (other-link x d j e e₂ q))
+
       next : (j : ℕ) → met t x d ≡ suc j → (w : ℕ) → met t x (suc d) ≡ w → First ids x (suc d) (met t x d) (suc k) (met t′ x (suc d))
       next j e zero e₂ = at j e e₂ (link-cell x d j e)
       next j e (suc i) e₂ = rw (kept-met x (suc d) i e₂ ∙ sym e₂) (found-still ids x (suc d) (met t x d) k (met t x (suc d)) (old j e) i e₂)
+
       go : (w : ℕ) → met t x d ≡ w → First ids x (suc d) (met t′ x d) (suc k) (met t′ x (suc d))
       go zero e = let a = fresh-met x d e lx in rw (a, past-new x d a) nothing
       go (suc j) e = rw (kept-met x d j e ∙ sym e) (next j e (met t x (suc d)) refl)

@@ -198,7 +198,7 @@ module _ (is : List ℕ) (t : List (List ℕ)) (k id line c bits left at : ℕ) 
   way-meets b j l ej eb q =
       let e : at ≡ suc j = omega arith in
       let g = one-below (is-id is (turned id)) 0 k j (w .first .below j (sym (w .place) ∙ e)) (sym eb ∙ q)
-          (λ i p. ne-eqb (turned id) (id-in is i) (λ z. none-here i (omega arith) (sym z))) in
+      (λ i p. ne-eqb (turned id) (id-in is i) (λ z. none-here i (omega arith) (sym z))) in
       record { found = rw g; ended = λ l c z. absurd (let y : _≡_ {A = ℕ} 0 1 = cc in omega arith) }
 
   pub way-ends : at ≤ 0 → Ends (Ended line c)

@@ -1,7 +1,9 @@
 -- What is left of the way gives the whole answer; each step asks a bit that was left.
+use Prim.Native.Nat.{_<_}
+use native.Mathlib.Omega.{arith}
 use Rattle.paper.specs.Bytes.{turned}
 use Rattle.plan.specs.Table.{numbers}
-use Rattle.index_ids.proofs.IdLaws.{Following, ids, way-falls, way-goes, way-meets}
+use Rattle.index_ids.proofs.IdLaws.{Following, ids}
 use borrow.Author.Needs.{needs}
 use Rattle.index_ids.proofs.follow.Statement.{statement}
 use Rattle.index_ids.proofs.follow.Tie as tie
@@ -26,12 +28,12 @@ follow-spec =
     (λ c. search (ids, needs))  -- index-1-same-id
     (λ c. search (ids, needs))  -- index-2-same-id
     (λ c κs. search (ids, needs))  -- same-id-requires
-    (λ c. search (ids, needs))  -- returns
+    (λ c. let l : 0 < c .before .before .before .before .loop .at = omega arith in search (ids, needs))  -- returns
     (λ c. search (ids, needs))  -- cast-line
     (λ c. search (ids, needs))  -- add-line
-    (λ c. search (ids, needs))  -- sub-left
+    (λ c. let l : 0 < c .before .before .before .before .loop .at = omega arith in search (ids, needs))  -- sub-left
     (λ c κs. search (ids, needs))  -- cell-requires-2
-    (λ c. search (ids, needs))  -- loop-less
-    (λ c. search (ids, needs))  -- loop-again
+    (λ c. let l : 0 < c .before .before .before .before .before .loop .at = omega arith in search (ids, needs))  -- loop-less
+    (λ c. let l : 0 < c .before .before .before .before .before .loop .at = omega arith in search (ids, needs))  -- loop-again
     (λ c. search (ids, needs))  -- returns-2
     )
