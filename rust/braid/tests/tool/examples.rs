@@ -58,6 +58,8 @@ fn show_shows_a_picture_an_update_look_ups_and_a_refusal() {
     assert!(said.contains("\nlast id 25\n"), "{said}");
     assert!(said.contains("visits.duration\nid 24 slot 15 visits.element.duration\n"), "{said}");
     assert!(said.contains("-i Node.Serial\nid 5 slot 1 node.serial\n"), "{said}");
+    let lines = "id 5 slot 1 node.serial\nno column has id 7\nid 24 slot 15 ";
+    assert!(said.contains(&format!("--id 5,7,24\n{lines}")), "{said}");
     assert!(said.contains("\nrefused 11 at 2 0: "), "{said}");
 }
 
