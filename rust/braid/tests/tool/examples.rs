@@ -91,6 +91,21 @@ fn the_example_t_is_01s_and_stands_on_the_page_byte_by_byte() {
 }
 
 #[test]
+fn the_page_has_the_slots_that_the_library_finds_of_its_ids() {
+    let (records, names) = cases::packed(&cases::the_tree());
+    let page = text("docs/FORMAT.md");
+    let bytes = |front: &str| -> Vec<u8> {
+        let line = page.lines().find_map(|line| line.strip_prefix(front)).expect("a line of bytes");
+        let byte = |word| u8::from_str_radix(word, 16).expect("a byte");
+        line.split_whitespace().map(byte).collect()
+    };
+    let (ids, shown) = (bytes("    ids "), bytes("    slots "));
+    let mut slots = vec![0; ids.len()];
+    let found = braidhurdle::c::find_ids(&records, &names, &ids, &mut slots).found;
+    assert_eq!((found, slots), (2, shown));
+}
+
+#[test]
 fn the_page_and_the_file_have_the_picture_that_list_draws() {
     let picture = Folder::with_t().braid("list T").answer();
     let indented: String = picture.lines().map(|line| format!("    {line}\n")).collect();
