@@ -28,11 +28,11 @@
  * an addition at the root. A list of ids is 4 bytes an id.
  *
  * Limits: 1,024 records, 16 levels, 32,768 bytes in a pool, 32,768 as the sum of a tree's name lengths, 64 deletions, 64
- * additions, 64 identifiers, 1,024 selected ids.
+ * additions, 64 identifiers, 1,024 selected ids, 1,024 ids asked for at once.
  *
- * Output buffers: at least 24,576 record bytes and 32,768 name bytes; identifiers out, as many bytes as identifiers in. On
- * acceptance the answer stands at the start of each buffer, and bytes beyond it are unchanged. On a refusal no byte of any
- * buffer is changed.
+ * Output buffers: at least 24,576 record bytes and 32,768 name bytes; identifiers out, as many bytes as identifiers in; slots
+ * out, as many bytes as ids in. On acceptance the answer stands at the start of each buffer, and bytes beyond it are unchanged.
+ * On a refusal no byte of any buffer is changed.
  *
  * Refusals have a number, a list and a place in it. BRAIDHURDLE_REFUSALS and BRAIDHURDLE_LISTS below have the numbers and their
  * meaning. The place is a slot of a tree, or a place in a list of entries or ids, counted from 0.
@@ -44,10 +44,12 @@
 #include <stdint.h>
 
 /* The version of this boundary. It changes with any name, argument, result or size here. */
-#define BRAIDHURDLE_VERSION 3
+#define BRAIDHURDLE_VERSION 4
 /* The least output buffers, in bytes. */
 #define BRAIDHURDLE_RECORD_ROOM 24576
 #define BRAIDHURDLE_NAME_ROOM 32768
+/* What stands for a slot where an id is not in the tree. No slot is so large. */
+#define BRAIDHURDLE_NO_SLOT UINT32_MAX
 
 /* Every refusal: X(number, name, what it says). Later versions may have more of them. */
 #define BRAIDHURDLE_REFUSALS(X) \
@@ -110,6 +112,13 @@ struct braidhurdle_found {
     uint32_t slot;
 };
 
+/* What a look-up of many ids answers. found is how many of them were found; an id that is asked for twice counts twice. On a
+ * refusal it is 0. */
+struct braidhurdle_searched {
+    uint32_t refusal, list, place;
+    uint32_t found;
+};
+
 /* Where a name stands in the pool. found is 0 or 1. Where there is no record, or on a refusal, offset and length are 0. */
 struct braidhurdle_name {
     uint32_t refusal, list, place;
@@ -117,9 +126,9 @@ struct braidhurdle_name {
     uint32_t offset, length;
 };
 
-/* Answers 3, the version of this boundary, which its name has too: an archive of another version has another name here. A program
+/* Answers 4, the version of this boundary, which its name has too: an archive of another version has another name here. A program
  * that refers to it therefore links with no archive whose functions are declared otherwise. */
-uint32_t braidhurdle_abi_3(void);
+uint32_t braidhurdle_abi_4(void);
 
 /* Drops and adds columns. Deletions and additions are path entries into request_pool; the k-th root of added_records belongs to
  * the k-th addition, its names too stand in request_pool, and ids in it are ignored. Ids are handed out from last_id + 1: the
@@ -161,6 +170,13 @@ struct braidhurdle_found braidhurdle_find_folded(
 /* The column of an id: that id and its slot. Refusals 2 to 8. */
 struct braidhurdle_found braidhurdle_find_id(
     const uint8_t *records, size_t records_len, const uint8_t *pool, size_t pool_len, int32_t id);
+
+/* The slots of many ids, at most 1,024; the tree is tested once for all of them. For each id out_slots gets 4 bytes, in the order
+ * of ids: the slot, little-endian, or BRAIDHURDLE_NO_SLOT where the tree has no such id. Refusals 1, where out_slots_len is below
+ * ids_len, and 2 to 8; with no ids the tree is tested too. From version 4 on. */
+struct braidhurdle_searched braidhurdle_find_ids(
+    const uint8_t *records, size_t records_len, const uint8_t *pool, size_t pool_len,
+    const uint8_t *ids, size_t ids_len, uint8_t *out_slots, size_t out_slots_len);
 
 /* The column above that of an id: its id and slot. Nothing for a root, and for an id that the tree has not. Refusals 2 to 8. */
 struct braidhurdle_found braidhurdle_find_parent(

@@ -4,7 +4,8 @@
  *     cc -std=c11 -Wall -Wextra -Werror -Iinclude examples/c/calls.c target/staticlib/libbraidhurdle.a -o target/calls
  *     target/calls
  *
- * It prints each answer, and ends with another status than 0 if one is not what 01 says, or 02 (1/13) where case is forgotten. */
+ * It prints each answer, and ends with another status than 0 if one is not what 01 says, or 02 where case is forgotten (1/13)
+ * and where many ids are looked up (2/13). */
 #include <stdio.h>
 #include <string.h>
 
@@ -124,6 +125,28 @@ static void look_ups_without_case(void)
          found(braidhurdle_find_name(TWINS, a, 1), 1, 0) && nothing(braidhurdle_find_name(T, cost, 9)));
 }
 
+static int searched(struct braidhurdle_searched s, uint32_t number, uint32_t count)
+{
+    return s.refusal == number && s.list == 0 && s.place == 0 && s.found == count;
+}
+
+static void look_ups_of_many_ids(void)
+{
+    const uint8_t ids[] = {WORD(9), WORD(99), WORD(9)}, expected[] = {WORD(8), WORD(BRAIDHURDLE_NO_SLOT), WORD(8)};
+    uint8_t slots[sizeof ids + 1];
+
+    memset(slots, UNTOUCHED, sizeof slots);
+    held("find_ids: too few bytes for slots are refused with 1, and nothing is written",
+         searched(braidhurdle_find_ids(T, ids, sizeof ids, slots, sizeof ids - 1), BRAIDHURDLE_SMALL_BUFFER, 0) &&
+             untouched(slots, slots + sizeof slots));
+    held("find_ids: ids that are not whole are refused with 2, and nothing is written",
+         searched(braidhurdle_find_ids(T, ids, sizeof ids - 1, slots, sizeof slots), BRAIDHURDLE_PAST_LIMIT, 0) &&
+             untouched(slots, slots + sizeof slots));
+    held("find_ids: of 9, 99 and 9 two are found", searched(braidhurdle_find_ids(T, ids, sizeof ids, slots, sizeof slots), 0, 2));
+    held("find_ids: they stand at slot 8, nowhere and at slot 8, and the byte behind is as it was",
+         memcmp(slots, expected, sizeof expected) == 0 && untouched(slots + sizeof expected, slots + sizeof slots));
+}
+
 static int shown(struct braidhurdle_name n, const char *name)
 {
     return n.refusal == 0 && n.found == 1 && n.length == strlen(name) && memcmp(pool + n.offset, name, n.length) == 0;
@@ -224,18 +247,21 @@ static void nulls(void)
     held("null: no name in any case", nothing(braidhurdle_find_folded(T, NOTHING)));
     held("null: no column of that name in any case", nothing(braidhurdle_find_folded(NOTHING, NOTHING, pool, 4)));
     held("null: no column of that id", nothing(braidhurdle_find_id(NOTHING, NOTHING, 1)));
+    held("null: no ids", searched(braidhurdle_find_ids(T, NOTHING, NOTHING), 0, 0));
     held("null: no column above it", nothing(braidhurdle_find_parent(NOTHING, NOTHING, 1)));
     held("null: no room is refused with 1",
          refused(braidhurdle_update(T, NOTHING, 10, NOTHING, NOTHING, NOTHING, NOTHING, NOTHING, NOTHING), 1, 0, 0) &&
              refused(braidhurdle_prune(T, NOTHING, 0, NOTHING, NOTHING), 1, 0, 0) &&
-             refused(braidhurdle_renumber(T, NOTHING, 1, NOTHING, NOTHING, NOTHING), 1, 0, 0));
+             refused(braidhurdle_renumber(T, NOTHING, 1, NOTHING, NOTHING, NOTHING), 1, 0, 0) &&
+             searched(braidhurdle_find_ids(T, t, 4, NOTHING), 1, 0));
 }
 
 int main(void)
 {
-    held("abi_3: the version is the header's", braidhurdle_abi_3() == BRAIDHURDLE_VERSION);
+    held("abi_4: the version is the header's", braidhurdle_abi_4() == BRAIDHURDLE_VERSION);
     look_ups();
     look_ups_without_case();
+    look_ups_of_many_ids();
     names_of_slots();
     updates();
     prunings();

@@ -38,6 +38,14 @@ fn main() -> Result<(), Box<dyn Error>> {
     if tree.column_by_folded_name("Visits.Fault")? == Some(fault) {
         println!("Visits.Fault is the same column, where case is forgotten");
     }
+    // Data files carry ids. All of them are looked up at once, and the tree is tested once.
+    let ids = [fault.id, FieldId(2)];
+    for (id, slot) in ids.into_iter().zip(tree.find_ids(&ids)?) {
+        match slot {
+            Some(slot) => println!("column {id} stands at slot {slot}"),
+            None => println!("column {id} is gone"),
+        }
+    }
     print("cut to it", &tree.prune(&[fault.id], Mode::Plain)?)?;
 
     // A request that can't be done says why; the tree is as it was.

@@ -12,9 +12,9 @@ const ABOUT: &str = "Schema trees kept as files: STEM.rec holds the records, STE
                      STEM.last the last id";
 
 const STATUS: &str = "\
-Exit status: 0 the answer was given; 1 a look-up found nothing; 2 refused by the
-library, with number, list and place; 3 wrong arguments, files or pictures; 4 standard
-output is closed, or can't be written.
+Exit status: 0 the answer was given; 1 a look-up found nothing, or not all ids; 2 refused
+by the library, with number, list and place; 3 wrong arguments, files or pictures; 4
+standard output is closed, or can't be written.
 
 Every subcommand has an example in its own --help. docs/FORMAT.md has the layouts.";
 
@@ -61,9 +61,10 @@ pub enum Of {
         plain: bool,
     },
     Check,
-    Find(Named),
+    Find(Vec<u8>),
     /// By a name of which case is forgotten.
     FindFolded(Vec<u8>),
+    FindIds(Vec<FieldId>),
     Parent(FieldId),
     Prune {
         keep: Vec<Named>,
@@ -106,10 +107,10 @@ pub fn given() -> Result<Ask, clap::Error> {
     let asked = match name {
         "list" => Of::List { plain: of.get_flag("plain") },
         "check" => Of::Check,
-        "find" => match of.get_one("id") {
-            Some(id) => Of::Find(Named::Id(*id)),
+        "find" => match of.get_many("id") {
+            Some(ids) => Of::FindIds(ids.copied().collect()),
             None if of.get_flag("ignore-case") => Of::FindFolded(one(of, "NAME")),
-            None => Of::Find(Named::Path(one(of, "NAME"))),
+            None => Of::Find(one(of, "NAME")),
         },
         "parent" => Of::Parent(one(of, "ID")),
         "prune" => Of::Prune { keep: named(of, "keep"), full: of.get_flag("full"), out: out(of) },
@@ -183,7 +184,7 @@ fn check() -> Command {
 
 fn find() -> Command {
     Command::new("find")
-        .about("Finds a column by its full or short name, or by its id")
+        .about("Finds a column by its full or short name, or columns by their ids")
         .arg(path("IN", "The tree to look in"))
         .arg(
             bytes(Arg::new("NAME"))
@@ -195,14 +196,17 @@ fn find() -> Command {
                 .short('i')
                 .conflicts_with("id"),
         )
-        .arg(an_id(option("id", "ID", "Finds the column of this id")).conflicts_with("NAME"))
+        .arg(ids(many("id", "ID,..", "Finds the columns of these ids")).conflicts_with("NAME"))
         .after_help(
             "Prints id, slot and full name. Status 1 where nothing is found. A name that begins\n\
              with - stands after --.\n\n\
+             Of several ids each has a line, in their order. One that no column has is told on\n\
+             standard error; the others are printed all the same, and the status is 1.\n\n\
              With -i these 26 letters fold and no others: Ä is not ä. Where two columns match,\n\
              both by their full names or both by their short ones, it is refused (21).\n\n\
              Example:\n  braid find examples/T visits.day\n  \
-             braid find examples/T -i Node.Cost\n  braid find examples/T --id 7",
+             braid find examples/T -i Node.Cost\n  braid find examples/T --id 7\n  \
+             braid find examples/T --id 3,7,10",
         )
 }
 
@@ -258,11 +262,7 @@ fn update() -> Command {
         .arg(an_id(option("last-id", "ID", "The last id consumed so far, else that of IN.last")))
         .arg(some(many("identifiers", "ID|PATH,..", "Identifiers, which no drop may find")))
         .arg(bytes(many("drop", "PATH", "Drops the column of this name, with all inside it")))
-        .arg(
-            an_id(many("drop-id", "ID,..", "Drops the columns of these ids, with all inside them"))
-                .value_delimiter(',')
-                .allow_hyphen_values(true),
-        )
+        .arg(ids(many("drop-id", "ID,..", "Drops the columns of these ids, with all inside them")))
         .arg(
             many("add", "NAME:CODE", "Adds an optional primitive of this type code")
                 .value_parser(OsStringValueParser::new().try_map(name_and_code)),
@@ -364,6 +364,11 @@ fn bytes(arg: Arg) -> Arg {
 
 fn an_id(arg: Arg) -> Arg {
     arg.value_parser(value_parser!(FieldId)).allow_negative_numbers(true)
+}
+
+/// Ids with commas between them. With a hyphen in front it is still such a list.
+fn ids(arg: Arg) -> Arg {
+    an_id(arg).value_delimiter(',').allow_hyphen_values(true)
 }
 
 /// Columns by ids and paths. With a hyphen in front it is still such a list.

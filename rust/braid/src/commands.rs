@@ -7,13 +7,12 @@ use std::path::{Path, PathBuf};
 use braidhurdle::files::{ENDINGS, FileFault, Over, Stored, Why, with_ending};
 use braidhurdle::layout::RECORD_BYTES;
 use braidhurdle::names::{quoted, shown};
-use braidhurdle::{Columns, Field, FieldId, Mode, Overlong, Refusal, Request, Slot, Tree};
+use braidhurdle::{Column, Columns, Field, FieldId, Mode, Overlong, Refusal, Request, Slot, Tree};
 
 use crate::arguments::{Added, Addition, Ask, Named, Of, Out};
 use crate::changes::{self, Changes};
 use crate::last::{self, Last};
-use crate::outline::told;
-use crate::words::{Asked, Given};
+use crate::words::{Asked, Given, told_of};
 use crate::{Fault, explain, names, near, picture, streams};
 
 /// More bytes than the picture of 1,024 columns needs.
@@ -36,12 +35,12 @@ pub fn answer(ask: Ask) -> Result<Vec<u8>, Fault> {
     match of {
         Of::List { plain } => list(&given, plain),
         Of::Check => check(&given, kept),
-        Of::Find(Named::Path(name)) => found(&given, by_name(&given, &name)?),
-        Of::Find(Named::Id(id)) => found(&given, by_id(&given, id)?),
+        Of::Find(name) => found(&given, by_name(&given, &name)?),
         Of::FindFolded(name) => {
             let given = Given { ask: Asked::Folded { name: &name }, ..given };
             found(&given, slot_of(&given, &name, tree.find_folded(&name))?)
         }
+        Of::FindIds(ids) => by_ids(&Given { ask: Asked::Ids { asked: ids.len() }, ..given }, &ids),
         Of::Parent(id) => parent(&given, id),
         Of::Prune { keep, full, out } => prune(given, &keep, full, &out),
         Of::Renumber { from, identifiers, out } => renumber(given, from, &identifiers, &out),
@@ -121,7 +120,24 @@ fn slot_of(
 
 fn by_id(given: &Given, id: FieldId) -> Result<Slot, Fault> {
     let found = given.tree.find_id(id).map_err(|why| given.refused(why))?;
-    found.ok_or_else(|| Fault::Nothing(format!("no column has id {id}")))
+    found.ok_or_else(|| Fault::Nothing(unknown(id)))
+}
+
+/// The columns of ids, a line each, of one test of the tree.
+fn by_ids(given: &Given, ids: &[FieldId]) -> Result<Vec<u8>, Fault> {
+    let columns = given.tree.columns_by_ids(ids).map_err(|why| given.refused(why))?;
+    let said = |(id, column): (&FieldId, Option<Column>)| {
+        column.map(|column| line(&column)).ok_or_else(|| unknown(*id))
+    };
+    let each: Vec<Result<String, String>> = ids.iter().zip(columns).map(said).collect();
+    if each.iter().any(Result::is_err) {
+        return Err(Fault::NotAll(each));
+    }
+    Ok(each.into_iter().flatten().collect::<String>().into())
+}
+
+fn unknown(id: FieldId) -> String {
+    format!("no column has id {id}")
 }
 
 fn parent(given: &Given, id: FieldId) -> Result<Vec<u8>, Fault> {
@@ -134,24 +150,26 @@ fn parent(given: &Given, id: FieldId) -> Result<Vec<u8>, Fault> {
     }
 }
 
-/// A column that was found: id, slot, full name.
+/// What is printed of a column that was found.
 fn found(given: &Given, slot: Slot) -> Result<Vec<u8>, Fault> {
-    let (id, name) = column(given, slot)?;
-    Ok(format!("{}\n", told(id, slot.0 as usize, &name)).into())
+    Ok(line(&column(given, slot)?).into())
 }
 
-/// The id and the full name of a column that was found.
-fn column(given: &Given, slot: Slot) -> Result<(FieldId, Vec<u8>), Fault> {
+fn line(column: &Column) -> String {
+    told_of(column) + "\n"
+}
+
+/// A column that was found.
+fn column<'a>(given: &Given<'a>, slot: Slot) -> Result<Column<'a>, Fault> {
     let column = given.tree.column(slot).map_err(|why| given.refused(why))?;
-    let column = column.expect("a slot that was found");
-    Ok((column.id, column.full_name()))
+    Ok(column.expect("a slot that was found"))
 }
 
 /// The ids of columns. One that is given as an id need not be there; a name must.
 fn ids(given: &Given, columns: &[Named]) -> Result<Vec<FieldId>, Fault> {
     let id = |named: &Named| match named {
         Named::Id(id) => Ok(*id),
-        Named::Path(path) => Ok(column(given, by_name(given, path)?)?.0),
+        Named::Path(path) => Ok(column(given, by_name(given, path)?)?.id),
     };
     columns.iter().map(id).collect()
 }
@@ -161,7 +179,7 @@ fn ids(given: &Given, columns: &[Named]) -> Result<Vec<FieldId>, Fault> {
 fn path(given: &Given, named: Named) -> Result<Vec<u8>, Fault> {
     match named {
         Named::Path(path) => Ok(path),
-        Named::Id(id) => Ok(column(given, by_id(given, id)?)?.1),
+        Named::Id(id) => Ok(column(given, by_id(given, id)?)?.full_name()),
     }
 }
 
@@ -173,7 +191,8 @@ fn prune(given: Given, keep: &[Named], full: bool, out: &Out) -> Result<Vec<u8>,
     keep.sort();
     keep.dedup();
     let mut said = String::new();
-    for id in keep.iter().filter(|id| given.tree.find_id(**id) == Ok(None)) {
+    let slots = given.tree.find_ids(&keep).map_err(|why| given.refused(why))?;
+    for (id, _) in keep.iter().zip(slots).filter(|(_, slot)| slot.is_none()) {
         said += &format!("not in {}: id {id}\n", names::file(given.stem));
     }
     said += &format!("kept {} of {} records\n", records(&tree), records(given.tree));

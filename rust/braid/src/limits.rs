@@ -2,7 +2,7 @@
 
 use braidhurdle::Field;
 use braidhurdle::layout::{
-    MOST_IDENTIFIERS, MOST_LEVELS, MOST_RECORDS, MOST_SELECTED, NAME_ROOM, RECORD_BYTES,
+    MOST_ASKED, MOST_IDENTIFIERS, MOST_LEVELS, MOST_RECORDS, MOST_SELECTED, NAME_ROOM, RECORD_BYTES,
 };
 
 use crate::outline::Outline;
@@ -24,6 +24,7 @@ pub fn passed(given: &Given) -> Vec<String> {
     limit("identifiers", given.identifiers.len(), MOST_IDENTIFIERS);
     match &given.ask {
         Asked::LookUp | Asked::Folded { .. } | Asked::Renumber { .. } => {}
+        Asked::Ids { asked } => limit("ids to find", *asked, MOST_ASKED),
         Asked::Prune { chosen } => limit("chosen ids", *chosen, MOST_SELECTED),
         Asked::Update { asked, request } => {
             limit("deletions", asked.dropped.len(), MOST_ENTRIES);

@@ -26,6 +26,8 @@ use braidhurdle::names::printed;
 enum Fault {
     /// A look-up found nothing.
     Nothing(String),
+    /// A look-up of many found not all of them: what is said of each, in their order.
+    NotAll(Vec<Result<String, String>>),
     /// The library refused.
     Refused(String),
     /// A file, a picture or an argument is not as it should be.
@@ -44,21 +46,43 @@ fn main() -> ExitCode {
         Err(_) if streams::no_output() => Err(Fault::Unsaid("standard output is closed".into())),
         Err(help) => Ok(help.render().to_string().into_bytes()),
     };
-    let fault = match answer.and_then(|text| say(&text)) {
-        Ok(()) => return ExitCode::SUCCESS,
-        Err(fault) => fault,
-    };
+    match answer.and_then(|text| say(&text)) {
+        Ok(()) => ExitCode::SUCCESS,
+        Err(fault) => told(fault).into(),
+    }
+}
+
+/// Says why there is no answer. Answers the status.
+fn told(fault: Fault) -> u8 {
     let (status, why) = match fault {
         Fault::Nothing(why) => (1, why),
+        Fault::NotAll(each) => return told_each(each),
         Fault::Refused(why) => (2, why),
         Fault::Given(why) => (3, why),
         Fault::Unsaid(why) => (4, why),
     };
+    complain(&why);
+    status
+}
+
+/// Says what was found where answers go and what was not where complaints do, line by line, so that
+/// they stand in order where both are shown.
+fn told_each(each: Vec<Result<String, String>>) -> u8 {
+    for line in each {
+        match line.map(|found| say(found.as_bytes())) {
+            Ok(Ok(())) => {}
+            Ok(Err(fault)) => return told(fault),
+            Err(why) => complain(&why),
+        }
+    }
+    1
+}
+
+fn complain(why: &str) {
     // clap repeats arguments as they are, and a terminal would obey them
     let lines: Vec<String> = why.trim_end().lines().map(|line| printed(line.as_bytes())).collect();
     // where nobody listens the status still tells
     let _ = writeln!(io::stderr(), "{}", lines.join("\n"));
-    status.into()
 }
 
 /// Prints an answer. A reader that has read enough is no fault.

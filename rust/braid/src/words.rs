@@ -26,6 +26,7 @@ pub struct Given<'a> {
 pub enum Asked<'a> {
     LookUp,
     Folded { name: &'a [u8] },
+    Ids { asked: usize },
     Prune { chosen: usize },
     Renumber { from: FieldId },
     Update { asked: changes::Asked<'a>, request: &'a Request },
@@ -258,6 +259,7 @@ impl<'a> Given<'a> {
     }
 }
 
-fn told_of(column: &Column) -> String {
+/// A column as `find` prints it.
+pub fn told_of(column: &Column) -> String {
     told(column.id, column.slot.0 as usize, &column.full_name())
 }

@@ -1,4 +1,4 @@
-//! The C functions as they are: slices in, six numbers out, nothing allocated and nothing
+//! The C functions as they are: slices in, a few numbers out, nothing allocated and nothing
 //! kept. What a function writes and what a refusal leaves is told in `include/braidhurdle.h`.
 //! The unsafe code of the crate is here, but for the room that is made on the heap.
 //!
@@ -50,6 +50,23 @@ pub struct Found {
     pub slot: u32,
 }
 
+/// The answer of a look-up of many ids.
+#[repr(C)]
+#[derive(Clone, Copy, Debug, Default, PartialEq, Eq, Hash)]
+pub struct Searched {
+    /// 0 where there is an answer, else the refusal's number.
+    pub refusal: u32,
+    /// The list that a refusal speaks of.
+    pub list: u32,
+    /// The place in that list.
+    pub place: u32,
+    /// How many of the ids were found; one that is asked for twice counts twice. 0 on a refusal.
+    pub found: u32,
+}
+
+/// What stands for a slot where an id is not in the tree. No slot is so large.
+pub const NO_SLOT: u32 = u32::MAX;
+
 /// Where a name stands in the pool. Where there is none, or on a refusal, offset and length are 0.
 #[repr(C)]
 #[derive(Clone, Copy, Debug, Default, PartialEq, Eq)]
@@ -74,9 +91,9 @@ pub struct Name {
 #[used]
 static DECLARED: unsafe extern "C" fn() -> u32 = {
     unsafe extern "C" {
-        fn braidhurdle_abi_3() -> u32;
+        fn braidhurdle_abi_4() -> u32;
     }
-    braidhurdle_abi_3
+    braidhurdle_abi_4
 };
 
 /// One function of the archive. Its arguments are lists, a number, lists, and buffers to write, in
@@ -151,6 +168,22 @@ function! {
 function! {
     /// The column of an id.
     find_id is braidhurdle_find_id(records pool; id: i32;;) -> Found
+}
+function! {
+    /// The slots of many ids, 4 bytes each in the order of `ids`, or [`NO_SLOT`] where the tree has
+    /// no such id.
+    ///
+    /// ```
+    /// use braidhurdle::c;
+    ///
+    /// let ids = [1i32, 2].map(i32::to_le_bytes);
+    /// let mut slots = [0; 9];
+    /// assert_eq!(c::find_ids(&[], &[], ids.as_flattened(), &mut slots), c::Searched::default());
+    /// // An empty tree has neither of the two. What stands behind their slots stays.
+    /// assert_eq!(slots[..4], c::NO_SLOT.to_le_bytes());
+    /// assert_eq!(slots[4..], [255, 255, 255, 255, 0]);
+    /// ```
+    find_ids is braidhurdle_find_ids(records pool ids;;; out_slots) -> Searched
 }
 function! {
     /// The column above that of an id.

@@ -122,6 +122,27 @@ impl Tree {
         self.lent().column_by_folded_name(name)
     }
 
+    /// The columns of these ids, in their order, as [`Tree::find_ids`] finds them.
+    ///
+    /// ```
+    /// # use braidhurdle::{Field, FieldId, Tree};
+    /// # let day = Field::primitive("day", 4).id(FieldId(2));
+    /// # let tree = Tree::build(&[Field::structure("visit", [day]).id(FieldId(1))])?;
+    /// let columns = tree.columns_by_ids(&[FieldId(2), FieldId(9)])?;
+    /// assert_eq!(columns[0].map(|day| day.full_name()), Some(b"visit.day".to_vec()));
+    /// assert_eq!(columns[1], None);
+    /// # Ok::<(), Box<dyn std::error::Error>>(())
+    /// ```
+    ///
+    /// # Errors
+    ///
+    /// Refusals 2 to 8; 2 is for more than 1,024 ids too.
+    pub fn columns_by_ids(&self, ids: &[FieldId]) -> Result<Vec<Option<Column<'_>>>, Refusal> {
+        let slots = self.find_ids(ids)?;
+        let columns: Vec<Column> = Columns::of_accepted(self.lent()).collect();
+        Ok(slots.into_iter().map(|slot| columns.get(slot?.0 as usize).copied()).collect())
+    }
+
     /// The roots with all that is inside them, as [`Tree::build`] takes them.
     ///
     /// # Errors

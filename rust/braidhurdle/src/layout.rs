@@ -18,6 +18,8 @@ pub const MOST_LEVELS: usize = 16;
 pub const MOST_IDENTIFIERS: usize = 64;
 /// Most selected ids.
 pub const MOST_SELECTED: usize = 1_024;
+/// Most ids that are asked for at once.
+pub const MOST_ASKED: usize = 1_024;
 /// Record bytes that an output buffer must hold.
 pub const RECORD_ROOM: usize = 24_576;
 /// Name bytes that an output buffer must hold.

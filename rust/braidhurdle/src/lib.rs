@@ -60,6 +60,8 @@
 //! assert_eq!((day.id, day.name_str()), (FieldId(2), Some("day")));
 //! // What people type may have another case. What may be either of two columns is refused.
 //! assert_eq!(tree.column_by_folded_name("Visit.DAY")?, Some(day));
+//! // Ids that a data file carries are found all at once: the tree is tested once for all.
+//! assert_eq!(tree.find_ids(&[FieldId(2), FieldId(9)])?, [Some(day.slot), None]);
 //!
 //! // A name that lies outside its pool is refused: 4, in the base, at slot 0.
 //! tree.pool.clear();

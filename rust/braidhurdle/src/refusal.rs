@@ -172,24 +172,20 @@ impl fmt::Display for Refusal {
 
 impl core::error::Error for Refusal {}
 
-impl c::Changed {
-    /// The numbers of an accepted answer.
-    ///
-    /// # Errors
-    ///
-    /// Why it was refused.
-    pub fn accepted(self) -> Result<c::Changed, Refusal> {
-        Refusal::none_or(self.refusal, self.list, self.place).map(|()| self)
-    }
+/// An answer of the C functions, unless it is refused.
+macro_rules! refusable {
+    ($($answer:ident)+) => {
+        $(impl c::$answer {
+            /// The numbers of an answer that is not refused.
+            ///
+            /// # Errors
+            ///
+            /// Why it was refused.
+            pub fn accepted(self) -> Result<c::$answer, Refusal> {
+                Refusal::none_or(self.refusal, self.list, self.place).map(|()| self)
+            }
+        })+
+    };
 }
 
-impl c::Found {
-    /// The numbers of a look-up that is not refused.
-    ///
-    /// # Errors
-    ///
-    /// Why it was refused.
-    pub fn accepted(self) -> Result<c::Found, Refusal> {
-        Refusal::none_or(self.refusal, self.list, self.place).map(|()| self)
-    }
-}
+refusable!(Changed Found Searched);

@@ -1,8 +1,9 @@
 //! Trees, lent and owned, and what can be asked of them.
 
+use alloc::vec;
 use alloc::vec::Vec;
 
-use crate::layout::{ID_BYTES, MOST_IDENTIFIERS, MOST_SELECTED, RECORD_BYTES};
+use crate::layout::{ID_BYTES, MOST_ASKED, MOST_IDENTIFIERS, MOST_SELECTED, RECORD_BYTES};
 use crate::{FieldId, Refusal, Request, RequestRef, Room, Slot, c};
 
 /// A tree of columns: 24-byte records in preorder, and the pool that holds their names. Any bytes
@@ -151,6 +152,32 @@ impl Tree {
         self.lent().find_id(id)
     }
 
+    /// The slot of each of these ids, in their order; none where the tree has no such id. The tree
+    /// is tested once for all of them, where [`Tree::find_id`] tests it for each.
+    ///
+    /// ```
+    /// use braidhurdle::{Field, FieldId, RefusalKind, Slot, Tree};
+    ///
+    /// let cost = Field::primitive("cost", 3).id(FieldId(7));
+    /// let tree = Tree::build(&[Field::structure("node", [cost]).id(FieldId(3))])?;
+    /// let slots = tree.find_ids(&[FieldId(7), FieldId(99), FieldId(3)])?;
+    /// assert_eq!(slots, [Some(Slot(1)), None, Some(Slot(0))]);
+    ///
+    /// // More than 1,024 ids at once are refused.
+    /// let refusal = tree.find_ids(&[FieldId(7); 1_025]).unwrap_err();
+    /// assert_eq!(refusal.kind(), Some(RefusalKind::PastLimit));
+    /// # Ok::<(), Box<dyn std::error::Error>>(())
+    /// ```
+    ///
+    /// # Errors
+    ///
+    /// Refusals 2 to 8; 2 is for more than 1,024 ids too.
+    pub fn find_ids(&self, ids: &[FieldId]) -> Result<Vec<Option<Slot>>, Refusal> {
+        let mut slots = vec![None; ids.len()];
+        self.lent().find_ids_in(ids, &mut slots)?;
+        Ok(slots)
+    }
+
     /// The column above that of an id. A root and an unknown id have none.
     ///
     /// # Errors
@@ -247,8 +274,8 @@ impl<'a> TreeRef<'a> {
         let (tree, start) = (self, start.0);
         let numbers = c::renumber(tree.records, tree.pool, given, start, records, names, mapped);
         let numbers = numbers.accepted()?;
-        for (id, bytes) in room.identifiers.iter_mut().zip(mapped.chunks_exact(ID_BYTES)) {
-            *id = FieldId(i32::from_le_bytes([bytes[0], bytes[1], bytes[2], bytes[3]]));
+        for (id, word) in room.identifiers.iter_mut().zip(words(mapped)) {
+            *id = FieldId(i32::from_le_bytes(word));
         }
         let room: &'r Room = room;
         let identifiers = &room.identifiers[..identifiers.len()];
@@ -281,6 +308,45 @@ impl<'a> TreeRef<'a> {
     pub fn find_id(self, id: FieldId) -> Result<Option<Slot>, Refusal> {
         let found = found(c::find_id(self.records, self.pool, id.0))?;
         Ok(found.map(|(_, slot)| slot))
+    }
+
+    /// The slot of each of these ids, in their order; none where the tree has no such id. They
+    /// stand in `slots`, which may be longer: what is behind them stays, and on a refusal all of
+    /// it. Answers how many of the ids were found.
+    ///
+    /// ```
+    /// # use braidhurdle::{Field, Tree};
+    /// use braidhurdle::{FieldId, Slot, TreeRef};
+    /// # let tree = Tree::build(&[Field::primitive("a", 4).id(FieldId(1))])?;
+    /// # let (records, pool) = (&tree.records[..], &tree.pool[..]);
+    ///
+    /// let mut slots = [None; 3];
+    /// let found = TreeRef::new(records, pool).find_ids_in(&[FieldId(2), FieldId(1)], &mut slots)?;
+    /// assert_eq!((found, slots), (1, [None, Some(Slot(0)), None]));
+    /// # Ok::<(), Box<dyn std::error::Error>>(())
+    /// ```
+    ///
+    /// # Errors
+    ///
+    /// Refusal 1 where there are fewer slots than ids; then 2 to 8, and 2 is for more than 1,024
+    /// ids too.
+    pub fn find_ids_in(
+        self,
+        ids: &[FieldId],
+        slots: &mut [Option<Slot>],
+    ) -> Result<usize, Refusal> {
+        let mut bytes = [0; ID_BYTES * (MOST_ASKED + 1)];
+        let asked = id_bytes(ids, &mut bytes);
+        // as many slots too few as there are, though not all ids be kept: 1 is told before 2
+        let missing = ids.len().saturating_sub(slots.len()).saturating_mul(ID_BYTES);
+        let mut bytes = [0; ID_BYTES * (MOST_ASKED + 1)];
+        let out = &mut bytes[..asked.len().saturating_sub(missing)];
+        let numbers = c::find_ids(self.records, self.pool, asked, out).accepted()?;
+        for (slot, word) in slots.iter_mut().zip(words(out)) {
+            let number = u32::from_le_bytes(word);
+            *slot = (number != c::NO_SLOT).then_some(Slot(number));
+        }
+        Ok(numbers.found as usize)
     }
 
     /// The column above that of an id. A root and an unknown id have none.
@@ -323,6 +389,11 @@ fn id_bytes<'b>(ids: &[FieldId], room: &'b mut [u8]) -> &'b [u8] {
         to.copy_from_slice(&id.0.to_le_bytes());
     }
     &room[..bytes]
+}
+
+/// The ids or slots of a list, as bytes.
+fn words(list: &[u8]) -> impl Iterator<Item = [u8; ID_BYTES]> {
+    list.chunks_exact(ID_BYTES).filter_map(|word| word.first_chunk().copied())
 }
 
 fn found(numbers: c::Found) -> Result<Option<(FieldId, Slot)>, Refusal> {

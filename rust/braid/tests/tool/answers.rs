@@ -56,6 +56,31 @@ fn find_goes_by_full_name_short_name_and_id() {
 }
 
 #[test]
+fn find_goes_by_many_ids_in_their_order() {
+    let folder = Folder::with_t();
+    let lines =
+        "id 10 slot 9 parts.value.price\nid 1 slot 0 node\nid 10 slot 9 parts.value.price\n";
+    for arguments in ["find T --id 10,1,10", "find --id 10,1 T --id 10", "find T --id=10,1,10"] {
+        assert_eq!(folder.braid(arguments).answer(), lines, "{arguments}");
+    }
+}
+
+#[test]
+fn of_many_ids_those_that_no_column_has_are_told_in_their_places() {
+    let folder = Folder::with_t();
+    let said = folder.braid("find T --id 11,7,-1,3,7");
+    let day = "id 7 slot 5 visits.element.day\n";
+    assert_eq!(said.status, 1);
+    assert_eq!(said.out, format!("{day}id 3 slot 6 parts\n{day}").into_bytes());
+    assert_eq!(said.err, "no column has id 11\nno column has id -1\n");
+    let said = folder.shell("braid find T --id 11,7,-1,3 2>&1");
+    let lines = format!("no column has id 11\n{day}no column has id -1\nid 3 slot 6 parts\n");
+    assert_eq!((said.status, said.out), (1, lines.into_bytes()));
+    let nothing = "no column has id 11\nno column has id 12\n";
+    assert_eq!(folder.braid("find T --id 11,12").complaint(1), nothing);
+}
+
+#[test]
 fn find_forgets_case_where_it_is_asked_to() {
     let folder = Folder::with_t();
     for arguments in
@@ -168,6 +193,8 @@ fn negative_ids_are_arguments_like_any_other() {
     let said = folder.braid("renumber T --from -5 --identifiers 1,10 --out low").answer();
     assert_eq!(said, "last id 4\nidentifiers -5,4\n");
     assert_eq!(folder.braid("find low --id -1").answer(), "id -1 slot 2 node.cost\n");
+    let both = "id -1 slot 2 node.cost\nid -5 slot 0 node\n";
+    assert_eq!(folder.braid("find low --id -1,-5").answer(), both);
     assert_eq!(folder.braid("parent low -1").answer(), "id -5 slot 0 node\n");
     folder.braid("prune low --keep -1,-2 --out less").answer();
     assert_eq!(ids(&folder, "less"), [-5, -2, -1]);

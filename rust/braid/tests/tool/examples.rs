@@ -58,6 +58,8 @@ fn show_shows_a_picture_an_update_look_ups_and_a_refusal() {
     assert!(said.contains("\nlast id 25\n"), "{said}");
     assert!(said.contains("visits.duration\nid 24 slot 15 visits.element.duration\n"), "{said}");
     assert!(said.contains("-i Node.Serial\nid 5 slot 1 node.serial\n"), "{said}");
+    let lines = "id 5 slot 1 node.serial\nno column has id 7\nid 24 slot 15 ";
+    assert!(said.contains(&format!("--id 5,7,24\n{lines}")), "{said}");
     assert!(said.contains("\nrefused 11 at 2 0: "), "{said}");
 }
 
@@ -86,6 +88,21 @@ fn the_example_t_is_01s_and_stands_on_the_page_byte_by_byte() {
     let mut blocks = page.split("```").skip(1).step_by(2);
     assert_eq!(bytes_of(blocks.next().expect("the records")), records);
     assert_eq!(bytes_of(blocks.next().expect("the names")), names);
+}
+
+#[test]
+fn the_page_has_the_slots_that_the_library_finds_of_its_ids() {
+    let (records, names) = cases::packed(&cases::the_tree());
+    let page = text("docs/FORMAT.md");
+    let bytes = |front: &str| -> Vec<u8> {
+        let line = page.lines().find_map(|line| line.strip_prefix(front)).expect("a line of bytes");
+        let byte = |word| u8::from_str_radix(word, 16).expect("a byte");
+        line.split_whitespace().map(byte).collect()
+    };
+    let (ids, shown) = (bytes("    ids "), bytes("    slots "));
+    let mut slots = vec![0; ids.len()];
+    let found = braidhurdle::c::find_ids(&records, &names, &ids, &mut slots).found;
+    assert_eq!((found, slots), (2, shown));
 }
 
 #[test]

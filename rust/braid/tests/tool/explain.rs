@@ -90,10 +90,13 @@ macro_rules! call {
 }
 
 #[test]
-fn the_two_calls_of_the_page_that_the_tool_can_not_make_answer_as_it_says() {
+fn the_calls_of_the_page_that_the_tool_can_not_make_answer_as_it_says() {
     let (records, pool) = cases::packed(&cases::the_tree());
     let (mut out_records, mut out_names) = ([0; 24_576], [0; 32_768]);
     let (one, text) = call!(c::prune(&records, &pool, &[], 0, &mut [0; 24_575], &mut [0; 32_768]));
+    assert_eq!((one.refusal, one.list, one.place), (1, 0, 0));
+    assert!(flat(&parts()[0]).contains(&flat(text)), "{text}");
+    let (one, text) = call!(c::find_ids(&records, &pool, &[7, 0, 0, 0], &mut [0; 3]));
     assert_eq!((one.refusal, one.list, one.place), (1, 0, 0));
     assert!(flat(&parts()[0]).contains(&flat(text)), "{text}");
     let (ten, text) = call!(c::update(

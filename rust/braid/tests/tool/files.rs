@@ -207,11 +207,12 @@ fn a_closed_or_full_output_has_a_status_of_its_own() {
     assert_eq!(folder.shell("braid list T >/dev/null").answer(), "");
     // a refusal and wrong arguments keep their own status where they print nothing
     assert_eq!(folder.shell("braid list >&-").status, 3);
-    let full = folder.shell("braid list T >/dev/full");
-    assert_eq!(
-        (full.status, full.err.as_str()),
-        (4, "standard output: No space left on device (os error 28)\n")
-    );
+    // of many ids one that is not found is told before the first that can't be printed
+    for (command, before) in [("list T", ""), ("find T --id 99,1,98", "no column has id 99\n")] {
+        let full = folder.shell(&format!("braid {command} >/dev/full"));
+        let words = format!("{before}standard output: No space left on device (os error 28)\n");
+        assert_eq!((full.status, full.err), (4, words), "{command}");
+    }
 }
 
 #[test]
@@ -243,6 +244,11 @@ fn wrong_arguments_end_with_status_3_and_help_with_0() {
         "find T node --id 1",
         "find T --id x",
         "find T --id 2147483648",
+        "find T --id 7,x",
+        "find T --id 7,,5",
+        "find T --id 7 5",
+        "find T --id --help",
+        "find T --id 7,node",
         "find T -i",
         "find T -i node --id 1",
         "parent T --ignore-case 7",
@@ -277,7 +283,7 @@ fn wrong_arguments_end_with_status_3_and_help_with_0() {
 fn an_id_has_no_case_to_forget() {
     let folder = Folder::with_t();
     let said = folder.braid("find T -i --id 7").complaint(3);
-    assert!(said.contains("'--ignore-case' cannot be used with '--id <ID>'"), "{said}");
+    assert!(said.contains("'--ignore-case' cannot be used with '--id <ID,..>'"), "{said}");
     let said = folder.braid("parent T -i 7").complaint(3);
     assert!(said.lines().next().is_some_and(|line| line.contains("'-i'")), "{said}");
 }

@@ -13,7 +13,7 @@ fn damaged(at: usize, value: u8, words: &str) {
     records[at] = value;
     folder.put("T", &records, &names);
     let look_ups = ["list T", "list T --plain", "check T", "find T node", "find T -i node"];
-    for arguments in look_ups.into_iter().chain(["parent T 1"]) {
+    for arguments in look_ups.into_iter().chain(["find T --id 1,99", "parent T 1"]) {
         assert_eq!(folder.braid(arguments).refusal()[0], format!("refused {words}"));
     }
     refused(&folder, "prune T --keep 1 --out U", words);
@@ -219,6 +219,7 @@ fn what_passes_a_limit_is_told_with_the_limit() {
     let ids = vec!["1"; 1_025].join(",");
     let most = "and at most 1024 may be given";
     says(&format!("prune T --keep {ids} --out U"), &format!("1025 chosen ids, {most}"));
+    says(&format!("find T --id {ids}"), &format!("1025 ids to find, {most}"));
     let ids = vec!["1"; 65].join(",");
     let most = "and at most 64 may be given";
     let renumber = format!("renumber T --from 1 --identifiers {ids} --out U");

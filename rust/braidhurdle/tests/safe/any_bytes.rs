@@ -6,7 +6,7 @@ use cases::Random;
 use crate::t::t;
 
 /// T with some of its bytes changed, or bytes without any sense.
-fn any_tree(random: &mut Random) -> Tree {
+pub fn any_tree(random: &mut Random) -> Tree {
     if random.chance(1, 3) {
         return Tree::new(random.noise(24), random.noise(40));
     }
@@ -74,6 +74,10 @@ fn lists_that_are_only_read_may_share_bytes() {
             let apart = find(&copy(&bytes), &copy(&bytes), &copy(&bytes));
             assert_eq!(find(&bytes, &bytes, &bytes), apart);
         }
+        let [mut apart, mut shared] = [0; 2].map(|byte| vec![byte; bytes.len()]);
+        let numbers = c::find_ids(&copy(&bytes), &copy(&bytes), &copy(&bytes), &mut apart);
+        assert_eq!(c::find_ids(&bytes, &bytes, &bytes, &mut shared), numbers);
+        assert_eq!(shared, apart);
     }
     let pool = t().pool;
     let request = RequestRef { pool: &pool, last_id: FieldId(10), ..RequestRef::default() };

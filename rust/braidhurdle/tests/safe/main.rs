@@ -4,6 +4,7 @@ mod any_bytes;
 mod building;
 mod examples;
 mod files;
+mod find_ids;
 mod folded;
 mod numbers;
 mod package;

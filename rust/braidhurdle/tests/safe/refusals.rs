@@ -86,6 +86,7 @@ fn numbers_that_are_in_no_table_are_shown_all_the_same() {
 fn refusal_1_is_met_by_own_buffers_alone() {
     let numbers = c::prune(&[], &[], &[], 0, &mut [0; 24_575], &mut [0; 32_768]);
     assert_eq!(numbers.accepted(), Err(refused(1, 0, 0)));
+    assert_eq!(t().lent().find_ids_in(&[FieldId(7)], &mut []), Err(refused(1, 0, 0)));
 }
 
 #[test]
