@@ -99,8 +99,6 @@ fn refusals(all: &mut Cases) {
         let title = |number: u32| format!("2/13: {number} of the base, {} ids", asked.len());
         let short = damaged(|case| case.records.truncate(239));
         all.put(&title(2), short, refused(2, 0, 0));
-        let pool = damaged(|case| case.pool.resize(32_769, b'a'));
-        all.put(&title(2), pool, refused(2, 0, 0));
         let byte = damaged(|case| case.records[5 * 24 + 14] = 1);
         all.put(&title(3), byte, refused(3, 0, 5));
         let offset = damaged(|case| case.records[6 * 24 + 5] = 1);
@@ -117,6 +115,8 @@ fn refusals(all: &mut Cases) {
     }
     let past = asking(&roots(0..1_025), &[]);
     all.put("2/13: 1,025 records", past, refused(2, 0, 0));
+    let pool = but(asking(&t, &[]), |case| case.pool.resize(32_769, b'a'));
+    all.put("2/13: a pool of 32,769 bytes", pool, refused(2, 0, 0));
 }
 
 /// 1 comes first, then 2 of the ids, then what a base can be refused for, in 01's order.
