@@ -93,6 +93,8 @@ impl Room {
             Ask::Name(name) => by.find_name(base, pool, name).refusal,
             Ask::Folded(name) => by.find_folded(base, pool, name).refusal,
             Ask::Id(id) => by.find_id(base, pool, *id).refusal,
+            // slots take no more room than names
+            Ask::Ids { ids, .. } => by.find_ids(base, pool, ids, n).refusal,
             Ask::Parent(id) => by.find_parent(base, pool, *id).refusal,
             Ask::List => return None,
         })

@@ -1,6 +1,6 @@
 //! Trees and requests made by hand.
 
-use judge::{LIST, MAP, Node, OUT_NAMES, OUT_RECORDS, PRIMITIVE, RECORD_BYTES, STRUCT};
+use judge::{ID_BYTES, LIST, MAP, Node, OUT_NAMES, OUT_RECORDS, PRIMITIVE, RECORD_BYTES, STRUCT};
 
 use crate::case::{Ask, Case};
 
@@ -183,7 +183,13 @@ pub fn renumber_by((records, pool): (Vec<u8>, Vec<u8>), identifiers: &[i32], sta
     Case { records, pool, ask }
 }
 
-/// A look-up, or the lister.
+/// A look-up of many ids, with a buffer of the least size.
+pub fn ids_by((records, pool): (Vec<u8>, Vec<u8>), ids: &[i32]) -> Case {
+    let ask = Ask::Ids { ids: id_bytes(ids), out_slots: ID_BYTES * ids.len() };
+    Case { records, pool, ask }
+}
+
+/// Any other look-up, or the lister.
 pub fn ask_of((records, pool): (Vec<u8>, Vec<u8>), ask: Ask) -> Case {
     Case { records, pool, ask }
 }

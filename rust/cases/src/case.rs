@@ -1,6 +1,6 @@
 //! A case, and what came of it.
 
-use judge::{Changed, Found, Refusal, UpdateCall};
+use judge::{Changed, Found, Refusal, Searched, UpdateCall};
 
 /// What an operation is lent: a base, and what is asked of it.
 #[derive(Clone, Debug, PartialEq, Eq)]
@@ -68,6 +68,11 @@ pub enum Ask {
     /// By name, where case is forgotten.
     Folded(Vec<u8>),
     Id(i32),
+    /// Many ids at once.
+    Ids {
+        ids: Vec<u8>,
+        out_slots: usize,
+    },
     Parent(i32),
     List,
 }
@@ -82,6 +87,7 @@ impl Ask {
             Ask::Name(_) => "name",
             Ask::Folded(_) => "folded",
             Ask::Id(_) => "id",
+            Ask::Ids { .. } => "ids",
             Ask::Parent(_) => "parent",
             Ask::List => "list",
         }
@@ -97,6 +103,7 @@ pub enum Answer {
     Renumbered { records: Vec<u8>, names: Vec<u8>, identifiers: Vec<u8> },
     Found { id: i32, slot: u32 },
     Nothing,
+    Searched { slots: Vec<u8>, found: u32 },
     Listed(Vec<u8>),
 }
 
@@ -125,6 +132,7 @@ impl Answer {
 pub enum Numbers {
     Changed(Changed),
     Found(Found),
+    Searched(Searched),
 }
 
 /// All that an operation leaves: its numbers, and its buffers from end to end.
@@ -134,6 +142,7 @@ pub struct Outcome {
     pub out_records: Vec<u8>,
     pub out_names: Vec<u8>,
     pub out_identifiers: Vec<u8>,
+    pub out_slots: Vec<u8>,
 }
 
 /// Somebody who does the operations: the second judge, or the port.
@@ -162,6 +171,7 @@ pub trait Operations {
     fn find_name(&self, records: &[u8], pool: &[u8], name: &[u8]) -> Found;
     fn find_folded(&self, records: &[u8], pool: &[u8], name: &[u8]) -> Found;
     fn find_id(&self, records: &[u8], pool: &[u8], id: i32) -> Found;
+    fn find_ids(&self, records: &[u8], pool: &[u8], ids: &[u8], out_slots: &mut [u8]) -> Searched;
     fn find_parent(&self, records: &[u8], pool: &[u8], id: i32) -> Found;
 }
 
@@ -204,6 +214,9 @@ impl Operations for ByJudge {
     fn find_id(&self, records: &[u8], pool: &[u8], id: i32) -> Found {
         judge::find_id(records, pool, id)
     }
+    fn find_ids(&self, records: &[u8], pool: &[u8], ids: &[u8], out_slots: &mut [u8]) -> Searched {
+        judge::find_ids(records, pool, ids, out_slots)
+    }
     fn find_parent(&self, records: &[u8], pool: &[u8], id: i32) -> Found {
         judge::find_parent(records, pool, id)
     }
@@ -219,7 +232,7 @@ fn filled(bytes: usize) -> Vec<u8> {
 
 /// All that an operation leaves on a case; none for the lister, which is no operation of the port.
 pub fn outcome(case: &Case, by: &impl Operations) -> Option<Outcome> {
-    let (mut r, mut n, mut i) = (vec![], vec![], vec![]);
+    let (mut r, mut n, mut i, mut s) = (vec![], vec![], vec![], vec![]);
     let (records, pool) = (&case.records[..], &case.pool[..]);
     let numbers = match &case.ask {
         Ask::Update { out_records, out_names, .. } => {
@@ -238,10 +251,14 @@ pub fn outcome(case: &Case, by: &impl Operations) -> Option<Outcome> {
         Ask::Name(name) => Numbers::Found(by.find_name(records, pool, name)),
         Ask::Folded(name) => Numbers::Found(by.find_folded(records, pool, name)),
         Ask::Id(id) => Numbers::Found(by.find_id(records, pool, *id)),
+        Ask::Ids { ids, out_slots } => {
+            s = filled(*out_slots);
+            Numbers::Searched(by.find_ids(records, pool, ids, &mut s))
+        }
         Ask::Parent(id) => Numbers::Found(by.find_parent(records, pool, *id)),
         Ask::List => return None,
     };
-    Some(Outcome { numbers, out_records: r, out_names: n, out_identifiers: i })
+    Some(Outcome { numbers, out_records: r, out_names: n, out_identifiers: i, out_slots: s })
 }
 
 /// The second judge's answer to a case.
@@ -261,6 +278,7 @@ pub fn shown(case: &Case, o: &Outcome) -> Answer {
     let (refusal, list, place) = match o.numbers {
         Numbers::Changed(c) => (c.refusal, c.list, c.place),
         Numbers::Found(f) => (f.refusal, f.list, f.place),
+        Numbers::Searched(s) => (s.refusal, s.list, s.place),
     };
     if refusal != 0 {
         return Answer::Refused(Refusal { number: refusal, list, place });
@@ -268,6 +286,10 @@ pub fn shown(case: &Case, o: &Outcome) -> Answer {
     match o.numbers {
         Numbers::Found(f) if f.found == 0 => Answer::Nothing,
         Numbers::Found(f) => Answer::Found { id: f.id, slot: f.slot },
+        Numbers::Searched(s) => {
+            let asked = if let Ask::Ids { ids, .. } = &case.ask { ids.len() } else { 0 };
+            Answer::Searched { slots: o.out_slots[..asked].to_vec(), found: s.found }
+        }
         Numbers::Changed(c) => {
             let records = o.out_records[..c.records as usize * judge::RECORD_BYTES].to_vec();
             let names = o.out_names[..c.names as usize].to_vec();

@@ -20,6 +20,7 @@ pub fn lists(case: &mut Case) -> Vec<(&mut Vec<u8>, usize)> {
         Ask::Prune { selected, .. } => lists.push((selected, ID_BYTES)),
         Ask::Renumber { identifiers, .. } => lists.push((identifiers, ID_BYTES)),
         Ask::Name(name) | Ask::Folded(name) => lists.push((name, 1)),
+        Ask::Ids { ids, .. } => lists.push((ids, ID_BYTES)),
         Ask::Id(_) | Ask::Parent(_) | Ask::List => {}
     }
     lists

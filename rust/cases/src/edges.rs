@@ -1,15 +1,16 @@
 //! Cases at a limit and one past it.
 
 use judge::{
-    LEVELS, MOST_ADDITIONS, MOST_DELETIONS, MOST_IDENTIFIERS, MOST_RECORDS, MOST_SELECTED,
-    NAME_SUM, Node, OUT_NAMES, OUT_RECORDS, POOL_BYTES, REQUIRED,
+    LEVELS, MOST_ADDITIONS, MOST_ASKED, MOST_DELETIONS, MOST_IDENTIFIERS, MOST_RECORDS,
+    MOST_SELECTED, NAME_SUM, Node, OUT_NAMES, OUT_RECORDS, POOL_BYTES, REQUIRED,
 };
 
 use crate::build::{
-    Addition, ask_of, packed, prim, prune_by, renumber_by, request, strukt, update_by,
+    Addition, ask_of, ids_by, packed, prim, prune_by, renumber_by, request, strukt, update_by,
 };
 use crate::case::{Ask, Case};
 use crate::random::Random;
+use crate::shapes::ids_in;
 use crate::trees::{Shape, chain, give_ids, part_names, sized, tree};
 
 /// A case of an operation with one limit at its edge or one past it.
@@ -38,6 +39,13 @@ pub fn plainly(random: &mut Random, operation: &str, base: (Vec<u8>, Vec<u8>)) -
         "name" => ask_of(base, Ask::Name(b"a".to_vec())),
         "folded" => ask_of(base, Ask::Folded(b"a".to_vec())),
         "id" => ask_of(base, Ask::Id(id)),
+        "ids" => {
+            // from the last on, since that is an edge too
+            let mut asked: Vec<i32> = ids_in(&base.0).into_iter().rev().collect();
+            asked.truncate(MOST_ASKED - 1);
+            asked.push(id);
+            ids_by(base, &asked)
+        }
         "parent" => ask_of(base, Ask::Parent(id)),
         _ => ask_of(base, Ask::List),
     }
@@ -64,6 +72,7 @@ fn buffers(random: &mut Random, operation: &str) -> Case {
             near(out_names, OUT_NAMES);
             near(out_identifiers, identifiers.len());
         }
+        Ask::Ids { ids, out_slots } => near(out_slots, ids.len()),
         _ => {}
     }
     case
@@ -103,6 +112,10 @@ fn lists(random: &mut Random, operation: &str, past: usize) -> Case {
         "renumber" => {
             base[0].flags = REQUIRED;
             renumber_by(packed(&base), &vec![1; many(MOST_IDENTIFIERS, true)], 1)
+        }
+        "ids" => {
+            let asked: Vec<i32> = (0..many(MOST_ASKED, true) as i32).collect();
+            ids_by(packed(&base), &asked)
         }
         other => plainly(random, other, packed(&base)),
     };

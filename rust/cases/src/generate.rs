@@ -12,12 +12,13 @@ use crate::case::{Ask, Case};
 use crate::damage::damage;
 use crate::edges::edge;
 use crate::folded::folded;
+use crate::ids::{many_ids, turn_ids};
 use crate::random::Random;
 use crate::trees::{Shape, column, identifiers, lay, name, size, tree};
 
 /// The operations' words, in the order in which cases of a seed take turns: 01's, then 02's.
-pub const OPERATIONS: [&str; 8] =
-    ["update", "prune", "renumber", "name", "id", "parent", "list", "folded"];
+pub const OPERATIONS: [&str; 9] =
+    ["update", "prune", "renumber", "name", "id", "parent", "list", "folded", "ids"];
 
 /// How many of them are 01's. Their cases are counted among themselves, and those of any other
 /// operation for themselves, so that no case changes where an operation is added.
@@ -56,6 +57,14 @@ impl Generator {
         self.made(n).0
     }
 
+    /// The n-th case where ids share their bits, and how it was made: the same case with its ids
+    /// turned.
+    pub fn turned(&self, n: u64) -> (Case, Origin) {
+        let (mut case, origin) = self.made(n);
+        turn_ids(&mut Random::nth(!self.seed, n), &mut case);
+        (case, origin)
+    }
+
     /// The n-th case, and how it was made.
     pub fn made(&self, n: u64) -> (Case, Origin) {
         let turns = OPERATIONS.len() as u64;
@@ -90,6 +99,7 @@ fn plain(random: &mut Random, operation: &str, shape: Shape) -> Case {
         "prune" => prune(random, shape),
         "renumber" => renumber(random, shape),
         "folded" => folded(random, shape),
+        "ids" => many_ids(random, shape),
         other => {
             let roots = tree(random, shape);
             let base = lay(random, &roots);

@@ -7,6 +7,7 @@ mod damage;
 mod edges;
 mod folded;
 mod generate;
+mod ids;
 mod line;
 mod named;
 mod random;
@@ -16,8 +17,8 @@ mod tally;
 mod trees;
 
 pub use build::{
-    Addition, additions, ask_of, list_of, map_of, packed, prim, prune_by, renumber_by, request,
-    strukt, the_tree, update_of,
+    Addition, additions, ask_of, ids_by, list_of, map_of, packed, prim, prune_by, renumber_by,
+    request, strukt, the_tree, update_of,
 };
 pub use case::{Answer, Ask, ByJudge, Case, Numbers, Operations, Outcome, answer, outcome, shown};
 pub use damage::lists;

@@ -9,6 +9,7 @@
 //! name     NAME
 //! folded   NAME                     name, where case is forgotten
 //! id       ID
+//! ids      IDS OUT_SLOTS
 //! parent   ID
 //! list
 //!
@@ -17,6 +18,7 @@
 //! ok RECORDS NAMES                  prune
 //! ok RECORDS NAMES IDENTIFIERS      renumber
 //! found ID SLOT | nothing           name, folded, id, parent (the record above)
+//! ok SLOTS FOUND                    ids
 //! ok TEXT                           list
 //! ```
 
@@ -121,6 +123,7 @@ fn ask_words(ask: &Ask) -> Vec<String> {
         ],
         Ask::Name(name) | Ask::Folded(name) => vec![hex(name)],
         Ask::Id(id) | Ask::Parent(id) => vec![(*id as u32).to_string()],
+        Ask::Ids { ids, out_slots } => vec![hex(ids), out_slots.to_string()],
         Ask::List => vec![],
     }
 }
@@ -141,6 +144,7 @@ fn answer_words(answer: &Answer) -> Vec<String> {
             vec!["found".into(), (*id as u32).to_string(), slot.to_string()]
         }
         Answer::Nothing => vec!["nothing".into()],
+        Answer::Searched { slots, found } => vec!["ok".into(), hex(slots), found.to_string()],
         Answer::Listed(text) => vec!["ok".into(), hex(text)],
     }
 }
@@ -216,6 +220,7 @@ fn read_ask(operation: &str, words: &mut Words) -> Result<Ask, String> {
         "name" => Ask::Name(words.bytes()?),
         "folded" => Ask::Folded(words.bytes()?),
         "id" => Ask::Id(words.id()?),
+        "ids" => Ask::Ids { ids: words.bytes()?, out_slots: words.size()? },
         "parent" => Ask::Parent(words.id()?),
         "list" => Ask::List,
         other => return Err(format!("no operation: {other}")),
@@ -241,6 +246,9 @@ fn read_answer(ask: &Ask, words: &mut Words) -> Result<Answer, String> {
             names: words.bytes()?,
             identifiers: words.bytes()?,
         },
+        ("ok", Ask::Ids { .. }) => {
+            Answer::Searched { slots: words.bytes()?, found: words.number()? }
+        }
         ("ok", Ask::List) => Answer::Listed(words.bytes()?),
         ("found", Ask::Name(_) | Ask::Folded(_) | Ask::Id(_) | Ask::Parent(_)) => {
             Answer::Found { id: words.id()?, slot: words.number()? }

@@ -1,7 +1,7 @@
 //! The shapes of a case and its answer, which a run should meet.
 
 use judge::{
-    DEFAULT, ENTRY_BYTES, ID_BYTES, LEVELS, LIST, MAP, MOST_ADDITIONS, MOST_DELETIONS,
+    DEFAULT, ENTRY_BYTES, ID_BYTES, LEVELS, LIST, MAP, MOST_ADDITIONS, MOST_ASKED, MOST_DELETIONS,
     MOST_IDENTIFIERS, MOST_RECORDS, MOST_SELECTED, NAME_SUM, Names, POOL_BYTES, RECORD_BYTES,
     REQUIRED, Refusal, STRUCT, Tree, Unwrap, alike, read_tree,
 };
@@ -95,6 +95,21 @@ pub const SHAPES: &[&str] = &[
     "folded: 21 by equal short names without letters",
     "folded: 21 beside an exact match",
     "folded: 21 by three columns",
+    "ids: all found",
+    "ids: some found and some not",
+    "ids: none found",
+    "ids: no id",
+    "ids: an id twice",
+    "ids: a negative id",
+    "ids: 1,024 ids",
+    "ids: 1,024 records, the last found",
+    "ids: an id that differs from a found one in one bit is not found",
+    "ids: eight columns or more share ten low bits",
+    "ids: eight columns or more share 22 low bits",
+    "ids: room beyond the slots",
+    "ids: 1 by one byte",
+    "ids: 2 for the ids asked for",
+    "ids: 2 for ids that are not whole",
     "tree: 16 levels",
     "tree: 1,024 records",
     "tree: more than 900 records",
@@ -113,6 +128,8 @@ pub const SHAPES: &[&str] = &[
     "tree: the least and the largest id",
     "tree: a negative id",
     "tree: id -1",
+    "tree: two ids that share ten low bits",
+    "tree: two ids that share 22 low bits",
     "tree: names that share pool bytes",
     "tree: 2 for the records",
     "tree: 2 for the pool",
@@ -153,6 +170,7 @@ pub fn shapes_of(case: &Case, answer: &Answer) -> Vec<&'static str> {
             met("id: found", *answer != Answer::Nothing);
             met("id: nothing", *answer == Answer::Nothing);
         }
+        Ask::Ids { ids, out_slots } => ids_shapes(&tree, ids, *out_slots, answer, &mut met),
         Ask::Parent(id) => {
             let known = tree.rows.iter().any(|row| row.id == *id);
             met("parent: found", *answer != Answer::Nothing);
@@ -197,6 +215,10 @@ fn limit_shapes(case: &Case, met: &mut impl FnMut(&'static str, bool)) {
         Ask::Renumber { identifiers, .. } => {
             met("renumber: 2 for identifiers", past(identifiers, ID_BYTES, MOST_IDENTIFIERS));
         }
+        Ask::Ids { ids, .. } => {
+            met("ids: 2 for the ids asked for", past(ids, ID_BYTES, MOST_ASKED));
+            met("ids: 2 for ids that are not whole", !ids.len().is_multiple_of(ID_BYTES));
+        }
         _ => {}
     }
 }
@@ -205,6 +227,9 @@ fn limit_shapes(case: &Case, met: &mut impl FnMut(&'static str, bool)) {
 fn refused_shapes(case: &Case, refusal: Refusal, met: &mut impl FnMut(&'static str, bool)) {
     let past = |records: &[u8]| refusal.place as usize == records.len() / RECORD_BYTES;
     match (&case.ask, refusal.number, refusal.list) {
+        (Ask::Ids { ids, out_slots }, 1, _) => {
+            met("ids: 1 by one byte", out_slots + 1 == ids.len())
+        }
         (_, 2, _) => limit_shapes(case, met),
         (_, 5, judge::BASE) => {
             met("tree: 5 for level 17", !past(&case.records));
@@ -265,10 +290,52 @@ fn tree_shapes(case: &Case, tree: &Tree, met: &mut impl FnMut(&'static str, bool
     );
     met("tree: a negative id", any(&|row| row.id < 0));
     met("tree: id -1", any(&|row| row.id == -1));
+    met("tree: two ids that share ten low bits", sharing(tree, 10) > 1);
+    met("tree: two ids that share 22 low bits", sharing(tree, 22) > 1);
     met("tree: names that share pool bytes", name_sum(&case.records) > case.pool.len());
 }
 
-fn ids_in(records: &[u8]) -> Vec<i32> {
+/// How many ids, at most, have the same low bits, so many of them.
+fn sharing(tree: &Tree, bits: u32) -> usize {
+    let mut low: Vec<i32> = tree.rows.iter().map(|row| row.id << (32 - bits)).collect();
+    low.sort_unstable();
+    low.chunk_by(|one, other| one == other).map(<[i32]>::len).max().unwrap_or(0)
+}
+
+fn ids_shapes(
+    tree: &Tree,
+    asked: &[u8],
+    room: usize,
+    answer: &Answer,
+    met: &mut impl FnMut(&'static str, bool),
+) {
+    let Answer::Searched { slots, found } = answer else { return };
+    let (asked, found) = (ids_of(asked), *found as usize);
+    let slots: Vec<usize> = ids_of(slots).iter().map(|slot| *slot as u32 as usize).collect();
+    let there = |at: &usize| slots[*at] < tree.rows.len();
+    let one_bit = |at: &usize| {
+        let id = asked[*at];
+        !there(at) && tree.rows.iter().any(|row| (row.id ^ id).count_ones() == 1)
+    };
+    met("ids: no id", asked.is_empty());
+    met("ids: all found", !asked.is_empty() && found == asked.len());
+    met("ids: some found and some not", 0 < found && found < asked.len());
+    met("ids: none found", !asked.is_empty() && found == 0);
+    met("ids: an id twice", twice(asked.iter()));
+    met("ids: a negative id", (0..asked.len()).any(|at| asked[at] < 0 && there(&at)));
+    met("ids: 1,024 ids", asked.len() == MOST_ASKED);
+    met("ids: 1,024 records, the last found", slots.contains(&(MOST_RECORDS - 1)));
+    met(
+        "ids: an id that differs from a found one in one bit is not found",
+        (0..asked.len()).any(|at| one_bit(&at)),
+    );
+    met("ids: eight columns or more share ten low bits", found > 0 && sharing(tree, 10) >= 8);
+    met("ids: eight columns or more share 22 low bits", found > 0 && sharing(tree, 22) >= 8);
+    met("ids: room beyond the slots", room > asked.len() * ID_BYTES);
+}
+
+/// The ids of a list of records.
+pub fn ids_in(records: &[u8]) -> Vec<i32> {
     let id = |r: &[u8]| i32::from_le_bytes([r[0], r[1], r[2], r[3]]);
     records.chunks_exact(RECORD_BYTES).map(id).collect()
 }

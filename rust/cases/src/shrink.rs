@@ -163,6 +163,11 @@ fn smaller_asks(ask: &Ask) -> Vec<Ask> {
                 *name = less;
             }
         }),
+        Ask::Ids { ids: i, .. } => each(i, ID_BYTES, &|ask, less| {
+            if let Ask::Ids { ids, .. } = ask {
+                *ids = less;
+            }
+        }),
         Ask::Id(_) | Ask::Parent(_) | Ask::List => {}
     }
     smaller

@@ -80,6 +80,7 @@ fn possible(operation: &str) -> Vec<(u32, u32)> {
             possible.push((9, IDENTIFIERS));
         }
         "folded" => possible.extend(base(&[21])),
+        "ids" => possible.extend(base(&[1])),
         _ => {}
     }
     possible

@@ -6,7 +6,7 @@ use judge::{ENTRY_BYTES, ID_BYTES, OUT_NAMES, OUT_RECORDS, RECORD_BYTES};
 fn any_case(random: &mut Random) -> Case {
     let (records, pool) = (random.noise(RECORD_BYTES), random.noise(40));
     let (out_records, out_names) = (OUT_RECORDS, OUT_NAMES);
-    let ask = match random.below(8) {
+    let ask = match random.below(9) {
         0 => Ask::Update {
             identifiers: random.noise(ID_BYTES),
             last_id: random.any_id(),
@@ -28,6 +28,11 @@ fn any_case(random: &mut Random) -> Case {
         4 => Ask::Id(random.any_id()),
         5 => Ask::Parent(random.any_id()),
         6 => Ask::Folded(random.noise(3)),
+        7 => {
+            let ids = random.noise(ID_BYTES);
+            let out_slots = ids.len();
+            Ask::Ids { ids, out_slots }
+        }
         _ => Ask::List,
     };
     Case { records, pool, ask }
@@ -45,9 +50,15 @@ fn any_bytes_have_an_answer() {
 fn only_the_answer_is_written() {
     let generator = Generator { seed: 12, sizes: Sizes::Usual };
     let fresh = |bytes: usize| (0..bytes).map(|at| (at as u8).wrapping_mul(37) ^ 0xA5);
-    for n in 0..7_000 {
+    for n in 0..9_000 {
         let case = generator.case(n);
         let Some(left) = outcome(&case, &ByJudge) else { continue };
+        if let (Numbers::Searched(searched), Ask::Ids { ids, .. }) = (left.numbers, &case.ask) {
+            let written = if searched.refusal == 0 { ids.len() } else { 0 };
+            let beyond = left.out_slots.iter().copied().zip(fresh(left.out_slots.len()));
+            assert!(beyond.skip(written).all(|(now, then)| now == then), "case {n}");
+            assert!(searched.refusal == 0 || searched.found == 0, "case {n}");
+        }
         let Numbers::Changed(changed) = left.numbers else { continue };
         let written = [changed.records as usize * RECORD_BYTES, changed.names as usize];
         for (buffer, written) in [&left.out_records, &left.out_names].iter().zip(written) {

@@ -11,7 +11,7 @@ fn usual() -> Generator {
 #[test]
 fn every_refusal_and_every_accepted_shape_comes_up() {
     let mut tally = Tally::default();
-    for n in 0..40_000 {
+    for n in 0..45_000 {
         let (case, origin) = usual().made(n);
         tally.count(&case, origin, &answer(&case));
     }

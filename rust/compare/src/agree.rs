@@ -101,9 +101,9 @@ fn whole(case: &Case) -> bool {
                 && fit(additions, ENTRY_BYTES)
                 && fit(added_records, RECORD_BYTES)
         }
-        Ask::Prune { selected: ids, .. } | Ask::Renumber { identifiers: ids, .. } => {
-            fit(ids, ID_BYTES)
-        }
+        Ask::Prune { selected: ids, .. }
+        | Ask::Renumber { identifiers: ids, .. }
+        | Ask::Ids { ids, .. } => fit(ids, ID_BYTES),
         _ => true,
     };
     lists && fit(&case.records, RECORD_BYTES)

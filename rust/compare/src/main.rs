@@ -6,17 +6,19 @@ use cases::{Generator, Sizes};
 use compare::{Run, iceberg, recorded_list, replay};
 
 const USAGE: &str = "\
-compare run [SEED [COUNT [FROM]]]   random cases; COUNT is 80000 unless given, SEED 1, FROM 0
-compare record                      writes the recorded list to standard output
-compare replay FILE                 puts the lines of a file to the judges and the port";
+compare run [SEED [COUNT [FROM]]]     random cases; COUNT is 90000 unless given, SEED 1, FROM 0
+compare turned [SEED [COUNT [FROM]]]  the same cases with their ids turned
+compare record                        writes the recorded list to standard output
+compare replay FILE                   puts the lines of a file to the judges and the port";
 
-const COUNT: u64 = 80_000;
+const COUNT: u64 = 90_000;
 
 fn main() -> ExitCode {
     let arguments: Vec<String> = std::env::args().skip(1).collect();
     let words: Vec<&str> = arguments.iter().map(String::as_str).collect();
     let done = match words.as_slice() {
-        ["run", numbers @ ..] if numbers.len() <= 3 => random(numbers),
+        ["run", numbers @ ..] if numbers.len() <= 3 => random(numbers, false),
+        ["turned", numbers @ ..] if numbers.len() <= 3 => random(numbers, true),
         ["record"] => record(),
         ["replay", file] => replay_file(file),
         _ => Err(USAGE.into()),
@@ -33,7 +35,7 @@ fn main() -> ExitCode {
     }
 }
 
-fn random(numbers: &[&str]) -> Result<String, String> {
+fn random(numbers: &[&str], turned: bool) -> Result<String, String> {
     let number = |at: usize, usual: u64| match numbers.get(at) {
         None => Ok(usual),
         Some(word) => word.parse().map_err(|_| format!("no number: {word}\n{USAGE}")),
@@ -41,7 +43,7 @@ fn random(numbers: &[&str]) -> Result<String, String> {
     let (seed, count, from) = (number(0, 1)?, number(1, COUNT)?, number(2, 0)?);
     println!("seed {seed}, cases {from} to {}", from + count);
     let generator = Generator { seed, sizes: Sizes::Usual };
-    let run = Run::new(generator, from, count);
+    let run = Run { turned, ..Run::new(generator, from, count) };
     run.report(iceberg()).map(|report| report.to_string()).map_err(|failure| failure.to_string())
 }
 

@@ -14,7 +14,7 @@ use crate::run::check;
 /// The seed of the random part.
 const SEED: u64 = 20_260;
 /// Random cases in the list.
-const RANDOM: u64 = 3_428;
+const RANDOM: u64 = 3_856;
 
 /// Where the list stands in the repository.
 pub fn recorded_path() -> PathBuf {
@@ -32,7 +32,7 @@ pub fn recorded_list(iceberg: Iceberg) -> String {
     let generator = Generator { seed: SEED, sizes: Sizes::Small };
     let mut random: Vec<Case> = (0..RANDOM).map(|n| generator.case(n)).collect();
     // those of 02 behind the others, so that an operation more only adds lines
-    random.sort_by_key(|case| case.ask.word() == "folded");
+    random.sort_by_key(|case| ["folded", "ids"].iter().position(|word| *word == case.ask.word()));
     lines.extend(random.into_iter().map(|case| entry(case, iceberg)));
     header(&lines) + &lines.join("\n") + "\n"
 }
@@ -71,6 +71,7 @@ fn header(lines: &[String]) -> String {
 # parent   JUDGE RECORDS POOL ID = found ID SLOT (of the record above), or nothing
 # list     JUDGE RECORDS POOL = ok TEXT (every byte that the lister writes)
 # folded   JUDGE RECORDS POOL NAME = found ID SLOT, or nothing (the name where case is forgotten)
+# ids      JUDGE RECORDS POOL IDS OUT_SLOTS = ok SLOTS FOUND (4 bytes a slot, ffffffff for none)
 # any of them = refused NUMBER LIST PLACE
 #
 # Fields stand between single blanks. Byte strings are lower-case hex, - if empty. Numbers are

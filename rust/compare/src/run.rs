@@ -6,8 +6,8 @@ use std::sync::Mutex;
 use std::sync::atomic::{AtomicU64, Ordering};
 
 use cases::{
-    Answer, ByJudge, Case, Counts, Generator, OPERATIONS, Operations, Tally, answer, outcome,
-    shown, shrink,
+    Answer, ByJudge, Case, Counts, Generator, OPERATIONS, Operations, Origin, Tally, answer,
+    outcome, shown, shrink,
 };
 use oracle::Iceberg;
 use port::{Guarded, Port, beside};
@@ -109,13 +109,20 @@ pub struct Run {
     pub from: u64,
     pub count: u64,
     pub threads: usize,
+    /// Are the ids of each case turned, so that they share their bits?
+    pub turned: bool,
 }
 
 impl Run {
     /// As many threads as the machine has cores.
     pub fn new(generator: Generator, from: u64, count: u64) -> Run {
         let threads = std::thread::available_parallelism().map_or(1, usize::from);
-        Run { generator, from, count, threads }
+        Run { generator, from, count, threads, turned: false }
+    }
+
+    /// A case, and how it was made.
+    fn made(&self, n: u64) -> (Case, Origin) {
+        if self.turned { self.generator.turned(n) } else { self.generator.made(n) }
     }
 
     /// Puts the cases to the judges and the port.
@@ -168,7 +175,7 @@ impl Run {
         iceberg: Option<Iceberg>,
         by: Option<impl Operations>,
     ) -> bool {
-        let (case, origin) = self.generator.made(n);
+        let (case, origin) = self.made(n);
         let Ok(Shown { paper, agreed, port }) = check_by(&case, iceberg, by) else { return false };
         report.tally.count(&case, origin, &paper);
         if let Some(agreed) = agreed {
@@ -186,10 +193,11 @@ impl Run {
         iceberg: Option<Iceberg>,
         by: impl Fn() -> Option<O>,
     ) -> Failure {
-        let case = self.generator.case(number);
+        let (case, _) = self.made(number);
         let why = |case: &Case| check_by(case, iceberg, by()).err();
         let parted = why(&case).expect("it parted before");
-        let parted = format!("seed {}, case {number}\n{parted}", self.generator.seed);
+        let turned = if self.turned { ", ids turned" } else { "" };
+        let parted = format!("seed {}, case {number}{turned}\n{parted}", self.generator.seed);
         eprintln!("{parted}\nit is being shrunk");
         let least = shrink(&case, &|case| why(case).is_some());
         let (line, shrunk) = (line(case, iceberg).0, line(least, iceberg).0);

@@ -2,7 +2,7 @@
 
 use cases::{Ask, ByJudge, Generator, Operations, Sizes, named, outcome, read_line};
 use compare::{Run, iceberg, replay};
-use judge::{Changed, Found, RECORD_BYTES, UpdateCall};
+use judge::{Changed, Found, ID_BYTES, NO_SLOT, RECORD_BYTES, Searched, UpdateCall};
 use port::{Guarded, beside_paper};
 
 /// The second judge with its answers changed a little.
@@ -10,10 +10,14 @@ struct Altered {
     changed: fn(Changed, &mut [u8], &mut [u8]) -> Changed,
     found: fn(Found) -> Found,
     folded: Folded,
+    ids: Ids,
 }
 
 /// A look-up that forgets case.
 type Folded = fn(&[u8], &[u8], &[u8]) -> Found;
+
+/// A look-up of many ids.
+type Ids = fn(&[u8], &[u8], &[u8], &mut [u8]) -> Searched;
 
 impl Operations for Altered {
     fn update(&self, call: &UpdateCall, r: &mut [u8], n: &mut [u8]) -> Changed {
@@ -54,13 +58,21 @@ impl Operations for Altered {
     fn find_id(&self, records: &[u8], pool: &[u8], id: i32) -> Found {
         (self.found)(ByJudge.find_id(records, pool, id))
     }
+    fn find_ids(&self, records: &[u8], pool: &[u8], ids: &[u8], s: &mut [u8]) -> Searched {
+        (self.ids)(records, pool, ids, s)
+    }
     fn find_parent(&self, records: &[u8], pool: &[u8], id: i32) -> Found {
         (self.found)(ByJudge.find_parent(records, pool, id))
     }
 }
 
 fn right() -> Altered {
-    Altered { changed: |answer, _, _| answer, found: |answer| answer, folded: judge::find_folded }
+    Altered {
+        changed: |answer, _, _| answer,
+        found: |answer| answer,
+        folded: judge::find_folded,
+        ids: judge::find_ids,
+    }
 }
 
 /// How many of the named cases a port fails.
@@ -185,6 +197,84 @@ fn wrong_ways_to_forget_case_are_found() {
     ];
     for (what, folded) in wrong {
         assert!(failures(Altered { folded, ..right() }) > 0, "{what}");
+    }
+}
+
+/// A look-up of many ids in which each slot that was told is told otherwise.
+fn slots_by(
+    (records, pool, ids, out): (&[u8], &[u8], &[u8], &mut [u8]),
+    other: fn(u32) -> u32,
+) -> Searched {
+    let answer = judge::find_ids(records, pool, ids, out);
+    if answer.refusal == 0 {
+        for bytes in out[..ids.len()].chunks_exact_mut(ID_BYTES) {
+            let slot = u32::from_le_bytes(bytes.try_into().expect("four bytes"));
+            bytes.copy_from_slice(&other(slot).to_le_bytes());
+        }
+    }
+    answer
+}
+
+/// Does no id stand twice where only some bits of an id are looked at?
+fn apart(records: &[u8], bits: i32) -> bool {
+    let id = |r: &[u8]| i32::from_le_bytes([r[0], r[1], r[2], r[3]]) & bits;
+    let ids: Vec<i32> = records.chunks_exact(RECORD_BYTES).map(id).collect();
+    (1..ids.len()).all(|at| !ids[..at].contains(&ids[at]))
+}
+
+#[test]
+fn wrong_ways_to_look_up_many_ids_are_found() {
+    let wrong: [(&str, Ids); 10] = [
+        ("0 stands for none", |r, p, i, s| {
+            slots_by((r, p, i, s), |slot| if slot == NO_SLOT { 0 } else { slot })
+        }),
+        ("none stands for the last slot", |r, p, i, s| {
+            slots_by((r, p, i, s), |slot| if slot == 1_023 { NO_SLOT } else { slot })
+        }),
+        ("a slot is one byte", |r, p, i, s| {
+            slots_by((r, p, i, s), |slot| if slot == NO_SLOT { slot } else { slot & 255 })
+        }),
+        ("all that are asked for are counted", |r, p, i, s| {
+            let answer = judge::find_ids(r, p, i, s);
+            let asked = if answer.refusal == 0 { i.len() / ID_BYTES } else { 0 };
+            Searched { found: asked as u32, ..answer }
+        }),
+        ("the whole buffer is written", |r, p, i, s| {
+            let answer = judge::find_ids(r, p, i, s);
+            if answer.refusal == 0 {
+                s[i.len()..].fill(255);
+            }
+            answer
+        }),
+        ("slots are written before the tree is refused", |r, p, i, s| {
+            let answer = judge::find_ids(r, p, i, s);
+            if answer.refusal > 2 {
+                s[..i.len()].fill(255);
+            }
+            answer
+        }),
+        ("2 comes before 1", |r, p, i, s| {
+            let past = i.len() > 4 * 1_024 || !i.len().is_multiple_of(4);
+            let answer = judge::find_ids(r, p, i, s);
+            if past { judge::Refusal::new(2, 0, 0).into() } else { answer }
+        }),
+        ("the tree is not tested where no id is asked for", |r, p, i, s| match i {
+            [] => Searched::default(),
+            _ => judge::find_ids(r, p, i, s),
+        }),
+        ("the lowest ten bits alone are looked at", |r, p, i, s| {
+            let answer = judge::find_ids(r, p, i, s);
+            let again = answer.refusal == 0 && !apart(r, 1_023);
+            if again { judge::Refusal::new(7, 0, 1).into() } else { answer }
+        }),
+        ("the highest bit is not looked at", |r, p, i, s| {
+            let answer = judge::find_ids(r, p, i, s);
+            let again = answer.refusal == 0 && !apart(r, i32::MAX);
+            if again { judge::Refusal::new(7, 0, 1).into() } else { answer }
+        }),
+    ];
+    for (what, ids) in wrong {
+        assert!(failures(Altered { ids, ..right() }) > 0, "{what}");
     }
 }
 

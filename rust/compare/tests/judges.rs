@@ -20,18 +20,18 @@ fn the_judges_agree_on_every_named_case() {
 fn threads_change_nothing_in_a_report() {
     let report = |threads| {
         let generator = Generator { seed: SEED, sizes: Sizes::Usual };
-        let run = Run { threads, ..Run::new(generator, 100, 8_000) };
+        let run = Run { threads, ..Run::new(generator, 100, 9_000) };
         run.report(iceberg()).unwrap_or_else(|failure| panic!("{failure}"))
     };
     let (one, three) = (report(1), report(3));
-    assert_eq!(one.tally.cases.sum(), 8_000);
+    assert_eq!(one.tally.cases.sum(), 9_000);
     assert_eq!(one, three);
 }
 
 #[test]
 fn a_run_that_says_too_little_is_told() {
     let generator = Generator { seed: SEED, sizes: Sizes::Usual };
-    let report = Run::new(generator, 0, 800).report(iceberg()).expect("they agree");
+    let report = Run::new(generator, 0, 900).report(iceberg()).expect("they agree");
     let short = report.short_of(101, 500);
     for told in [
         "update: 100 cases, not 101",
@@ -66,7 +66,7 @@ fn the_last_id_is_the_crates_own() {
     let Some(iceberg) = iceberg() else { return };
     let generator = Generator { seed: SEED, sizes: Sizes::Usual };
     let mut shown = 0;
-    for n in (0..16_000).step_by(OPERATIONS.len()) {
+    for n in (0..18_000).step_by(OPERATIONS.len()) {
         let case = generator.case(n);
         let Verdict::Answer(cases::Answer::Updated { last_id, .. }) = iceberg.verdict(&case) else {
             continue;

@@ -9,6 +9,10 @@ const CASES: u64 = 200_000;
 const LARGE: u64 = 500;
 const SEED: u64 = 2;
 
+/// The same of the second run, in which the ids of each case share their bits.
+const TURNED: u64 = 40_000;
+const TURNED_LARGE: u64 = 100;
+
 fn from_environment(variable: &str, usual: u64) -> u64 {
     match std::env::var(variable) {
         Ok(word) => word.parse().unwrap_or_else(|_| panic!("{variable} is no number: {word}")),
@@ -22,9 +26,12 @@ fn the_port_and_both_judges_agree_at_scale() {
     let cases = from_environment("BRAIDHURDLE_CASES", CASES).max(CASES);
     let (iceberg, _) = (iceberg(), port_is_there());
     let generator = Generator { seed, sizes: Sizes::Usual };
-    let run = Run::new(generator, 0, cases * OPERATIONS.len() as u64);
-    println!("seed {seed}, {cases} cases of each operation");
-    let report = run.report(iceberg).unwrap_or_else(|failure| panic!("{failure}"));
-    println!("{report}");
-    assert_eq!(report.short_of(cases, LARGE), Vec::<String>::new());
+    for (turned, cases, large) in [(false, cases, LARGE), (true, TURNED, TURNED_LARGE)] {
+        let run = Run { turned, ..Run::new(generator, 0, cases * OPERATIONS.len() as u64) };
+        let ids = if turned { ", ids turned" } else { "" };
+        println!("seed {seed}, {cases} cases of each operation{ids}");
+        let report = run.report(iceberg).unwrap_or_else(|failure| panic!("{failure}"));
+        println!("{report}");
+        assert_eq!(report.short_of(cases, large), Vec::<String>::new());
+    }
 }

@@ -79,6 +79,23 @@ impl From<Refusal> for Found {
     }
 }
 
+/// The answer of a look-up of many ids. On a refusal the last is 0.
+#[derive(Clone, Copy, Debug, Default, PartialEq, Eq)]
+pub struct Searched {
+    /// 0 where it was answered, else the refusal's number.
+    pub refusal: u32,
+    pub list: u32,
+    pub place: u32,
+    /// How many of the ids were found; one that is asked for twice counts twice.
+    pub found: u32,
+}
+
+impl From<Refusal> for Searched {
+    fn from(r: Refusal) -> Searched {
+        Searched { refusal: r.number, list: r.list, place: r.place, ..Searched::default() }
+    }
+}
+
 impl Found {
     /// What a look-up in an accepted tree answers.
     pub fn at(what: Option<(i32, usize)>) -> Found {

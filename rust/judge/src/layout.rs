@@ -4,8 +4,11 @@
 pub const RECORD_BYTES: usize = 24;
 /// Bytes of a path entry.
 pub const ENTRY_BYTES: usize = 8;
-/// Bytes of an id in a list of ids.
+/// Bytes of an id in a list of ids, and of a slot in a list of slots.
 pub const ID_BYTES: usize = 4;
+
+/// What stands in a list of slots for an id that is not in the tree.
+pub const NO_SLOT: u32 = 4_294_967_295;
 
 /// Kind 0.
 pub const PRIMITIVE: u8 = 0;

@@ -19,6 +19,8 @@ pub const MOST_ADDITIONS: usize = 64;
 pub const MOST_IDENTIFIERS: usize = 64;
 /// Most selected ids.
 pub const MOST_SELECTED: usize = 1_024;
+/// Most ids asked for at once (02, 2/13).
+pub const MOST_ASKED: usize = 1_024;
 /// Least record bytes of an output buffer.
 pub const OUT_RECORDS: usize = 24_576;
 /// Least name bytes of an output buffer.
@@ -37,6 +39,7 @@ pub enum Lent<'a> {
     Additions(&'a [u8]),
     Identifiers(&'a [u8]),
     Selected(&'a [u8]),
+    Asked(&'a [u8]),
 }
 
 impl Lent<'_> {
@@ -51,6 +54,7 @@ impl Lent<'_> {
             Lent::Additions(b) => whole(b, ENTRY_BYTES, MOST_ADDITIONS),
             Lent::Identifiers(b) => whole(b, ID_BYTES, MOST_IDENTIFIERS),
             Lent::Selected(b) => whole(b, ID_BYTES, MOST_SELECTED),
+            Lent::Asked(b) => whole(b, ID_BYTES, MOST_ASKED),
         }
     }
 }

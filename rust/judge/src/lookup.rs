@@ -1,8 +1,9 @@
-//! Look-up by name, with case and without, by id, and of the record above.
+//! Look-up by name, with case and without, by id and by many ids, and of the record above.
 
-use crate::answer::{BASE, Found, Refusal};
+use crate::answer::{BASE, Found, Refusal, Searched};
 use crate::index::{self, Names, refusal_7, refusal_8, slot_of};
-use crate::limits::{Lent, refusal_2};
+use crate::layout::{ID_BYTES, NO_SLOT, ids};
+use crate::limits::{Lent, refusal_1, refusal_2};
 use crate::read::read_tree;
 use crate::tree::Tree;
 
@@ -45,6 +46,29 @@ pub fn find_folded(records: &[u8], pool: &[u8], name: &[u8]) -> Found {
 /// The slot of an id; the id is the one asked.
 pub fn find_id(records: &[u8], pool: &[u8], id: i32) -> Found {
     look_up(records, pool, |tree| Ok(slot_of(tree, id)))
+}
+
+/// The slots of many ids, in their order, and how many of them were found (02, 2/13).
+pub fn find_ids(records: &[u8], pool: &[u8], asked: &[u8], out_slots: &mut [u8]) -> Searched {
+    let sizes = [(out_slots.len(), asked.len())];
+    match refusal_1(&sizes).and_then(|()| slots_of(records, pool, asked)) {
+        Err(refusal) => refusal.into(),
+        Ok(slots) => {
+            for (slot, room) in slots.iter().zip(out_slots.chunks_exact_mut(ID_BYTES)) {
+                let number = slot.map_or(NO_SLOT, |slot| slot as u32);
+                room.copy_from_slice(&number.to_le_bytes());
+            }
+            let found = slots.iter().flatten().count() as u32;
+            Searched { found, ..Searched::default() }
+        }
+    }
+}
+
+/// What each id finds; the tree is tested where no id is asked for too.
+fn slots_of(records: &[u8], pool: &[u8], asked: &[u8]) -> Result<Vec<Option<usize>>, Refusal> {
+    refusal_2(&[Lent::Asked(asked)])?;
+    let tree = base(records, pool)?;
+    Ok(ids(asked).into_iter().map(|id| slot_of(&tree, id)).collect())
 }
 
 /// The id and the slot of the record above an id.

@@ -7,7 +7,7 @@ use std::panic::{AssertUnwindSafe, catch_unwind};
 use std::sync::{Arc, Once};
 
 use cases::{Answer, Ask, Case};
-use judge::Node;
+use judge::{NO_SLOT, Node};
 
 use crate::Error;
 use crate::fields::{Unfit, bytes, fields, ids, nodes, nodes_of};
@@ -116,6 +116,7 @@ pub fn verdict(case: &Case) -> Verdict {
         Ask::Name(name) => find_name(case, name, EXACT),
         Ask::Folded(name) => find_name(case, name, FOLDED),
         Ask::Id(id) => find_id(case, *id),
+        Ask::Ids { ids: asked, .. } => find_ids(case, asked),
         Ask::Parent(id) => find_parent(case, *id),
         Ask::List => list(case),
     };
@@ -131,6 +132,9 @@ pub fn operate(case: &Case) -> bool {
         Ask::Name(name) => id_of(case, name, EXACT).is_ok_and(|id| id.is_some()),
         Ask::Folded(name) => id_of(case, name, FOLDED).is_ok_and(|id| id.is_some()),
         Ask::Id(id) => build(case, &[]).is_ok_and(|schema| schema.field_by_id(*id).is_some()),
+        Ask::Ids { ids: asked, .. } => {
+            each_by_id(case, asked).is_ok_and(|each| each.iter().flatten().count() > 0)
+        }
         Ask::Parent(id) => build(case, &[]).is_ok_and(|schema| parent_of(&schema, *id).is_some()),
         Ask::List => build(case, &[]).is_ok(),
     }
@@ -330,6 +334,20 @@ fn find_name(case: &Case, name: &[u8], by: ByName) -> Stop<Answer> {
 fn find_id(case: &Case, id: i32) -> Stop<Answer> {
     let schema = build(case, &[])?;
     Ok(found(case, schema.field_by_id(id).map(|field| field.id)))
+}
+
+/// What each of many ids finds, in one schema.
+fn each_by_id(case: &Case, asked: &[u8]) -> Stop<Vec<Option<i32>>> {
+    let asked = fit(ids(asked))?;
+    let schema = build(case, &[])?;
+    Ok(asked.iter().map(|id| schema.field_by_id(*id).map(|field| field.id)).collect())
+}
+
+fn find_ids(case: &Case, asked: &[u8]) -> Stop<Answer> {
+    let each = each_by_id(case, asked)?;
+    let slot = |id: &Option<i32>| id.and_then(|id| slot_of(case, id)).unwrap_or(NO_SLOT);
+    let slots = each.iter().flat_map(|id| slot(id).to_le_bytes()).collect();
+    Ok(Answer::Searched { slots, found: each.iter().flatten().count() as u32 })
 }
 
 fn parent_of(schema: &Schema, id: i32) -> Option<i32> {

@@ -21,6 +21,7 @@ pub fn beside<O: Operations>(
         ("records", &ours.out_records, &paper.out_records),
         ("names", &ours.out_names, &paper.out_names),
         ("identifiers", &ours.out_identifiers, &paper.out_identifiers),
+        ("slots", &ours.out_slots, &paper.out_slots),
     ];
     // whole buffers first, since they are long and nearly always equal
     match buffers.into_iter().find(|(_, ours, paper)| ours != paper) {

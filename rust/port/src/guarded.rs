@@ -4,7 +4,7 @@
 use std::cell::RefCell;
 
 use cases::Operations;
-use judge::{Changed, Found, UpdateCall};
+use judge::{Changed, Found, Searched, UpdateCall};
 
 use crate::plain::Port;
 
@@ -133,6 +133,13 @@ impl<O: Operations> Operations for Guarded<O> {
 
     fn find_id(&self, records: &[u8], pool: &[u8], id: i32) -> Found {
         self.fenced(&[records, pool], &mut [], |l, _| self.by.find_id(l[0], l[1], id))
+    }
+
+    fn find_ids(&self, records: &[u8], pool: &[u8], ids: &[u8], out_slots: &mut [u8]) -> Searched {
+        self.fenced(&[records, pool, ids], &mut [out_slots], |l, out| {
+            let [s] = out else { unreachable!("one buffer") };
+            self.by.find_ids(l[0], l[1], l[2], s)
+        })
     }
 
     fn find_parent(&self, records: &[u8], pool: &[u8], id: i32) -> Found {

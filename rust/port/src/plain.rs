@@ -2,7 +2,7 @@
 
 use braidhurdle::c;
 use cases::Operations;
-use judge::{Changed, Found, UpdateCall};
+use judge::{Changed, Found, Searched, UpdateCall};
 
 /// The port.
 pub struct Port;
@@ -70,6 +70,11 @@ impl Operations for Port {
 
     fn find_id(&self, records: &[u8], pool: &[u8], id: i32) -> Found {
         found(c::find_id(records, pool, id))
+    }
+
+    fn find_ids(&self, records: &[u8], pool: &[u8], ids: &[u8], s: &mut [u8]) -> Searched {
+        let c::Searched { refusal, list, place, found } = c::find_ids(records, pool, ids, s);
+        Searched { refusal, list, place, found }
     }
 
     fn find_parent(&self, records: &[u8], pool: &[u8], id: i32) -> Found {

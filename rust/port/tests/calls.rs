@@ -4,8 +4,8 @@ use std::sync::atomic::{AtomicUsize, Ordering};
 
 use braidhurdle::c;
 use cases::{
-    Ask, ByJudge, Case, Generator, Sizes, answer, ask_of, list_of, lists, outcome, packed, prim,
-    prune_by, renumber_by, strukt, the_tree, update_of,
+    Ask, ByJudge, Case, Generator, Sizes, answer, ask_of, ids_by, list_of, lists, outcome, packed,
+    prim, prune_by, renumber_by, strukt, the_tree, update_of,
 };
 use port::{Guarded, absent, beside_paper};
 
@@ -35,6 +35,7 @@ fn asked_of_t() -> Vec<Case> {
         ask_of(base(), Ask::Name(b"visits.day".to_vec())),
         ask_of(base(), Ask::Folded(b"Visits.DAY".to_vec())),
         ask_of(base(), Ask::Id(7)),
+        ids_by(base(), &[7, 11, 10, 7]),
         ask_of(base(), Ask::Parent(7)),
     ]
 }
@@ -59,6 +60,22 @@ fn one_byte_makes_two_columns_match() {
         let at = case.pool.iter().position(|byte| *byte == b'a').expect("the name Za");
         case.pool[at] = b'b';
         assert_eq!(answer(&case).refusal().map(|refusal| refusal.number), Some(21));
+    }
+}
+
+/// Ids that share their low bits, and of which a byte can make two equal.
+fn nearly_equal() -> Vec<Case> {
+    let ids = [1 << 10, 1 << 22, 1 << 31, 3 << 30, 0];
+    let base = packed(&ids.map(|id: i32| prim(id, &format!("{id}"))));
+    vec![ids_by(base.clone(), &ids), ask_of(base.clone(), Ask::Id(0)), renumber_by(base, &[0], 1)]
+}
+
+#[test]
+fn one_byte_makes_two_ids_equal() {
+    for mut case in nearly_equal() {
+        // of the fourth id, which is the third then
+        case.records[3 * 24 + 3] = 128;
+        assert_eq!(answer(&case).refusal().map(|r| (r.number, r.place)), Some((7, 3)));
     }
 }
 
@@ -87,7 +104,7 @@ fn trees_damaged_in_every_byte_get_the_texts_answer_from_every_entry() {
         println!("T was not put to the port: {why}");
         return;
     }
-    let cases = [asked_of_t(), nearly_ambiguous()].concat();
+    let cases = [asked_of_t(), nearly_ambiguous(), nearly_equal()].concat();
     let next = AtomicUsize::new(0);
     let threads = std::thread::available_parallelism().map_or(1, usize::from);
     std::thread::scope(|scope| {

@@ -71,6 +71,17 @@ fn safe(case: &Case, room: &mut Room) -> Option<Result<Answer, Refusal>> {
             let asked = FieldId(*id);
             tree.find_id(asked).map(|slot| found(slot.map(|slot| (asked, slot))))
         }
+        // the safe function's buffer is of slots, not of bytes
+        Ask::Ids { out_slots, .. } if !out_slots.is_multiple_of(4) => return None,
+        Ask::Ids { ids: asked, out_slots } => {
+            let asked = ids(asked)?;
+            let mut slots = vec![None; out_slots / 4];
+            tree.find_ids_in(&asked, &mut slots).map(|found| {
+                let number = |slot: &Option<Slot>| slot.map_or(u32::MAX, |slot| slot.0);
+                let slots = slots[..asked.len()].iter().flat_map(|s| number(s).to_le_bytes());
+                Answer::Searched { slots: slots.collect(), found: found as u32 }
+            })
+        }
         Ask::Parent(id) => tree.find_parent(FieldId(*id)).map(found),
         Ask::List => return None,
     })

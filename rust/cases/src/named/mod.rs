@@ -3,14 +3,15 @@
 mod faults;
 mod folded;
 mod found;
+mod ids;
 mod limits;
 mod readings;
 mod worked;
 
-use judge::{DEFAULT, Node, REQUIRED, Refusal};
+use judge::{DEFAULT, NO_SLOT, Node, REQUIRED, Refusal};
 
 use crate::build::{
-    ask_of, list_of, map_of, packed, prim, prune_by, renumber_by, strukt, update_of,
+    ask_of, ids_by, list_of, map_of, packed, prim, prune_by, renumber_by, strukt, update_of,
 };
 use crate::case::{Answer, Ask, Case};
 
@@ -36,6 +37,8 @@ pub enum Expected {
     /// Id and slot.
     Found(i32, u32),
     Nothing,
+    /// The slot of each id that was asked for, or none; and as many were found.
+    Slots(Vec<Option<u32>>),
     /// The lister's lines.
     Lines(&'static str),
 }
@@ -60,6 +63,11 @@ impl Expected {
             }
             (Expected::Found(id, slot), Answer::Found { id: i, slot: s }) => (id, slot) == (i, s),
             (Expected::Nothing, Answer::Nothing) => true,
+            (Expected::Slots(want), Answer::Searched { slots, found }) => {
+                let number = |slot: &Option<u32>| slot.unwrap_or(NO_SLOT).to_le_bytes();
+                let bytes: Vec<u8> = want.iter().flat_map(number).collect();
+                *slots == bytes && *found as usize == want.iter().flatten().count()
+            }
             (Expected::Lines(lines), Answer::Listed(text)) => lines.as_bytes() == text,
             _ => false,
         }
@@ -67,7 +75,7 @@ impl Expected {
 }
 
 /// Every named case: the worked tree, the readings, the limits, faults two at a time, what
-/// iceberg's own code decided, and the look-up that forgets case.
+/// iceberg's own code decided, the look-up that forgets case, and that of many ids.
 pub fn named() -> Vec<Named> {
     let mut all = Cases(vec![]);
     worked::put(&mut all);
@@ -76,6 +84,7 @@ pub fn named() -> Vec<Named> {
     faults::put(&mut all);
     found::put(&mut all);
     folded::put(&mut all);
+    ids::put(&mut all);
     all.0
 }
 
@@ -151,6 +160,10 @@ fn name(base: &[Node], name: &str) -> Case {
 
 fn folding(base: &[Node], name: &str) -> Case {
     ask_of(packed(base), Ask::Folded(name.as_bytes().to_vec()))
+}
+
+fn asking(base: &[Node], asked: &[i32]) -> Case {
+    ids_by(packed(base), asked)
 }
 
 fn id(base: &[Node], id: i32) -> Case {
