@@ -13,7 +13,7 @@ use Rattle.record.specs.declared.FoundSlot.the-variants as found
 use Rattle.record.specs.Says.{refusal-of}
 use Rattle.record.specs.Trees.{Trees}
 use Rattle.plan.specs.Table.{numbers, PlanIn, fields-in}
-use Rattle.index_ids.specs.Table.{IdsChained}
+use Rattle.index_ids.specs.Path.{IdsChained}
 use Rattle.index_many.specs.declared.Searched.{Searched}
 use Rattle.index_many.specs.declared.Searched.the-variants.{Done, Refused}
 
