@@ -1,7 +1,8 @@
 # The module of a library, for a machine that is not x86-64: awk -v name=LIBRARY -f tools/results.awk.
-# It returns a struct as C on x86-64 does: through a pointer that the function takes first and gives
-# back. `sret` says that this is what the pointer is for; then it comes by the machine's own way, and
-# one header serves both. The size is that of the struct that the function behind copies there.
+# It returns a struct as C on x86-64 does: one of more than 16 bytes through a pointer that the
+# function takes first and gives back. `sret` says that this is what the pointer is for; then it comes
+# by the machine's own way, and one header serves both. The size is that of the struct that the
+# function behind copies there. A smaller struct comes in two registers, here as there.
 BEGIN { exported = "^define noundef ptr @" name "_[a-z0-9_]+\\(ptr noundef %a0" }
 
 # the function behind an exported one stands before it
