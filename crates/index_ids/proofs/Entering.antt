@@ -12,7 +12,7 @@ use Rattle.index_ids.specs.Table.{row, Rooms, Within}
 use Rattle.index_ids.specs.Path.{bit, Together, met, linked, First, IdsChained, EndsAt, unlinked, entered-at}
 use Rattle.index_ids.proofs.Chains.{eqb-cases}
 use Rattle.index_ids.proofs.Tables.{row-stored, row-left, within-both, within-wider, within-cell}
-use Rattle.index_ids.proofs.Paths.{together-back, together-on, together-less, together-more, met-head, met-linked, met-stops, met-cell, met-together, went, own-way, own-below, one-depth}
+use Rattle.index_ids.proofs.Paths.{together-back, together-on, together-less, together-more, met-head, met-linked, met-stops, met-cell, met-together, went, own-way, own-below, one-depth, no-first}
 
 -- ---- one slot more
 
@@ -274,9 +274,6 @@ module _ (ids : List ℕ) (t : List (List ℕ)) (k : ℕ) (h : IdsChained ids t 
   new-link : (x d : ℕ) → 0 < met t′ x d → First ids x (suc d) (met t′ x d) (suc k) (met t′ x (suc d))
   new-link x d lx = go (met t x d) refl
     where
-      nothing : First ids x (suc d) (suc k) (suc k) 0
-      nothing = record { none = λ e i p q. absurd (omega arith); after = λ j e. absurd (omega arith); below = λ j e. absurd (omega arith); goes = λ j e. absurd (omega arith); first = λ i p q. absurd (omega arith) }
-
       old : (j : ℕ) → met t x d ≡ suc j → First ids x (suc d) (met t x d) k (met t x (suc d))
       old j e = h .link x d (omega arith)
 
@@ -293,7 +290,7 @@ module _ (ids : List ℕ) (t : List (List ℕ)) (k : ℕ) (h : IdsChained ids t 
       next j e (suc i) e₂ = rw (kept-met x (suc d) i e₂ ∙ sym e₂) (found-still ids x (suc d) (met t x d) k (met t x (suc d)) (old j e) i e₂)
 
       go : (w : ℕ) → met t x d ≡ w → First ids x (suc d) (met t′ x d) (suc k) (met t′ x (suc d))
-      go zero e = let a = fresh-met x d e lx in rw (a, past-new x d a) nothing
+      go zero e = let a = fresh-met x d e lx in rw (a, past-new x d a) (no-first ids x (suc d) (suc k) (suc k) (omega arith))
       go (suc j) e = rw (kept-met x d j e ∙ sym e) (next j e (met t x (suc d)) refl)
 
   pub path-enters : IdsChained ids t′ (k + 1)

@@ -115,6 +115,20 @@ module _ (is : List ℕ) (t : List (List ℕ)) (k id : ℕ) (h : IdsChained is t
       }
 
 module _ (is : List ℕ) (t : List (List ℕ)) (k id line c bits left at : ℕ) (w : Following is t k (turned id) line c bits left at) where
+  -- a slot that has the id goes with it, so it is not behind
+  ahead : (i : ℕ) → id-in is i ≡ turned id → (begun t (turned id) (w .steps) ≤ i → Together (w .steps) (turned id) (id-in is i) → ⊥) → ⊥
+  ahead i e f =
+      let a : i < begun t (turned id) (w .steps) → ⊥ = λ q. w .behind i q e in
+      let b : begun t (turned id) (w .steps) ≤ i → ⊥ = λ q. f q (rw e (together-same (w .steps) (turned id))) in
+      omega arith
+
+  -- no slot below the one that is met has the id, and none has it where the path has ended
+  none-here : (i : ℕ) → suc i < at → id-in is i ≡ turned id → ⊥
+  none-here i l e = ahead i e (λ q. w .first .first i q (let z = w .place in omega arith))
+
+  none-at-all : at ≡ 0 → (i : ℕ) → i < k → id-in is i ≡ turned id → ⊥
+  none-at-all q i l e = ahead i e (λ p. w .first .none (sym (w .place) ∙ q) i p l)
+
   -- the slot that is met has not the id, so not all bits are asked
   module _ (j : ℕ) (ej : at ≡ suc j) (ne : turned id ≡ id-in is j → ⊥) where
     other : Together 22 (turned id) (id-in is j) → ⊥
@@ -157,25 +171,8 @@ module _ (is : List ℕ) (t : List (List ℕ)) (k id line c bits left at : ℕ) 
       where
         not-here : (i : ℕ) → i < suc j → id-in is i ≡ turned id → ⊥
         not-here i l e =
-            let z = here in
             let n : i ≡ j → ⊥ = λ q. ne (sym e ∙ ap (id-in is) q) in
-            let a : i < begun t (turned id) (w .steps) → ⊥ = λ q. w .behind i q e in
-            let b : begun t (turned id) (w .steps) ≤ i → ⊥ = λ q. w .first .first i q (omega arith) (rw e (together-same (w .steps) (turned id))) in
-            omega arith
-
-  -- no slot below the one that is met has the id, so where it has it is the lowest; and none has it where the path has ended
-  none-here : (i : ℕ) → suc i < at → id-in is i ≡ turned id → ⊥
-  none-here i l e =
-      let z = w .place in
-      let a : i < begun t (turned id) (w .steps) → ⊥ = λ q. w .behind i q e in
-      let b : begun t (turned id) (w .steps) ≤ i → ⊥ = λ q. w .first .first i q (omega arith) (rw e (together-same (w .steps) (turned id))) in
-      omega arith
-
-  none-at-all : at ≡ 0 → (i : ℕ) → i < k → id-in is i ≡ turned id → ⊥
-  none-at-all q i l e =
-      let a : i < begun t (turned id) (w .steps) → ⊥ = λ q. w .behind i q e in
-      let b : begun t (turned id) (w .steps) ≤ i → ⊥ = λ p. w .first .none (sym (w .place) ∙ q) i p l (rw e (together-same (w .steps) (turned id))) in
-      omega arith
+            none-here i (omega arith) e
 
   pub way-left : left ≤ 22
   way-left = let z = w .counted in omega arith

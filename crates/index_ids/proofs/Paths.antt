@@ -140,6 +140,17 @@ module _ (ids : List ℕ) (t : List (List ℕ)) (k : ℕ) (h : IdsChained ids t 
 
 -- ---- an empty index
 
+-- Where there is no slot none is found.
+pub no-first : (ids : List ℕ) (x d from k : ℕ) → k ≤ from → First ids x d from k 0
+no-first ids x d from k l =
+    record {
+      none = λ e i p q. absurd (omega arith);
+      after = λ j e. absurd (omega arith);
+      below = λ j e. absurd (omega arith);
+      goes = λ j e. absurd (omega arith);
+      first = λ i p q. absurd (omega arith);
+    }
+
 module _ (ids : List ℕ) (t : List (List ℕ)) (none : (b : ℕ) → b < 1024 → getD (row t 0) b 0 ≡ 0) where
   bucket-small : (x : ℕ) → bucket-of x < 1024
   unfolding bucket-of
@@ -151,11 +162,7 @@ module _ (ids : List ℕ) (t : List (List ℕ)) (none : (b : ℕ) → b < 1024 �
   nowhere x (suc d) = met-stops t x d (nowhere x d)
 
   pub path-fresh : IdsChained ids t 0
-  path-fresh =
-      record {
-        head = λ x. rw (nowhere x 0) record { none = λ e i p q. absurd (omega arith); after = λ j e. absurd (omega arith); below = λ j e. absurd (omega arith); goes = λ j e. absurd (omega arith); first = λ i p q. absurd (omega arith) };
-        link = λ x d l. absurd (let z = nowhere x d in omega arith);
-      }
+  path-fresh = record { head = λ x. rw (nowhere x 0) (no-first ids x 0 0 0 (omega arith)); link = λ x d l. absurd (let z = nowhere x d in omega arith) }
 
 -- Rows that are as they were.
 module _ (ids : List ℕ) (t u : List (List ℕ)) (m : ℕ) (same : (r : ℕ) → r < 3 → row u r ≡ row t r) where
