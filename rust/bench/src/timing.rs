@@ -28,8 +28,10 @@ pub fn times(calls: &[Option<Call>]) -> Vec<Option<f64>> {
     best
 }
 
-/// Nanoseconds of one call, of as many as fill a turn.
+/// Nanoseconds of one call, of as many as fill a turn. One goes before them untimed, since the turns
+/// of others have filled the caches: a call that fills its turn alone would pay for that.
 fn turn(mut call: impl FnMut(), count: &mut u32) -> f64 {
+    call();
     loop {
         let start = processor_time();
         (0..*count).for_each(|_| call());
