@@ -3,7 +3,7 @@
 use std::hint::black_box;
 
 use cases::{Ask, Case, Operations};
-use judge::{OUT_NAMES, OUT_RECORDS};
+use judge::{ID_BYTES, MOST_ASKED, OUT_NAMES, OUT_RECORDS};
 
 const ROUNDS: usize = 50;
 const TURN_NANOSECONDS: i64 = 1_000_000;
@@ -71,11 +71,17 @@ pub struct Room {
     records: Vec<u8>,
     names: Vec<u8>,
     identifiers: Vec<u8>,
+    slots: Vec<u8>,
 }
 
 impl Default for Room {
     fn default() -> Room {
-        Room { records: vec![0; OUT_RECORDS], names: vec![0; OUT_NAMES], identifiers: vec![0; 256] }
+        Room {
+            records: vec![0; OUT_RECORDS],
+            names: vec![0; OUT_NAMES],
+            identifiers: vec![0; 256],
+            slots: vec![0; MOST_ASKED * ID_BYTES],
+        }
     }
 }
 
@@ -95,8 +101,7 @@ impl Room {
             Ask::Name(name) => by.find_name(base, pool, name).refusal,
             Ask::Folded(name) => by.find_folded(base, pool, name).refusal,
             Ask::Id(id) => by.find_id(base, pool, *id).refusal,
-            // slots take no more room than names
-            Ask::Ids { ids, .. } => by.find_ids(base, pool, ids, n).refusal,
+            Ask::Ids { ids, .. } => by.find_ids(base, pool, ids, &mut self.slots).refusal,
             Ask::Parent(id) => by.find_parent(base, pool, *id).refusal,
             Ask::List => return None,
         })
