@@ -33,7 +33,7 @@ pub fn room_with_identifiers(records: usize, names: usize, given: usize, identif
 }
 
 // A whole number of items, at most so many.
-fn whole_list(s: &[u8], item: usize, most: usize) -> bool
+pub fn whole_list(s: &[u8], item: usize, most: usize) -> bool
     requires { ⌜ (0 < item) × (item * most ≤ 24576) ⌝ }
     ensures { λ r. ⌜ r ≡ whole item most (now (s .entry)) ⌝ }
 {
