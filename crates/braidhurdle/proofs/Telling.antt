@@ -7,7 +7,7 @@ use native.Mathlib.Omega.{arith}
 use Rattle.paper.specs.Answer.{Answer, ok, refused}
 use Rattle.paper.specs.Rows.{Row}
 use Rattle.paper.specs.Entries.{Result, find-name, find-folded, find-id, find-parent}
-use Rattle.paper.specs.Outcome.{found, changed, Buffer, Answers}
+use Rattle.paper.specs.Outcome.{found, changed, searched, Buffer, Answers}
 use Rattle.laws.proofs.Fitting.{sized-slots}
 use Rattle.record.specs.declared.Refusal.{Refusal}
 use Rattle.record.specs.declared.FieldId.{FieldId}
@@ -22,9 +22,13 @@ use Rattle.record.specs.declared.Changed.the-variants as changing
 use Rattle.record.specs.Says.{found-row, looked, changes}
 use Rattle.index.specs.Finds.{FoundIn, by-name, by-folded, by-id, by-parent}
 use Rattle.index.proofs.Standing.{row-here}
+use Rattle.index_many.specs.declared.Searched.{Searched}
+use Rattle.index_many.specs.declared.Searched.the-variants as searching
+use Rattle.index_many.specs.Many.{searches}
 use Rattle.braidhurdle.specs.declared.ChangedNumbers.{ChangedNumbers}
 use Rattle.braidhurdle.specs.declared.FoundNumbers.{FoundNumbers}
-use Rattle.braidhurdle.specs.Numbers.{found-in, found-numbers, sought-numbers, changed-in, laid, changed-numbers}
+use Rattle.braidhurdle.specs.declared.SearchedNumbers.{SearchedNumbers}
+use Rattle.braidhurdle.specs.Numbers.{found-in, found-numbers, sought-numbers, changed-in, laid, changed-numbers, searched-numbers, laid-search}
 
 -- A row that a look-up finds stands in the first 1,024 slots.
 found-small : (s pool : List ℕ) (r : Row) → FoundIn s pool r → r .slot < 1024
@@ -88,9 +92,32 @@ unfolding changes changed
 changed-told (ok r) = refl
 changed-told (refused n l p) = refl
 
--- the numbers are laid out, and the buffers are the entry's
+-- ---- a search for many ids
+
+pub lay-counted : (c : Searched) (met : ℕ) → c ≡ searching.Done met → record { refusal = 0; list = 0; place = 0; found = met } ≡ searched-numbers c
+lay-counted c met e = rw e
+
+pub lay-unsearched : (c : Searched) (x : Refusal) → c ≡ searching.Refused x → record { refusal = x .number; list = x .list; place = x .place; found = 0 } ≡ searched-numbers c
+lay-unsearched c x e = rw e
+
+searched-told : (a : Answer (List (Option Row))) → searched-numbers (searches a) ≡ laid-search a
+unfolding searches searched
+searched-told (ok rows) = refl
+searched-told (refused n l p) = refl
+
+-- ---- the numbers are laid out, and the buffers are the entry's
+
+module _ {R S N : Type 0} (says : Answer R → S) (lay : S → N) (lays : Answer R → N) (same : (a : Answer R) → lay (says a) ≡ lays a) where
+  laid-out : (a : Answer R) (buffers : List (Buffer R)) (c : S) (r : N) (news : List (List ℕ))
+      → Answers says a buffers c news → r ≡ lay c → Answers lays a buffers r news
+  laid-out a buffers c r news h e = record { told = e ∙ ap lay (h .told) ∙ same a; left = h .left }
+
 pub left-told : (a : Answer Result) (buffers : List (Buffer Result)) (c : Changed) (r : ChangedNumbers) (news : List (List ℕ))
     → Answers changes a buffers c news → r ≡ changed-numbers c → Answers laid a buffers r news
-left-told a buffers c r news h e = record { told = e ∙ ap changed-numbers (h .told) ∙ changed-told a; left = h .left }
+left-told = laid-out changes changed-numbers laid changed-told
 
-pub ruleset telling = (tells-name, tells-folded, tells-id, tells-parent, lay-at, lay-nothing, lay-refused, lay-looked, lay-done, lay-turned-down)
+pub search-told : (a : Answer (List (Option Row))) (buffers : List (Buffer (List (Option Row)))) (c : Searched) (r : SearchedNumbers) (news : List (List ℕ))
+    → Answers searches a buffers c news → r ≡ searched-numbers c → Answers laid-search a buffers r news
+search-told = laid-out searches searched-numbers laid-search searched-told
+
+pub ruleset telling = (tells-name, tells-folded, tells-id, tells-parent, lay-at, lay-nothing, lay-refused, lay-looked, lay-done, lay-turned-down, lay-counted, lay-unsearched)

@@ -12,15 +12,16 @@ use borrow.Fn.World.{ArgsD, ResD}
 use contract.Lifetimes.{Lfts}
 use denote.Ref.{now}
 use denote.Triple.Clauses.{AtExit}
-use Rattle.paper.specs.Entries.{update-entry, prune-entry, renumber-entry, find-name, find-folded, find-id, find-parent}
+use Rattle.paper.specs.Entries.{update-entry, prune-entry, renumber-entry, find-name, find-folded, find-id, find-parent, find-ids}
 use Rattle.paper.specs.Outcome as outcome
-use Rattle.paper.specs.Outcome.{found, for-records, for-names, for-identifiers, Answers}
+use Rattle.paper.specs.Outcome.{found, for-records, for-names, for-identifiers, for-slots, Answers}
 use Rattle.braidhurdle.specs.declared.NameNumbers.{NameNumbers}
-use Rattle.braidhurdle.specs.Numbers.{found-in, changed-in, laid, full-mode}
+use Rattle.braidhurdle.specs.Numbers.{found-in, changed-in, laid, searched-in, laid-search, full-mode}
 use Rattle.braidhurdle.specs.Lent.{stored, lent}
 use Rattle.braidhurdle.specs.Name.{found-name, name-numbers}
 use Rattle.braidhurdle.proofs.ChangedNumbers.Laws as changed-laws
 use Rattle.braidhurdle.proofs.FoundNumbers.Laws as found-laws
+use Rattle.braidhurdle.proofs.SearchedNumbers.Laws as searched-laws
 use Rattle.braidhurdle.proofs.NameNumbers.Laws as name-laws
 use Rattle.braidhurdle.proofs.braidhurdle_update as update
 use Rattle.braidhurdle.proofs.braidhurdle_update.Reads as update-reads
@@ -36,10 +37,12 @@ use Rattle.braidhurdle.proofs.braidhurdle_find_id as by-id
 use Rattle.braidhurdle.proofs.braidhurdle_find_id.Reads as by-id-reads
 use Rattle.braidhurdle.proofs.braidhurdle_find_parent as by-parent
 use Rattle.braidhurdle.proofs.braidhurdle_find_parent.Reads as by-parent-reads
+use Rattle.braidhurdle.proofs.braidhurdle_find_ids as by-ids
+use Rattle.braidhurdle.proofs.braidhurdle_find_ids.Reads as by-ids-reads
 use Rattle.braidhurdle.proofs.braidhurdle_found_name as of-slot
 use Rattle.braidhurdle.proofs.braidhurdle_found_name.Reads as of-slot-reads
 
--- ---- results: the bytes of each struct in memory are its six words in the header's order
+-- ---- results: the bytes of each struct in memory are its words in the header's order
 
 -- A number of 32 bits in memory.
 abbrev word : ℕ → List Cell
@@ -54,6 +57,11 @@ pub found-laid : (f : outcome.Found)
     → enc found-laws.mir (found-laws.lowered (found-in f))
     ≡ word (f .refusal) ++ word (f .list) ++ word (f .place) ++ word (f .found) ++ word (f .id) ++ word (f .slot)
 found-laid f = refl
+
+pub searched-laid : (s : outcome.Searched)
+    → enc searched-laws.mir (searched-laws.lowered (searched-in s))
+    ≡ word (s .refusal) ++ word (s .list) ++ word (s .place) ++ word (s .found)
+searched-laid s = refl
 
 pub name-laid : (n : NameNumbers)
     → enc name-laws.mir (name-laws.lowered n)
@@ -114,6 +122,14 @@ module _ (κs : Lfts 1) (a : ArgsD by-parent.signature κs) (r : ResD by-parent.
   pub find-parent-says : by-parent-reads.Learnt κs a r s
       ≡ (r ≡ found-in (found (find-parent (now (a .0)) (now (a .1 .0)) (a .1 .1 .0))))
   find-parent-says = refl
+
+module _ (κs : Lfts 3) (a : ArgsD by-ids.signature κs) (r : ResD by-ids.signature κs) (s : AtExit by-ids.ended κs) where
+  pub find-ids-says : by-ids-reads.Learnt κs a r s
+      ≡ Answers laid-search
+      (find-ids (now (a .0)) (now (a .1 .0)) (now (a .1 .1 .0)) (length (now (a .1 .1 .1 .0))))
+      (for-slots (now (a .1 .1 .1 .0)) ∷ []) r
+      (now (s .1 .1 .1 .0) ∷ [])
+  find-ids-says = refl
 
 module _ (κs : Lfts 2) (a : ArgsD of-slot.signature κs) (r : ResD of-slot.signature κs)
     (s : AtExit of-slot.ended κs) where

@@ -1,8 +1,10 @@
-// The functions that C and Rust call: thin, numbers and slices. Each lays its entry's answer out as six numbers.
+// The functions that C and Rust call: thin, numbers and slices. Each lays its entry's answer out as numbers.
 use index::find_id;
 use index::find_name;
 use index::find_parent;
 use index_folded::find_folded;
+use index_many::Searched;
+use index_many::find_ids;
 use prune::prune;
 use record::Changed;
 use record::FieldId;
@@ -16,9 +18,18 @@ use update::update;
 ghost use mathlib.Core.Path.{_≡_};
 ghost use mathlib.Core.List.{[], _∷_};
 ghost use lib.ListN.{length};
-ghost use Rattle.paper.specs.Entries.{find-name, find-folded, find-id, find-parent, prune-entry, renumber-entry, update-entry};
-ghost use Rattle.paper.specs.Outcome.{found, for-records, for-names, for-identifiers, Answers};
-ghost use Rattle.braidhurdle.specs.Numbers.{found-in, found-numbers, sought-numbers, changed-numbers, laid, full-mode};
+ghost use Rattle.paper.specs.Entries.{find-name, find-folded, find-id, find-parent, find-ids, prune-entry, renumber-entry, update-entry};
+ghost use Rattle.paper.specs.Outcome.{found, for-records, for-names, for-identifiers, for-slots, Answers};
+ghost use Rattle.braidhurdle.specs.Numbers.{
+  found-in,
+  found-numbers,
+  sought-numbers,
+  changed-numbers,
+  laid,
+  searched-numbers,
+  laid-search,
+  full-mode,
+};
 ghost use Rattle.braidhurdle.specs.Lent.{stored, lent};
 ghost use Rattle.braidhurdle.specs.Name.{found-name, name-numbers};
 
@@ -42,6 +53,15 @@ pub struct FoundNumbers {
     pub found: u32,
     pub id: u32,
     pub slot: u32,
+}
+
+// The answer of a search for many ids. On a refusal the last one is 0.
+#[repr(C)]
+pub struct SearchedNumbers {
+    pub refusal: u32,
+    pub list: u32,
+    pub place: u32,
+    pub found: u32, // so many of the ids
 }
 
 // Where a name stands in the lent pool. On a refusal, and where there is no record, offset and length are 0.
@@ -117,13 +137,32 @@ fn lay_sought(sought: Sought) -> FoundNumbers
     }
 }
 
+fn lay_searched(searched: Searched) -> SearchedNumbers
+    ensures { λ r. ⌜ r ≡ searched-numbers searched ⌝ }
+{
+    match searched {
+        Searched::Done(met) => SearchedNumbers {
+            refusal: 0,
+            list: 0,
+            place: 0,
+            found: met,
+        },
+        Searched::Refused(refusal) => SearchedNumbers {
+            refusal: refusal.number,
+            list: refusal.list,
+            place: refusal.place,
+            found: 0,
+        },
+    }
+}
+
 // The version of these functions, in its name too: whoever is compiled against other declarations asks for another name, and finds
 // none here. A change of any declaration raises both.
 #[no_mangle]
-pub extern "C" fn braidhurdle_abi_3() -> u32
-    ensures { λ r. ⌜ r ≡ 3 ⌝ }
+pub extern "C" fn braidhurdle_abi_4() -> u32
+    ensures { λ r. ⌜ r ≡ 4 ⌝ }
 {
-    3
+    4
 }
 
 // Drops and adds columns; ids are handed out from `last_id` + 1.
@@ -242,6 +281,22 @@ pub extern "C" fn braidhurdle_find_id<'a>(
         (found (find-id (now (records .entry)) (now (pool .entry)) id)) ⌝ }
 {
     lay_sought(find_id(records, pool, FieldId(id)))
+}
+
+// The slots of many ids, four bytes each; 4,294,967,295 where there is none.
+#[no_mangle]
+pub extern "C" fn braidhurdle_find_ids<'a>(
+    records: &'a [u8],
+    pool: &'a [u8],
+    ids: &[u8],
+    out_slots: &mut [u8],
+) -> SearchedNumbers
+    ensures { λ r. ⌜ Answers laid-search
+        (find-ids (now (records .entry)) (now (pool .entry)) (now (ids .entry))
+        (length (now («out_slots» .entry)))) (for-slots (now («out_slots» .entry)) ∷ []) r
+        (now («out_slots» .exit) ∷ []) ⌝ }
+{
+    lay_searched(find_ids(records, pool, ids, out_slots))
 }
 
 // The column above that of an id.

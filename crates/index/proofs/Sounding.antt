@@ -18,8 +18,10 @@ use Rattle.record.specs.Trees.{Trees}
 use Rattle.plan.specs.Plan.{kids-in}
 use Rattle.plan.specs.Table.{sources, numbers, members, PlanIn, fields-in}
 use Rattle.index_ids.specs.Ids.{ids-in, rule-7}
-use Rattle.index_ids.specs.Table.{row, ups-in, lens-in, tags-in, IdsChained, IndexedIn, Rooms}
+use Rattle.index_ids.specs.Table.{row, ups-in, lens-in, tags-in, Rooms}
+use Rattle.index_ids.specs.Path.{IdsChained, IndexedIn}
 use Rattle.index_ids.proofs.Tables.{within-both, within-wider}
+use Rattle.index_ids.proofs.Paths.{rows-kept}
 use Rattle.index_identifiers.specs.Nine.{rule-9}
 use Rattle.plan.specs.Walk.{walk, trees-of}
 use Rattle.index_names.specs.Full.{fulls}
@@ -37,31 +39,31 @@ use Rattle.index.proofs.Looking.{ids-in-order, names-in-order}
 
 pub names-marked : (l : Trees) (xs : List ℕ) (kids : ℕ → ℕ) (m r : ℕ) (old mid : List (List ℕ)) → Sources l xs m → Rooms old → MarkedIn (name-in l xs) (walk kids m 16 m 0) 0 0 0 0 old mid r → Spelt l xs m (ups-in mid) (lens-in mid) × (Tagged l xs m (ups-in mid) (tags-in mid) × Rooms mid)
 names-marked l xs kids m r old mid S R w = (
-  names-told l xs kids m r _ _ _ _ _ _ (R .wide 2 (omega arith)) (R .wide 3 (omega arith)) (R .wide 4 (omega arith)) S (w .marked),
-  (tags-told l xs kids m r _ _ _ _ _ _ (R .wide 2 (omega arith)) (R .wide 3 (omega arith)) (R .wide 4 (omega arith)) S (w .marked), w .within .rooms R),
+  names-told l xs kids m r _ _ _ _ _ _ (R .wide 3 (omega arith)) (R .wide 4 (omega arith)) (R .wide 5 (omega arith)) S (w .marked),
+  (tags-told l xs kids m r _ _ _ _ _ _ (R .wide 3 (omega arith)) (R .wide 4 (omega arith)) (R .wide 5 (omega arith)) S (w .marked), w .within .rooms R),
 )
 
 pub names-indexed : (l : Trees) (plan : List (List ℕ)) (m list r : ℕ) (c : Check) (old mid new : List (List ℕ)) → SourcesIn l plan m → Rooms old → MarkedIn (names-in l plan) (walk-in plan m 16 m 0) 0 0 0 0 old mid r → UnequalIn l plan m list c mid new → NamesIndexed l plan m list c old new
 unfolding rule-8
 names-indexed l plan m list r c old mid new S R w u =
-    let q : (i : ℕ) → i < 5 → row new i ≡ row mid i = u .within .below in
+    let q : (i : ℕ) → i < 6 → row new i ≡ row mid i = u .within .below in
     let kids = kids-in (members plan) in
     let h = names-marked l (sources plan) kids m r old mid S R w in
-    let up : Raised (members plan) m (ups-in mid) = record { above = ups-told l (sources plan) kids m r _ _ _ _ _ _ (R .wide 2 (omega arith)) (R .wide 3 (omega arith)) (R .wide 4 (omega arith)) S (w .marked) } in
+    let up : Raised (members plan) m (ups-in mid) = record { above = ups-told l (sources plan) kids m r _ _ _ _ _ _ (R .wide 3 (omega arith)) (R .wide 4 (omega arith)) (R .wide 5 (omega arith)) S (w .marked) } in
     record {
       answer = u .unequal .answer ∙ ap (λ z. tested 8 list (repeated same [] 0 z)) (fulls-are (names-in l plan) kids m (ups-in mid) (up .above));
-      within = within-both 2 7 old mid new (within-wider 2 5 2 7 old mid (w .within) (omega arith) (omega arith)) (within-wider 5 7 2 7 mid new (u .within) (omega arith) (omega arith));
-      raised = rw (q 2 (omega arith)) up;
-      spelt = rw (q 2 (omega arith), q 3 (omega arith)) (h .0);
-      tagged = rw (q 2 (omega arith), q 4 (omega arith)) (h .1 .0);
-      chained = λ f. rw (q 2 (omega arith)) (u .unequal .index f);
+      within = within-both 3 8 old mid new (within-wider 3 6 3 8 old mid (w .within) (omega arith) (omega arith)) (within-wider 6 8 3 8 mid new (u .within) (omega arith) (omega arith));
+      raised = rw (q 3 (omega arith)) up;
+      spelt = rw (q 3 (omega arith), q 4 (omega arith)) (h .0);
+      tagged = rw (q 3 (omega arith), q 5 (omega arith)) (h .1 .0);
+      chained = λ f. rw (q 3 (omega arith)) (u .unequal .index f);
     }
 
 -- ---- 7 to 9: `search sounding`
 
 -- The test of the names leaves the chains of the ids.
 pub ids-chained : (l : Trees) (plan : List (List ℕ)) (m list : ℕ) (a b : Check) (old mid new : List (List ℕ)) → IndexedIn (numbers plan) m list a old mid → a ≡ Fine → NamesIndexed l plan m list b mid new → IdsChained (numbers plan) new m
-ids-chained l plan m list a b old mid new ea fa eb = rw (eb .within .below 0 (omega arith), eb .within .below 1 (omega arith)) (ea .indexed .index fa)
+ids-chained l plan m list a b old mid new ea fa eb = rows-kept (numbers plan) mid new m (eb .within .below) (ea .index fa)
 
 module _ (l : Trees) (plan : List (List ℕ)) (m list : ℕ) (identifiers : List ℕ) (p : PlanIn l plan m) where
   nine : Answer (Unit {0})
@@ -86,7 +88,7 @@ module _ (l : Trees) (plan : List (List ℕ)) (m list : ℕ) (identifiers : List
     unfolding rule-7 checked
     stop-7 x d =
         record {
-          answer = sym (ap checked (sound-is ∙ chain-stops 7 list (repeated eqb [] 0 (ids-in (numbers plan) m)) a (λ _. eight) x (ea .indexed .answer) d));
+          answer = sym (ap checked (sound-is ∙ chain-stops 7 list (repeated eqb [] 0 (ids-in (numbers plan) m)) a (λ _. eight) x (ea .answer) d));
           index = λ e. absurd (let z : _≡_ {A = ℕ} 0 1 = cc in omega arith);
           rooms = ids-rooms;
         }
@@ -94,7 +96,7 @@ module _ (l : Trees) (plan : List (List ℕ)) (m list : ℕ) (identifiers : List
     module _ (fa : a ≡ Fine) (b : Check) (new : List (List ℕ)) (eb : NamesIndexed l plan m list b mid new) where
       past-7 : sound list (fields-in l plan m) (id-list identifiers) ≡ eight
       unfolding rule-7
-      past-7 = sound-is ∙ chain-goes 7 list (repeated eqb [] 0 (ids-in (numbers plan) m)) a (λ _. eight) (ea .indexed .answer) fa
+      past-7 = sound-is ∙ chain-goes 7 list (repeated eqb [] 0 (ids-in (numbers plan) m)) a (λ _. eight) (ea .answer) fa
 
       pub stop-8 : (x : Refusal) → b ≡ Refused x → Indexing l plan m list identifiers (Refused x) old new
       unfolding eight checked

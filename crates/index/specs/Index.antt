@@ -27,7 +27,8 @@ use Rattle.tree.specs.Read.{fine}
 use Rattle.plan.specs.Plan.{kids-in}
 use Rattle.plan.specs.Table.{numbers, members, PlanIn, fields-in, Roomy, TakenIn}
 use Rattle.index_ids.specs.Ids.{id-in}
-use Rattle.index_ids.specs.Table.{ups-in, IdsChained, Rooms, Within}
+use Rattle.index_ids.specs.Table.{ups-in, Rooms, Within}
+use Rattle.index_ids.specs.Path.{IdsChained}
 use Rattle.plan.specs.Walk.{trees-of}
 use Rattle.index_names.specs.Full.{fulls, ups}
 use Rattle.plan.specs.Named.{name-in, kind-in}
@@ -55,7 +56,7 @@ pub record Index (l : Trees) (plan : List (List ℕ)) (m : ℕ) (index : List (L
 -- The answer to 8, and what is left: places above, lengths and tags always, the chains where there is no fault.
 pub record NamesIndexed (l : Trees) (plan : List (List ℕ)) (m list : ℕ) (r : Check) (old new : List (List ℕ)) : Type 0 where
   pub answer : r ≡ tested 8 list (repeated same [] 0 (fulls (names-in l plan) [] (trees-of (kids-in (members plan)) m)))
-  pub within : Within 2 7 old new
+  pub within : Within 3 8 old new
   pub raised : Raised (members plan) m (ups-in new)
   pub spelt : SpeltIn l plan m new
   pub tagged : TaggedIn l plan m new

@@ -36,7 +36,8 @@ ghost use Rattle.record.specs.Says.{found-row, looked};
 ghost use Rattle.record.specs.Trees.{trees-in};
 ghost use Rattle.plan.specs.Table.{sources, numbers, members, PlanIn, fields-in, Roomy};
 ghost use Rattle.index_ids.specs.Chain.{Below};
-ghost use Rattle.index_ids.specs.Table.{ups-in, IdsChained, Rooms};
+ghost use Rattle.index_ids.specs.Table.{ups-in, Rooms};
+ghost use Rattle.index_ids.specs.Path.{IdsChained};
 ghost use Rattle.plan.specs.Named.{SourcesIn};
 ghost use Rattle.index.specs.Index.{
   Falling,
@@ -235,7 +236,7 @@ pub fn find_name<'a>(records: &'a [u8], pool: &'a [u8], name: &[u8]) -> Sought
         (now (name .entry))) ⌝ }
 {
     let mut plan = [[0u32; 1024]; 3];
-    let mut index = [[0u16; 1024]; 7];
+    let mut index = [[0u16; 1024]; 8];
     let opened = open_base(records, pool, &mut plan, &mut index);
     if let Check::Refused(r) = opened {
         return Sought::Refused(r);
@@ -250,7 +251,7 @@ pub fn find_id<'a>(records: &'a [u8], pool: &'a [u8], id: FieldId) -> Sought
     ensures { λ r. ⌜ r ≡ looked (find-id (now (records .entry)) (now (pool .entry)) (id .0)) ⌝ }
 {
     let mut plan = [[0u32; 1024]; 3];
-    let mut index = [[0u16; 1024]; 7];
+    let mut index = [[0u16; 1024]; 8];
     let opened = open_base(records, pool, &mut plan, &mut index);
     if let Check::Refused(r) = opened {
         return Sought::Refused(r);
@@ -263,7 +264,7 @@ pub fn find_parent<'a>(records: &'a [u8], pool: &'a [u8], id: FieldId) -> Sought
     ensures { λ r. ⌜ r ≡ looked (find-parent (now (records .entry)) (now (pool .entry)) (id .0)) ⌝ }
 {
     let mut plan = [[0u32; 1024]; 3];
-    let mut index = [[0u16; 1024]; 7];
+    let mut index = [[0u16; 1024]; 8];
     let opened = open_base(records, pool, &mut plan, &mut index);
     if let Check::Refused(r) = opened {
         return Sought::Refused(r);

@@ -84,7 +84,7 @@ pub fn find_folded<'a>(records: &'a [u8], pool: &'a [u8], name: &[u8]) -> Sought
         (now (name .entry))) ⌝ }
 {
     let mut plan = [[0u32; 1024]; 3];
-    let mut index = [[0u16; 1024]; 7];
+    let mut index = [[0u16; 1024]; 8];
     let opened = open_base(records, pool, &mut plan, &mut index);
     if let Check::Refused(r) = opened {
         return Sought::Refused(r);

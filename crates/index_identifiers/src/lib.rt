@@ -10,7 +10,7 @@ ghost use mathlib.Core.Path.{_≡_};
 ghost use Prim.Native.Nat.{_≤_};
 ghost use lib.ListN.{length};
 ghost use Rattle.plan.specs.Table.{numbers};
-ghost use Rattle.index_ids.specs.Table.{IdsChained};
+ghost use Rattle.index_ids.specs.Path.{IdsChained};
 ghost use Rattle.index_identifiers.specs.Nine.{rule-9};
 
 // Refusal 9: the lowest identifier that is not in the tree.

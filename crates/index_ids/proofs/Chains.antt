@@ -61,6 +61,19 @@ module _ (p : ℕ → Bool) where
   pub below-not : (best k : ℕ) → p k ≡ false → lowest-below p best (suc k) ≡ lowest-below p best k
   below-not best k e = below-suc best k ∙ rw e
 
+  -- none passes, or one does and none below it
+  pub none-below : (best k : ℕ) → ((i : ℕ) → i < k → p i ≡ false) → lowest-below p best k ≡ best
+  none-below best zero f = below-zero best
+  none-below best (suc k) f = below-not best k (f k (omega arith)) ∙ none-below best k (λ i l. f i (omega arith))
+
+  pub one-below : (best k j : ℕ) → j < k → p j ≡ true → ((i : ℕ) → i < j → p i ≡ false) → lowest-below p best k ≡ suc j
+  one-below best zero j l e f = absurd (omega arith)
+  one-below best (suc k) j l e f = below-suc best k ∙ go (eqb-cases j k) (λ b q. one-below b k j q e f)
+    where
+      go : (j ≡ k) ⊎ (j ≡ k → ⊥) → ((b : ℕ) → j < k → lowest-below p b k ≡ suc j) → lowest-below p (pick (p k) (suc k) best) k ≡ suc j
+      go (inl i) g = rw (sym (ap p i) ∙ e) (none-below (suc k) k (λ a q. f a (omega arith)) ∙ ap suc (sym i))
+      go (inr i) g = g _ (omega arith)
+
   -- slots of other buckets can be passed over
   module _ (bucket : ℕ → ℕ) (b : ℕ) (only : (j : ℕ) → p j ≡ true → bucket j ≡ b) where
     never : (k : ℕ) → (bucket k ≡ b → ⊥) → p k ≡ false
@@ -73,6 +86,13 @@ module _ (p : ℕ → Bool) where
     pub skip : (best k : ℕ) → lowest-below p best k ≡ lowest-below p best (last bucket b k)
     skip best zero = rw (last-zero bucket b)
     skip best (suc k) = ⊎-elim (λ e. rw (last-in bucket b k e)) (λ e. rw (last-out bucket b k e, below-not best k (never k e)) (skip best k)) (eqb-cases (bucket k) b)
+
+-- A test picks the place.
+pub better-is : (t r : Bool) (at best : ℕ) → r ≡ t → r ≡ true → at ≡ pick t at best
+better-is t r at best e h = rw (sym e ∙ h)
+
+pub better-not : (t r : Bool) (at best : ℕ) → r ≡ t → r ≡ false → best ≡ pick t at best
+better-not t r at best e h = rw (sym e ∙ h)
 
 -- ---- what a search finds is a slot of those searched
 

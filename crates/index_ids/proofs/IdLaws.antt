@@ -1,11 +1,11 @@
--- Chains of ids: equal bits are equal ids, so a chain by the bits finds what the paper's ids ask for. `search ids`.
-use mathlib.Core.Path.{_≡_, sym, ap, _∙_}
+-- Ids on their paths: equal bits are equal ids, so a path by the bits finds what the paper's ids ask for. `search ids`.
+use mathlib.Core.Path.{_≡_, refl, sym, ap, _∙_}
 use mathlib.Core.Logic.{_⊎_, inl, inr}
-use mathlib.Core.Bool.{Bool, true, false, not}
+use mathlib.Core.Bool.{Bool, true, false}
 use mathlib.Core.List.{List}
-use Prim.Native.Nat.{ℕ, suc, _+_, _-_, _*_, _/_, _%_, _<_, _≤_}
+use Prim.Native.Nat.{ℕ, zero, suc, _+_, _-_, _/_, _%_, _<_, _≤_}
 use native.Mathlib.Omega.{arith}
-use borrow.Author.Tests.{eqb-true, eq-eqb, ne-eqb}
+use borrow.Author.Tests.{eqb-false, eq-eqb, ne-eqb}
 use lib.Dec.{eqb}
 use lib.ListN.{length, getD, set, length-set}
 use lib.Seq.{getD-set-same, getD-set-other}
@@ -13,18 +13,22 @@ use Rattle.paper.specs.Answer.{lowest}
 use Rattle.paper.specs.Bytes.{turned}
 use Rattle.laws.proofs.Words.{turned-twice}
 use Rattle.record.specs.declared.Slot.{Slot}
-use Rattle.record.specs.declared.FoundSlot.{FoundSlot}
 use Rattle.record.specs.declared.FoundSlot.the-variants.{At, Nothing}
 use Rattle.record.specs.declared.Check.the-variants.{Fine, Refused}
 use Rattle.record.specs.Says.{tested, refusal-of, slot-before}
 use Rattle.record.proofs.Slots.{no-slot, the-slot}
 use Rattle.record.proofs.Lowest.{look-starts, look-goes, look-stops, look-ends}
-use Rattle.index_ids.specs.Chain.{pick, lowest-below, Chained, Cleared}
-use Rattle.index_ids.specs.Ids.{bucket-of, id-in, id-bucket, is-id, new-id, rule-7}
-use Rattle.index_ids.specs.Table.{row, Rooms, Within, EnteredIn, IdsChained, IndexedIn}
-use Rattle.index_ids.proofs.Chains.{Left, eqb-cases, chain-starts, chain-goes, chain-falls, chain-ends, chain-enters, chain-fresh}
+use Rattle.index_ids.specs.declared.Way.{Way}
+use Rattle.index_ids.specs.declared.Way.the-variants.{Met, Ended}
+use Rattle.index_ids.specs.Chain.{lowest-below, Cleared}
+use Rattle.index_ids.specs.Ids.{bucket-of, id-in, is-id, new-id, rule-7}
+use Rattle.index_ids.specs.Table.{row, Rooms, Within}
+use Rattle.index_ids.specs.Path.{unasked, bit, Together, met, First, IdsChained, AtCell, EndsAt, slot-met, Followed, entered-at, IndexedIn}
+use Rattle.index_ids.proofs.Chains.{eqb-cases, none-below, one-below}
 use Rattle.index_ids.proofs.Repeats.{repeats}
 use Rattle.index_ids.proofs.Tables.{within-same, within-both, within-wider, within-row, row-stored}
+use Rattle.index_ids.proofs.Paths.{together-same, together-less, all-asked, met-head, met-linked, met-cell, begun, path-fresh}
+use Rattle.index_ids.proofs.Entering.{entered-within, path-enters}
 
 -- ---- clearing
 
@@ -66,40 +70,166 @@ same-is a b la lb = go (eqb-cases a b)
     go (inl e) = eq-eqb a b e ∙ sym (eq-eqb (turned a) (turned b) (ap turned e))
     go (inr e) = ne-eqb a b e ∙ sym (ne-eqb (turned a) (turned b) (λ z. e (turned-same a b la lb z)))
 
-pub better-is : (t r : Bool) (at best : ℕ) → r ≡ t → r ≡ true → at ≡ pick t at best
-better-is t r at best e h = rw (sym e ∙ h)
-
-pub better-not : (t r : Bool) (at best : ℕ) → r ≡ t → r ≡ false → best ≡ pick t at best
-better-not t r at best e h = rw (sym e ∙ h)
-
-pub bucket-is : (x : ℕ) → x < 4294967296 → x * 2654435761 / 4194304 % 1024 ≡ bucket-of (turned x)
+pub bucket-is : (x : ℕ) → x < 4294967296 → x % 1024 ≡ bucket-of (turned x)
 unfolding bucket-of
 bucket-is x l = rw (turned-twice x l)
 
-module _ (is heads next : List ℕ) (k id b : ℕ) (eb : b ≡ bucket-of (turned id)) (ch : Chained (id-bucket is) heads next k) where
-  only : (j : ℕ) → is-id is (turned id) j ≡ true → id-bucket is j ≡ b
-  only j h = sym (eb ∙ ap bucket-of (eqb-true (turned id) (id-in is j) h))
+id-few : (is : List ℕ) (j : ℕ) → id-in is j < 4294967296
+unfolding turned
+id-few is j = omega arith
 
-  pub id-starts : (at h : ℕ) → b < 1024 → at ≡ h → h ≡ getD heads b 0 → Left (id-bucket is) (is-id is (turned id)) b k (lowest-below (is-id is (turned id)) 0 k) 0 at
-  id-starts at h l e f = chain-starts (id-bucket is) (is-id is (turned id)) b k only heads next ch at l (e ∙ f)
+-- What holds on the way: which bits are asked, the cell that is read, and that no slot behind it has the id.
+pub record Following (is : List ℕ) (t : List (List ℕ)) (k x line c bits left at : ℕ) : Type 0 where
+  pub steps : ℕ
+  pub counted : steps + left ≡ 22
+  pub asked : bits ≡ unasked steps x
+  pub place : at ≡ met t x steps
+  pub fits : at ≤ k
+  pub cell : AtCell t x steps line c
+  pub low : line < 3
+  pub small : c < 1024
+  pub first : First is x steps (begun t x steps) k (met t x steps)
+  pub behind : (i : ℕ) → i < begun t x steps → id-in is i ≡ x → ⊥
 
-  pub id-goes : (W best best′ at at′ : ℕ) → Left (id-bucket is) (is-id is (turned id)) b k W best at → 0 < at → best′ ≡ pick (is-id is (turned id) (at - 1)) at best → at′ ≡ getD next (at - 1) 0 → Left (id-bucket is) (is-id is (turned id)) b k W best′ at′
-  id-goes = chain-goes (id-bucket is) (is-id is (turned id)) b k only heads next ch
+first-fits : (is : List ℕ) (x d from k w at : ℕ) → First is x d from k w → at ≡ w → at ≤ k
+first-fits is x d from k zero at h e = omega arith
+first-fits is x d from k (suc j) at h e = let z = h .below j refl in omega arith
 
-  pub id-falls : (W best at at′ : ℕ) → Left (id-bucket is) (is-id is (turned id)) b k W best at → 0 < at → at′ ≡ getD next (at - 1) 0 → at′ < at
-  id-falls = chain-falls (id-bucket is) (is-id is (turned id)) b k only heads next ch
+module _ (is : List ℕ) (t : List (List ℕ)) (k id : ℕ) (h : IdsChained is t k) where
+  pub way-starts : (line c bits left at : ℕ) → id < 4294967296 → line ≡ 0 → c ≡ bucket-of (turned id) → c < 1024 → bits ≡ id / 1024 → left ≡ 22 → at ≡ getD (row t line) c 0
+      → Following is t k (turned id) line c bits left at
+  unfolding unasked begun
+  way-starts line c bits left at l el ec lc eb en ea =
+      let p : at ≡ met t (turned id) 0 = ea ∙ rw (el, ec) (sym (met-head t (turned id))) in
+      record {
+        steps = 0;
+        counted = omega arith;
+        asked = eb ∙ rw (turned-twice id l);
+        place = p;
+        fits = first-fits is (turned id) 0 0 k (met t (turned id) 0) at (h .head (turned id)) p;
+        cell = record { head = λ z. (el, ec); link = λ e z. absurd (omega arith) };
+        low = omega arith;
+        small = lc;
+        first = h .head (turned id);
+        behind = λ i q. absurd (omega arith);
+      }
 
-  pub id-ends : (W best at : ℕ) (w : FoundSlot) → Left (id-bucket is) (is-id is (turned id)) b k W best at → at ≤ 0 → w ≡ slot-before best → w ≡ slot-before W
-  id-ends W best at w h l e = e ∙ ap slot-before (chain-ends (id-bucket is) (is-id is (turned id)) b k only heads next ch W best at h l)
+module _ (is : List ℕ) (t : List (List ℕ)) (k id line c bits left at : ℕ) (w : Following is t k (turned id) line c bits left at) where
+  -- the slot that is met has not the id, so not all bits are asked
+  module _ (j : ℕ) (ej : at ≡ suc j) (ne : turned id ≡ id-in is j → ⊥) where
+    other : Together 22 (turned id) (id-in is j) → ⊥
+    unfolding turned
+    other q = ne (turned-same (turned id) (id-in is j) (omega arith) (id-few is j) (all-asked (turned id) (id-in is j) q))
 
-module _ (is : List ℕ) (k id : ℕ) (w : FoundSlot) (e : turned id ≡ id-in is k) (h : w ≡ slot-before (lowest-below (is-id is (turned id)) 0 k)) where
-  pub id-new : w ≡ Nothing → true ≡ new-id is k
-  id-new q = let z = no-slot (lowest-below (is-id is (turned id)) 0 k) w h q in rw (rw e at z)
+    here : met t (turned id) (w .steps) ≡ suc j
+    here = sym (w .place) ∙ ej
 
-  pub id-old : (s : Slot) → w ≡ At s → false ≡ new-id is k
-  id-old s q = let z = the-slot (lowest-below (is-id is (turned id)) 0 k) w s h q in rw (rw e at z, ne-eqb (suc (s .0)) 0 (λ y. omega arith))
+    bits-left : 0 < left
+    bits-left = go left refl
+      where
+        go : (n : ℕ) → left ≡ n → 0 < left
+        go (suc n) e = omega arith
+        go zero e = absurd (let s = w .counted in other (together-less (w .steps) (turned id) (id-in is j) (w .first .goes j here) 22 (omega arith)))
 
-pub ruleset ids = (same-is, better-is, better-not, bucket-is, id-starts, id-goes, id-falls, id-ends, id-new, id-old)
+    goes-on : (line′ bits′ left′ at′ : ℕ) → k ≤ 1024 → IdsChained is t k → line′ ≡ 1 + bits % 2 → bits′ ≡ bits / 2 → left′ ≡ left - 1 → at′ ≡ getD (row t line′) j 0
+        → Following is t k (turned id) line′ j bits′ left′ at′
+    unfolding unasked begun
+    goes-on line′ bits′ left′ at′ lk h el eb en ea =
+        let b = bits-left in
+        let s = w .counted in
+        let g = w .first .below j here in
+        let u : bits ≡ unasked (w .steps) (turned id) = w .asked in
+        let a : line′ ≡ suc (bit (w .steps) (turned id)) = omega arith in
+        let p : at′ ≡ met t (turned id) (suc (w .steps)) = ea ∙ rw a (sym (met-linked t (turned id) (w .steps) j here)) in
+        let q = h .link (turned id) (w .steps) (let z = here in omega arith) in
+        record {
+          steps = suc (w .steps);
+          counted = omega arith;
+          asked = eb ∙ rw u;
+          place = p;
+          fits = first-fits is (turned id) (suc (w .steps)) _ k _ at′ q p;
+          cell = record { head = λ z. absurd (omega arith); link = λ e z. let i : w .steps ≡ e = omega arith in rw (← i) (a, here) };
+          low = omega arith;
+          small = omega arith;
+          first = q;
+          behind = λ i q e. not-here i (let z = here in omega arith) e;
+        }
+      where
+        not-here : (i : ℕ) → i < suc j → id-in is i ≡ turned id → ⊥
+        not-here i l e =
+            let z = here in
+            let n : i ≡ j → ⊥ = λ q. ne (sym e ∙ ap (id-in is) q) in
+            let a : i < begun t (turned id) (w .steps) → ⊥ = λ q. w .behind i q e in
+            let b : begun t (turned id) (w .steps) ≤ i → ⊥ = λ q. w .first .first i q (omega arith) (rw e (together-same (w .steps) (turned id))) in
+            omega arith
+
+  -- no slot below the one that is met has the id, so where it has it is the lowest; and none has it where the path has ended
+  none-here : (i : ℕ) → suc i < at → id-in is i ≡ turned id → ⊥
+  none-here i l e =
+      let z = w .place in
+      let a : i < begun t (turned id) (w .steps) → ⊥ = λ q. w .behind i q e in
+      let b : begun t (turned id) (w .steps) ≤ i → ⊥ = λ q. w .first .first i q (omega arith) (rw e (together-same (w .steps) (turned id))) in
+      omega arith
+
+  none-at-all : at ≡ 0 → (i : ℕ) → i < k → id-in is i ≡ turned id → ⊥
+  none-at-all q i l e =
+      let a : i < begun t (turned id) (w .steps) → ⊥ = λ q. w .behind i q e in
+      let b : begun t (turned id) (w .steps) ≤ i → ⊥ = λ p. w .first .none (sym (w .place) ∙ q) i p l (rw e (together-same (w .steps) (turned id))) in
+      omega arith
+
+  pub way-left : left ≤ 22
+  way-left = let z = w .counted in omega arith
+
+  abbrev Ends : Way → Type 0
+  Ends r = Followed is t k (turned id) r
+
+  pub way-falls : (b : Bool) (j : ℕ) → 0 < at → j ≡ at - 1 → b ≡ eqb (turned id) (id-in is j) → b ≡ false → 1 ≤ left
+  way-falls b j l ej eb q = bits-left j (omega arith) (eqb-false (turned id) (id-in is j) (sym eb ∙ q))
+
+  pub way-less : (b : Bool) (j : ℕ) → 0 < at → j ≡ at - 1 → b ≡ eqb (turned id) (id-in is j) → b ≡ false → left - 1 < left
+  way-less b j l ej eb q = let z = way-falls b j l ej eb q in omega arith
+
+  pub way-goes : (b : Bool) (j line′ bits′ left′ at′ : ℕ) → k ≤ 1024 → IdsChained is t k → 0 < at → j ≡ at - 1 → b ≡ eqb (turned id) (id-in is j) → b ≡ false
+      → line′ ≡ 1 + bits % 2 → bits′ ≡ bits / 2 → left′ ≡ left - 1 → at′ ≡ getD (row t line′) j 0 → Following is t k (turned id) line′ j bits′ left′ at′
+  way-goes b j line′ bits′ left′ at′ lk h l ej eb q = goes-on j (omega arith) (eqb-false (turned id) (id-in is j) (sym eb ∙ q)) line′ bits′ left′ at′ lk h
+
+  pub way-meets : (b : Bool) (j : ℕ) → 0 < at → j ≡ at - 1 → b ≡ eqb (turned id) (id-in is j) → b ≡ true → Ends (Met (record { 0 = j }))
+  unfolding slot-before
+  way-meets b j l ej eb q =
+      let e : at ≡ suc j = omega arith in
+      let g = one-below (is-id is (turned id)) 0 k j (w .first .below j (sym (w .place) ∙ e)) (sym eb ∙ q)
+      (λ i p. ne-eqb (turned id) (id-in is i) (λ z. none-here i (omega arith) (sym z))) in
+      record { found = rw g; ended = λ l c z. absurd (let y : _≡_ {A = ℕ} 0 1 = cc in omega arith) }
+
+  pub way-ends : at ≤ 0 → Ends (Ended line c)
+  unfolding slot-before
+  way-ends l =
+      let e : at ≡ 0 = omega arith in
+      let g = none-below (is-id is (turned id)) 0 k (λ i p. ne-eqb (turned id) (id-in is i) (λ z. none-at-all e i p (sym z))) in
+      record {
+        found = rw g;
+        ended = λ r b z. same r b z (record { steps = w .steps; cell = w .cell; free = sym (met-cell t (turned id) (w .steps) line c (w .cell)) ∙ sym (w .place) ∙ e; low = w .low; small = w .small });
+      }
+    where
+      same : (l′ c′ : ℕ) → Ended line c ≡ Ended l′ c′ → EndsAt t (turned id) line c → EndsAt t (turned id) l′ c′
+      same l′ c′ z h = let a : line ≡ l′ = cc in let b : c ≡ c′ = cc in rw (← a, ← b) h
+
+-- Where a way leads.
+module _ (is : List ℕ) (t : List (List ℕ)) (k x : ℕ) (w : Way) (h : Followed is t k x w) where
+  pub way-found : (s : Slot) → w ≡ Met s → At s ≡ slot-before (lowest-below (is-id is x) 0 k)
+  way-found s q = sym (ap slot-met q) ∙ h .found
+
+  module _ (l c : ℕ) (q : w ≡ Ended l c) where
+    pub way-nothing : Nothing ≡ slot-before (lowest-below (is-id is x) 0 k)
+    way-nothing = sym (ap slot-met q) ∙ h .found
+
+    pub free-low : l < 3
+    free-low = h .ended l c q .low
+
+    pub free-small : c < 1024
+    free-small = h .ended l c q .small
+
+pub ruleset ids = (same-is, bucket-is, way-found, way-nothing, free-low, free-small, way-starts, way-left, way-falls, way-less, way-goes, way-meets, way-ends)
 
 -- ---- 7
 
@@ -108,16 +238,15 @@ pub record Checking (is : List ℕ) (m : ℕ) (old t : List (List ℕ)) (k : ℕ
   pub small : k ≤ m
   pub whole : lowest (new-id is) 0 m ≡ lowest (new-id is) k (m - k)
   pub index : IdsChained is t k
-  pub within : Within 0 2 old t
+  pub within : Within 0 3 old t
 
-pub checking-goes : (is : List ℕ) (m : ℕ) (old t t′ : List (List ℕ)) (k : ℕ) (b : Bool) (c : ℕ) → EnteredIn 0 c k t t′ → Checking is m old t k → k < m → m ≤ 1024 → b ≡ new-id is k → not b ≡ false → c ≡ id-bucket is k → c < 1024 → Checking is m old t′ (k + 1)
-checking-goes is m old t t′ k b c en h l n et q eb lb =
-    record {
-      small = omega arith;
-      whole = look-goes (new-id is) (lowest (new-id is) 0 m) k m b (h .whole) l et q;
-      index = chain-enters (id-bucket is) k _ _ _ _ c (h .index) (en .entered) (omega arith) lb eb;
-      within = within-both 0 2 old t t′ (h .within) (en .within);
-    }
+-- No slot below k has the id of k where its path ends, and one has it where a slot is met.
+module _ (is : List ℕ) (k : ℕ) {t : List (List ℕ)} (w : Way) (h : Followed is t k (id-in is k) w) where
+  id-new : (r c : ℕ) → w ≡ Ended r c → true ≡ new-id is k
+  id-new r c q = let z = no-slot (lowest-below (is-id is (id-in is k)) 0 k) (slot-met w) (h .found) (ap slot-met q) in rw z
+
+  id-old : (s : Slot) → w ≡ Met s → false ≡ new-id is k
+  id-old s q = let z = the-slot (lowest-below (is-id is (id-in is k)) 0 k) (slot-met w) s (h .found) (ap slot-met q) in rw (z, ne-eqb (suc (s .0)) 0 (λ y. omega arith))
 
 all-new : (list : ℕ) (is : List ℕ) (m : ℕ) → rule-7 list is m ≡ tested 7 list (lowest (new-id is) 0 m)
 unfolding rule-7
@@ -128,8 +257,8 @@ module _ (is : List ℕ) (m list : ℕ) (old : List (List ℕ)) (heads : List �
   abbrev first : List (List ℕ)
   first = set old 0 heads
 
-  begun : Within 0 2 old first
-  begun = within-wider 0 1 0 2 old first (within-row old 0 heads (z .room)) (omega arith) (omega arith)
+  cleared : Within 0 3 old first
+  cleared = within-wider 0 1 0 3 old first (within-row old 0 heads (z .room)) (omega arith) (omega arith)
 
   pub checking-starts : Checking is m first first 0
   checking-starts =
@@ -137,33 +266,44 @@ module _ (is : List ℕ) (m list : ℕ) (old : List (List ℕ)) (heads : List �
       record {
         small = omega arith;
         whole = look-starts (new-id is) m;
-        index = chain-fresh (id-bucket is) _ _ (rw e z) (begun .rooms n .wide 1 (omega arith));
-        within = within-same 0 2 first;
+        index = path-fresh is first (rw e (z .none));
+        within = within-same 0 3 first;
       }
 
   module _ (t : List (List ℕ)) (k : ℕ) (h : Checking is m first t k) where
-    within : Within 0 2 old t
-    within = within-both 0 2 old first t begun (h .within)
+    within : Within 0 3 old t
+    within = within-both 0 3 old first t cleared (h .within)
 
     pub checking-rooms : Rooms t
     checking-rooms = within .rooms n
 
-    pub checking-stops : (b : Bool) → k < m → b ≡ new-id is k → not b ≡ true → IndexedIn is m list (Refused (refusal-of 7 list k)) old t
-    checking-stops b l et q =
-        record {
-          indexed = record {
-            answer = look-stops (new-id is) 7 list (lowest (new-id is) 0 m) k m b (h .whole) l et q ∙ sym (all-new list is m);
+    module _ (w : Way) (g : Followed is t k (id-in is k) w) (l : k < m) where
+      pub checking-stops : (s : Slot) → w ≡ Met s → IndexedIn is m list (Refused (refusal-of 7 list k)) old t
+      checking-stops s q =
+          record {
+            answer = look-stops (new-id is) 7 list (lowest (new-id is) 0 m) k m false (h .whole) l (id-old is k w g s q) refl ∙ sym (all-new list is m);
             index = λ e. absurd (let y : _≡_ {A = ℕ} 0 1 = cc in omega arith);
-          };
-          within = within;
-        }
+            within = within;
+          }
+
+      pub checking-goes : (r c : ℕ) (t′ : List (List ℕ)) → w ≡ Ended r c → m ≤ 1024 → t′ ≡ entered-at t r c k → Checking is m first t′ (k + 1)
+      checking-goes r c t′ q few e =
+          let f = g .ended r c q in
+          rw e
+          record {
+            small = omega arith;
+            whole = look-goes (new-id is) (lowest (new-id is) 0 m) k m true (h .whole) l (id-new is k w g r c q) refl;
+            index = path-enters is t k (h .index) checking-rooms (omega arith) r c f;
+            within = within-both 0 3 first t (entered-at t r c k) (h .within) (entered-within t k checking-rooms r c (f .low) (f .small) (omega arith));
+          }
 
     pub checking-ends : m ≤ k → IndexedIn is m list Fine old t
     checking-ends l =
         let e : k ≡ m = let y = h .small in omega arith in
         record {
-          indexed = record { answer = look-ends (new-id is) 7 list (lowest (new-id is) 0 m) k m (h .whole) l ∙ sym (all-new list is m); index = λ y. rw e at (h .index) };
+          answer = look-ends (new-id is) 7 list (lowest (new-id is) 0 m) k m (h .whole) l ∙ sym (all-new list is m);
+          index = λ y. rw e at (h .index);
           within = within;
         }
 
-pub ruleset checking = (checking-starts, checking-rooms, checking-stops, checking-ends)
+pub ruleset checking = (checking-starts, checking-rooms, checking-stops, checking-goes, checking-ends)

@@ -1,4 +1,4 @@
--- Tables of seven rows: a store in one row leaves the others, and what a writer leaves adds up.
+-- Tables of eight rows: a store in one row leaves the others, and what a writer leaves adds up.
 use mathlib.Core.Path.{_≡_, refl, ap, _∙_}
 use mathlib.Core.Logic.{_⊎_, inl, inr}
 use mathlib.Core.List.{List, []}
@@ -9,7 +9,7 @@ use lib.Seq.{getD-set-same, getD-set-other}
 use Rattle.index_ids.specs.Table.{row, Rooms, Within, EnteredIn}
 use Rattle.index_ids.proofs.Chains.{eqb-cases}
 
-pub rooms-wide : (t : List (List ℕ)) (r : ℕ) → Rooms t → r < 7 → length (row t r) ≡ 1024
+pub rooms-wide : (t : List (List ℕ)) (r : ℕ) → Rooms t → r < 8 → length (row t r) ≡ 1024
 rooms-wide t r h l = h .wide r l
 
 -- ---- which rows a writer leaves
@@ -34,14 +34,14 @@ module _ (t : List (List ℕ)) (r : ℕ) (x : List ℕ) where
   pub row-left : (q : ℕ) → (q ≡ r → ⊥) → row (set t r x) q ≡ row t q
   row-left q e = getD-set-other t r q x [] e
 
-  rooms-stored : (r < 7 → length x ≡ 1024) → Rooms t → Rooms (set t r x)
+  rooms-stored : (r < 8 → length x ≡ 1024) → Rooms t → Rooms (set t r x)
   rooms-stored e h = record { rows = length-set t r x ∙ h .rows; wide = λ q l. go q l (eqb-cases q r) }
     where
-      go : (q : ℕ) → q < 7 → (q ≡ r) ⊎ (q ≡ r → ⊥) → length (row (set t r x) q) ≡ 1024
+      go : (q : ℕ) → q < 8 → (q ≡ r) ⊎ (q ≡ r → ⊥) → length (row (set t r x) q) ≡ 1024
       go q l (inl i) = rw i (ap length (row-stored (let n = h .rows in omega arith)) ∙ e (omega arith))
       go q l (inr i) = ap length (row-left q i) ∙ h .wide q l
 
-  row-within : (Rooms t → r < 7 → length x ≡ 1024) → Within r (suc r) t (set t r x)
+  row-within : (Rooms t → r < 8 → length x ≡ 1024) → Within r (suc r) t (set t r x)
   row-within e =
       record { below = λ q l. row-left q (λ z. omega arith); beyond = λ q l. row-left q (λ z. omega arith); rooms = λ h. rooms-stored (e h) h }
 
@@ -53,14 +53,14 @@ pub within-cell : (t : List (List ℕ)) (r k v : ℕ) → Within r (suc r) t (se
 within-cell t r k v = row-within t r (set (row t r) k v) (λ h l. length-set (row t r) k v ∙ h .wide r l)
 
 -- A table of zeros.
-pub rooms-fresh : Rooms (replicate 7 (replicate 1024 0))
+pub rooms-fresh : Rooms (replicate 8 (replicate 1024 0))
 rooms-fresh =
     let zeros : List ℕ = replicate 1024 0 in
-    record { rows = length-replicate 7 zeros; wide = λ r l. ap length (getD-replicate 7 r zeros [] l) ∙ length-replicate {A = ℕ} 1024 0 }
+    record { rows = length-replicate 8 zeros; wide = λ r l. ap length (getD-replicate 8 r zeros [] l) ∙ length-replicate {A = ℕ} 1024 0 }
 
 -- ---- a slot is entered in a chain: two stores, in two rows
 
-module _ (t : List (List ℕ)) (h b k : ℕ) (n : Rooms t) (l : h < 6) where
+module _ (t : List (List ℕ)) (h b k : ℕ) (n : Rooms t) (l : h < 7) where
   abbrev linked : List (List ℕ)
   linked = set t (h + 1) (set (row t (h + 1)) k (getD (row t h) b 0))
 

@@ -1,3 +1,4 @@
 pub mod Chain
 pub mod Ids
 pub mod Table
+pub mod Path

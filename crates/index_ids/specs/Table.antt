@@ -1,44 +1,42 @@
--- An index lies in one table of seven rows: the chains of ids, what is known of each slot's full name, the chains of full names. Its
+-- An index lies in one table of eight rows: the paths of ids, what is known of each slot's full name, the chains of full names. Its
 -- rows by their names, and which rows a writer leaves.
 use Prim.Native.Nat.{ℕ, suc, _<_, _≤_}
 use mathlib.Core.Path.{_≡_}
 use mathlib.Core.List.{List, []}
 use lib.ListN.{length, getD}
-use Rattle.record.specs.declared.Check.{Check}
-use Rattle.index_ids.specs.Chain.{Chained, Entered}
-use Rattle.index_ids.specs.Ids.{id-bucket, Indexed}
+use Rattle.index_ids.specs.Chain.{Entered}
 
 abbrev pub row : (index : List (List ℕ)) → ℕ → List ℕ
 row index r = getD index r []
 
--- Heads and links of the chains of ids.
+-- Heads of the paths of ids, and their links by a bit.
 abbrev pub id-heads : List (List ℕ) → List ℕ
 id-heads index = row index 0
 
-abbrev pub id-next : List (List ℕ) → List ℕ
-id-next index = row index 1
+abbrev pub id-next : (bit : ℕ) → List (List ℕ) → List ℕ
+id-next bit index = row index (suc bit)
 
 -- The place above each slot, and the length and the tag of its full name.
 abbrev pub ups-in : List (List ℕ) → List ℕ
-ups-in index = row index 2
+ups-in index = row index 3
 
 abbrev pub lens-in : List (List ℕ) → List ℕ
-lens-in index = row index 3
+lens-in index = row index 4
 
 abbrev pub tags-in : List (List ℕ) → List ℕ
-tags-in index = row index 4
+tags-in index = row index 5
 
 -- Heads and links of the chains of full names.
 abbrev pub name-heads : List (List ℕ) → List ℕ
-name-heads index = row index 5
+name-heads index = row index 6
 
 abbrev pub name-next : List (List ℕ) → List ℕ
-name-next index = row index 6
+name-next index = row index 7
 
--- Seven rows of 1,024 numbers.
+-- Eight rows of 1,024 numbers.
 pub record Rooms (index : List (List ℕ)) : Type 0 where
-  pub rows : length index ≡ 7
-  pub wide : (r : ℕ) → r < 7 → length (row index r) ≡ 1024
+  pub rows : length index ≡ 8
+  pub wide : (r : ℕ) → r < 8 → length (row index r) ≡ 1024
 
 -- The rows below a and those from b on are as they were, and all have the room that they had.
 pub record Within (a b : ℕ) (old new : List (List ℕ)) : Type 0 where
@@ -50,12 +48,3 @@ pub record Within (a b : ℕ) (old new : List (List ℕ)) : Type 0 where
 pub record EnteredIn (h b k : ℕ) (old new : List (List ℕ)) : Type 0 where
   pub entered : Entered (row old h) (row old (suc h)) b k (row new h) (row new (suc h))
   pub within : Within h (suc (suc h)) old new
-
--- The ids of the first m slots stand in their chains.
-abbrev pub IdsChained : (ids : List ℕ) (index : List (List ℕ)) (m : ℕ) → Type 0
-IdsChained ids index m = Chained (id-bucket ids) (id-heads index) (id-next index) m
-
--- The answer to 7, and the index that is left where there is no fault.
-pub record IndexedIn (ids : List ℕ) (m list : ℕ) (r : Check) (old new : List (List ℕ)) : Type 0 where
-  pub indexed : Indexed ids m list r (id-heads new) (id-next new)
-  pub within : Within 0 2 old new

@@ -83,31 +83,31 @@ cell-stored (x ∷ t) (suc r) k v = cell-stored t r k v
 -- One slot is marked: a store in each of the three rows.
 module _ (t : List (List ℕ)) (k u own x : ℕ) where
   abbrev first : List (List ℕ)
-  first = set t 2 (set (row t 2) k u)
+  first = set t 3 (set (row t 3) k u)
 
   abbrev second : List (List ℕ)
-  second = set first 3 (set (row first 3) k own)
+  second = set first 4 (set (row first 4) k own)
 
   abbrev third : List (List ℕ)
-  third = set second 4 (set (row second 4) k x)
+  third = set second 5 (set (row second 5) k x)
 
   pub put-three : PutIn k u own x t third
   put-three =
       record {
-        ups-put = row-left second 4 _ 2 (λ z. omega arith) ∙ row-left first 3 _ 2 (λ z. omega arith) ∙ cell-stored t 2 k u;
-        lens-put = row-left second 4 _ 3 (λ z. omega arith) ∙ cell-stored first 3 k own ∙ ap (λ (z : List ℕ). set z k own) (row-left t 2 _ 3 (λ z. omega arith));
-        tags-put = cell-stored second 4 k x ∙ ap (λ (z : List ℕ). set z k x) (row-left first 3 _ 4 (λ z. omega arith) ∙ row-left t 2 _ 4 (λ z. omega arith));
+        ups-put = row-left second 5 _ 3 (λ z. omega arith) ∙ row-left first 4 _ 3 (λ z. omega arith) ∙ cell-stored t 3 k u;
+        lens-put = row-left second 5 _ 4 (λ z. omega arith) ∙ cell-stored first 4 k own ∙ ap (λ (z : List ℕ). set z k own) (row-left t 3 _ 4 (λ z. omega arith));
+        tags-put = cell-stored second 5 k x ∙ ap (λ (z : List ℕ). set z k x) (row-left first 4 _ 5 (λ z. omega arith) ∙ row-left t 3 _ 5 (λ z. omega arith));
         within =
-            within-both 2 5 t first third
-            (within-wider 2 3 2 5 t first (within-cell t 2 k u) (omega arith) (omega arith))
-            (within-both 2 5 first second third
-            (within-wider 3 4 2 5 first second (within-cell first 3 k own) (omega arith) (omega arith))
-            (within-wider 4 5 2 5 second third (within-cell second 4 k x) (omega arith) (omega arith)));
+            within-both 3 6 t first third
+            (within-wider 3 4 3 6 t first (within-cell t 3 k u) (omega arith) (omega arith))
+            (within-both 3 6 first second third
+            (within-wider 4 5 3 6 first second (within-cell first 4 k own) (omega arith) (omega arith))
+            (within-wider 5 6 3 6 second third (within-cell second 5 k x) (omega arith) (omega arith)));
       }
 
 module _ (name : ℕ → List ℕ) (kids : ℕ → ℕ) (n lv c k u l h : ℕ) (t : List (List ℕ)) where
   nothing-in : walk kids n lv c k ≡ nothing k → MarkedIn name (walk kids n lv c k) k u l h t t k
-  nothing-in e = record { marked = nothing-marked name _ k u l h _ _ _ e; within = within-same 2 5 t }
+  nothing-in e = record { marked = nothing-marked name _ k u l h _ _ _ e; within = within-same 3 6 t }
 
   mark-none : c ≡ 0 → MarkedIn name (walk kids n lv c k) k u l h t t k
   mark-none e = nothing-in (walk-none kids n lv c k e)
@@ -126,7 +126,7 @@ module _ (name : ℕ → List ℕ) (kids : ℕ → ℕ) (n lv c k u l h : ℕ) (
         marked = joined-marked name (walk kids n lv c k) (walk kids n (lv - 1) m (suc k)) (walk kids n lv (c - 1) j) k u l h own h₁ j r _ _ _ _ _ _ _ _ _
             (rw (← (w .marked .next), add-one k) at (walk-in kids n lv c k m e f q em)) eo eh (rw (add-one k) at (w .marked .next ∙ filled kids n (lv - 1) m (k + 1) (omega arith) .count))
             (rw (put .ups-put, put .lens-put, put .tags-put, ex, eh₂, add-one k) at (w .marked)) (v .marked);
-        within = within-both 2 5 t t₀ t₂ (put .within) (within-both 2 5 t₀ t₁ t₂ (w .within) (v .within));
+        within = within-both 3 6 t t₀ t₂ (put .within) (within-both 3 6 t₀ t₁ t₂ (w .within) (v .within));
       }
 
 -- the next slot is within the list

@@ -33,7 +33,7 @@ pub record PutIn (k up len tag : ℕ) (old new : List (List ℕ)) : Type 0 where
   pub ups-put : ups-in new ≡ set (ups-in old) k up
   pub lens-put : lens-in new ≡ set (lens-in old) k len
   pub tags-put : tags-in new ≡ set (tags-in old) k tag
-  pub within : Within 2 5 old new
+  pub within : Within 3 6 old new
 
 -- What stands before the names inside the record k.
 abbrev pub inside : (name : ℕ → List ℕ) (k : ℕ) → Prefix → Prefix
@@ -48,9 +48,9 @@ pub record OneIn (name : ℕ → List ℕ) (k : ℕ) (p r : Prefix) (old new : L
 -- What a walk over a row leaves: the three rows of the names, and no other, are written.
 pub record MarkedIn (name : ℕ → List ℕ) (p : Part) (slot up len hash : ℕ) (old new : List (List ℕ)) (r : ℕ) : Type 0 where
   pub marked : Marked name p slot up len hash (ups-in old) (lens-in old) (tags-in old) (ups-in new) (lens-in new) (tags-in new) r
-  pub within : Within 2 5 old new
+  pub within : Within 3 6 old new
 
 -- The answer to 8: the two rows of the chains, and no other, are written.
 pub record UnequalIn (l : Trees) (plan : List (List ℕ)) (m list : ℕ) (r : Check) (old new : List (List ℕ)) : Type 0 where
   pub unequal : Unequal l (sources plan) (ups-in old) m list r (name-heads new) (name-next new)
-  pub within : Within 5 7 old new
+  pub within : Within 6 8 old new

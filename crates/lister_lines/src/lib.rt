@@ -240,7 +240,7 @@ pub fn listing<'a>(records: &'a [u8], pool: &'a [u8], from: usize, out: &mut [u8
         (now (out .entry)) r (now (out .exit)) ⌝ }
 {
     let mut plan = [[0u32; 1024]; 3];
-    let mut index = [[0u16; 1024]; 7];
+    let mut index = [[0u16; 1024]; 8];
     let opened = open_base(records, pool, &mut plan, &mut index);
     if let Check::Refused(refusal) = opened {
         return list_refusal(refusal, from, out);

@@ -17,7 +17,7 @@ use Rattle.record.specs.declared.Check.{Check}
 use Rattle.record.specs.Says.{tested}
 use Rattle.tree_walk.specs.There.{row-of, There}
 use Rattle.plan.specs.Table.{numbers}
-use Rattle.index_ids.specs.Table.{IdsChained}
+use Rattle.index_ids.specs.Path.{IdsChained}
 use Rattle.prune_columns.specs.Split.{first-direct}
 use Rattle.prune_columns.specs.Projected.{marked}
 use Rattle.prune_marks.specs.Marks.{DistinctIds}

@@ -96,7 +96,7 @@ pub fn prune<'a>(
         Shaped::Roots(count) => {
             let trees = [records, pool, records, pool];
             let mut plan = [[0u32; 1024]; 3];
-            let mut index = [[0u16; 1024]; 7];
+            let mut index = [[0u16; 1024]; 8];
             let mut marks = [0u8; 1024];
             // test: 7 and 8, with the base as its own plan
             let tested = index_base(&trees, records.len() / 24, b"", &mut plan, &mut index);

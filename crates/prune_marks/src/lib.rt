@@ -8,7 +8,7 @@ ghost use mathlib.Core.Path.{_≡_};
 ghost use Prim.Native.Nat.{_≤_};
 ghost use Rattle.plan.specs.Table.{numbers};
 ghost use Rattle.index_ids.specs.Chain.{Below};
-ghost use Rattle.index_ids.specs.Table.{IdsChained};
+ghost use Rattle.index_ids.specs.Path.{IdsChained};
 ghost use Rattle.prune_marks.specs.Marks.{mark-at, Unmarked, DistinctIds, Marks};
 
 // Marks a slot that was found.

@@ -88,7 +88,7 @@ pub fn renumber<'a>(
             let trees = [records, pool, records, pool];
             let n = records.len() / 24;
             let mut plan = [[0u32; 1024]; 3];
-            let mut index = [[0u16; 1024]; 7];
+            let mut index = [[0u16; 1024]; 8];
             let tested = index_base(&trees, n, identifiers, &mut plan, &mut index);
             if let Check::Refused(r) = tested {
                 return Changed::Refused(r);

@@ -10,7 +10,7 @@ use Rattle.paper.specs.Lists.{id-list}
 use Rattle.paper.specs.Encode.{id-bytes}
 use Rattle.paper.specs.Renumber.{renamed}
 use Rattle.index_ids.specs.Ids.{ids-in}
-use Rattle.index_ids.specs.Table.{IdsChained}
+use Rattle.index_ids.specs.Path.{IdsChained}
 
 -- 9 was tested, the old ids are indexed, and there is room.
 pub record Mappable (identifiers ids : List ℕ) (index : List (List ℕ)) (m : ℕ) (out : List ℕ) : Type 0 where

@@ -19,6 +19,7 @@ pub mod Ends
 pub mod Told
 pub mod Numbered
 pub mod Limits
+pub mod Many
 pub mod Sites
 pub mod Folds
 pub mod Promises

@@ -20,7 +20,8 @@ use Rattle.paper.specs.Encode.{record-bytes, pool-bytes}
 use Rattle.paper.specs.Limits.{sized}
 use Rattle.paper.specs.Lent.{Stored, Lent}
 use Rattle.paper.specs.Entries.{Result, update-entry, prune-entry, renumber-entry, read, find-name, find-folded}
-use Rattle.paper.specs.Outcome.{changed, Found, Buffer, Answers}
+use Rattle.paper.specs.Entries.{find-ids}
+use Rattle.paper.specs.Outcome.{changed, searched, Found, Buffer, Answers}
 use Rattle.paper.specs.Sample.{T, T-records, T-pool}
 use Rattle.paper.specs.Asked.{AnUpdate, APruner, signed-id, answer, update-reply, _with-last_}
 use Rattle.paper.specs.Worked.{examples}
@@ -36,6 +37,7 @@ use Rattle.theorems.specs.One.{NoByteChanges, PromisedFound, Told, Refus
 use Rattle.theorems.specs.Numbered.{OneNumberEach}
 use Rattle.theorems.specs.Sites.{IdsAreNoSlots}
 use Rattle.theorems.specs.Folds.{Alone, Second, ByRows, Plain, CaseForgotten, FoldingMet}
+use Rattle.theorems.specs.Many.{Lendable, OneByOne, InSlots}
 use Rattle.theorems.specs.Wrong.{P4, P5, RightUpdate, P8, P9, RightPruner}
 use Rattle.theorems.proofs.Signed.{signed-natural, signed-negative}
 use Rattle.theorems.proofs.Evolution.{evolved-stays, lasting, one-column}
@@ -46,12 +48,13 @@ use Rattle.theorems.proofs.Ends as Ends
 use Rattle.theorems.proofs.Again.{decoded-again, update-again, prune-again, renumber-again}
 use Rattle.theorems.proofs.Again.{prune-parts, renumber-numbers}
 use Rattle.theorems.proofs.One as One
-use Rattle.theorems.proofs.Told.{refusals-told, none-accepted}
+use Rattle.theorems.proofs.Told.{refusals-told, none-accepted, none-searched}
 use Rattle.theorems.proofs.Numbered.{one-number-each}
 use Rattle.theorems.proofs.Limits.{limits-hold}
 use Rattle.theorems.proofs.Sites.{ids-are-no-slots}
 use Rattle.theorems.proofs.Folds.{plain-exact, plain-exact-read, exact-alone, case-forgotten}
 use Rattle.theorems.proofs.Folds.{ambiguous-two, by-rows, folding-met}
+use Rattle.theorems.proofs.Many.{one-by-one, in-slots}
 use Rattle.theorems.proofs.Wrong.{right-update, right-pruner}
 
 -- ---- the worked examples
@@ -177,7 +180,7 @@ renumbering-gives-each-once = renumber-numbers
 
 -- No second answer fits: two outcomes that keep the promise of an entry that writes (`Answers`) are one.
 -- `answer` is the definition's, `said` is what is told, `news` what the buffers hold afterwards;
-pub one-answer : {A : Type 0} (says : Answer Result → A) (answer : Answer Result) (buffers : List (Buffer Result))
+pub one-answer : {R A : Type 0} (says : Answer R → A) (answer : Answer R) (buffers : List (Buffer R))
     → (said said′ : A) (news news′ : List (List ℕ)) → Answers says answer buffers said news
     → Answers says answer buffers said′ news′ → (said ≡ said′) × (news ≡ news′)
 one-answer = One.one-answer
@@ -205,10 +208,15 @@ an-id-is-no-slot = ids-are-no-slots
 pub refusals-are-told : RefusalsTold
 refusals-are-told = refusals-told
 
--- So it is not taken for an acceptance, which says 0.
+-- So it is not taken for an acceptance, which says 0;
 pub zero-is-accepted : (answer : Answer Result) (n l p : ℕ) → Told answer → changed answer .refusal ≡ 0
     → answer ≡ refused n l p → ⊥
 zero-is-accepted = none-accepted
+
+-- nor is that of a search for many ids.
+pub zero-is-searched : (answer : Answer (List (Option Row))) (n l p : ℕ) → Told answer → searched answer .refusal ≡ 0
+    → answer ≡ refused n l p → ⊥
+zero-is-searched = none-searched
 
 -- No second tree fits the bytes of an answer.
 pub one-tree : (result result′ : Result) → ReadsAgain result → ReadsAgain result′
@@ -250,6 +258,19 @@ folding-goes-by-rows = by-rows
 -- None of these is empty: T is plain, and in a tree with capital letters one matches alone and two do not.
 pub folding-is-met : FoldingMet
 folding-is-met = folding-met
+
+-- ---- many ids at once
+
+-- A search for many ids answers what as many searches for one answer: the i-th row is what the i-th of them finds, it is
+-- refused as each of them is, and it counts what they find.
+pub many-are-one-by-one : (records pool ids : List ℕ) (room-slots : ℕ) → Lendable ids room-slots
+    → OneByOne records pool ids room-slots
+many-are-one-by-one = one-by-one
+
+-- Four bytes for each id: its slot, or 4,294,967,295, which is no slot.
+pub slots-are-in-order : (records pool ids : List ℕ) (room-slots : ℕ) (rows : List (Option Row))
+    → find-ids records pool ids room-slots ≡ ok rows → InSlots ids rows
+slots-are-in-order = in-slots
 
 -- ---- wrong programs
 

@@ -1,7 +1,7 @@
 -- Each refusal has a number from 1 to the last and a list from 0 to the last: every step of an entry gives one of
 -- Refusals.antt.
 use Prim.Native.Nat.{ℕ, zero, suc, _+_, _≤_}
-use mathlib.Core.Path.{_≡_, sym}
+use mathlib.Core.Path.{_≡_, refl, sym, _∙_}
 use mathlib.Core.Bool.{Bool, true, false, not, _&&_}
 use mathlib.Core.List.{List, [], _∷_}
 use mathlib.Core.Option.{Option, none, some}
@@ -29,11 +29,11 @@ use Rattle.paper.specs.Bytes.{turned, ok-bytes, in-pool, kids-at, slots}
 use Rattle.paper.specs.Lists.{ok-deletion, ok-addition, path-in, entries, entries-ok, id-list}
 use Rattle.paper.specs.Layout.{Part, deep, row-with, row, roots}
 use Rattle.paper.specs.Decode.{fields, decode}
-use Rattle.paper.specs.Limits.{room, sized, sized-ids, sized-update}
+use Rattle.paper.specs.Limits.{room, whole, sized, sized-ids, sized-update}
 use Rattle.paper.specs.Lent.{Stored, Lent}
-use Rattle.paper.specs.Outcome.{changed}
+use Rattle.paper.specs.Outcome.{changed, searched}
 use Rattle.paper.specs.Entries.{Result, update-entry, prune-entry, renumber-entry, read, find-name, find-id}
-use Rattle.paper.specs.Entries.{find-parent, find-folded}
+use Rattle.paper.specs.Entries.{find-parent, find-folded, find-ids}
 use Rattle.laws.proofs.Basics.{refused≢ok}
 use Rattle.laws.proofs.Rows.{matched}
 use Rattle.theorems.specs.One.{Told, accepted, turned-down, RefusalsTold}
@@ -283,6 +283,13 @@ find-folded-told : (s p x : List ℕ) → Told (find-folded s p x)
 unfolding find-folded look-folded
 find-folded-told s p x = told-bind (read-told s p) λ t. only-told (matched t x)
 
+find-ids-told : (s p i : List ℕ) (room : ℕ) → Told (find-ids s p i room)
+unfolding find-ids
+find-ids-told s p i room =
+    told-bind (room-told (leb (length i) room)) λ _.
+    told-bind (size-told (whole 4 1024 i)) λ _.
+    told-bind (read-told s p) λ t. accepted
+
 pub refusals-told : RefusalsTold
 refusals-told =
     record {
@@ -293,10 +300,21 @@ refusals-told =
       id-look-up = find-id-told;
       parent-look-up = find-parent-told;
       folded-look-up = find-folded-told;
+      ids-look-up = find-ids-told;
     }
 
--- So 0 is said of an acceptance alone.
+-- So 0 is said of an acceptance alone, by whatever tells a refusal's number.
+none-told : {R : Type 0} (number : Answer R → ℕ) → ((n l p : ℕ) → number (refused n l p) ≡ n)
+    → (a : Answer R) (n l p : ℕ) → Told a → number a ≡ 0 → a ≡ refused n l p → ⊥
+none-told number own (ok r) n l p h e q = refused≢ok (sym q)
+none-told number own (refused m l p) n l′ p′ (turned-down low high list) e q =
+    let z : m ≡ 0 = sym (own m l p) ∙ e in omega arith
+
 pub none-accepted : (a : Answer Result) (n l p : ℕ) → Told a → changed a .refusal ≡ 0 → a ≡ refused n l p → ⊥
 unfolding changed
-none-accepted (ok r) n l p h e q = refused≢ok (sym q)
-none-accepted (refused m l p) n l′ p′ (turned-down low high list) e q = omega arith
+none-accepted = none-told (λ a. changed a .refusal) (λ n l p. refl)
+
+pub none-searched : (a : Answer (List (Option Row))) (n l p : ℕ) → Told a → searched a .refusal ≡ 0
+    → a ≡ refused n l p → ⊥
+unfolding searched
+none-searched = none-told (λ a. searched a .refusal) (λ n l p. refl)

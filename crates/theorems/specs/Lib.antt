@@ -1,5 +1,5 @@
 -- What the theorems speak of: runs of updates over forests and over bytes, numbers in a row, parts of a tree, refusals, slots,
--- names whose case is forgotten.
+-- names whose case is forgotten, many ids at once.
 pub mod Numbers
 pub mod Run
 pub mod Stored
@@ -8,5 +8,6 @@ pub mod Changed
 pub mod Wrong
 pub mod One
 pub mod Numbered
+pub mod Many
 pub mod Sites
 pub mod Folds

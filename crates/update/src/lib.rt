@@ -101,7 +101,7 @@ pub fn update<'a>(
         Opened::Roots(roots, columns) => {
             let identifiers = lists[IDENTIFIERS];
             let mut plan = [[0u32; 1024]; 3];
-            let mut index = [[0u16; 1024]; 7];
+            let mut index = [[0u16; 1024]; 8];
             let mut decisions = [[0u64; 64]; 4];
             // test
             let n = trees[RECORDS].len() / 24;

@@ -1,8 +1,8 @@
--- The slots below k stand in chains, and what is left to test gives the whole answer.
+-- The slots below k stand on their paths, and what is left to test gives the whole answer.
 use Prim.Native.Nat.{_-_}
 use Rattle.plan.specs.Table.{numbers}
 use Rattle.index_ids.proofs.Tables.{rooms-wide}
-use Rattle.index_ids.proofs.IdLaws.{Checking, checking, checking-goes}
+use Rattle.index_ids.proofs.IdLaws.{Checking, checking, ids}
 use borrow.Author.Needs.{needs}
 use Rattle.index_ids.proofs.check_ids.Statement.{statement}
 use Rattle.index_ids.proofs.check_ids.Tie as tie
@@ -22,16 +22,17 @@ check-ids-spec =
     (λ c. search (checking, needs))  -- index-1-clear
     (λ c κs. search (rooms-wide, needs))  -- clear-requires
     (λ c. search (checking, needs))  -- loop-holds
-    (λ c. search (checking, needs))  -- mul-id
-    (λ c. search (checking, needs))  -- index-1-id
-    (λ c. search (checking, needs))  -- index-2-id
-    (λ c κs. search (checking, needs))  -- is-new-requires
-    (λ c. search (checking, needs))  -- cast-t20
+    (λ c. search (checking, needs))  -- mul-follow
+    (λ c. search (checking, needs))  -- index-1-follow
+    (λ c. search (checking, needs))  -- index-2-follow
+    (λ c κs. search (checking, needs))  -- follow-requires
+    (λ c. search (checking, needs))  -- enum-told
+    (λ c. search (checking, needs))  -- cast-t21
     (λ c. search (checking, needs))  -- returns
-    (λ c κs. search (checking, needs))  -- bucket-of-requires
-    (λ c κs. search (checking, needs))  -- enter-requires
+    (λ c. search (checking, needs))  -- enum-known-line
+    (λ c κs. search (ids, checking, needs))  -- enter-id-requires
     (λ c. search (checking, needs))  -- add-k
     (λ c. search (checking, needs))  -- loop-less
-    (λ c. checking-goes _ _ _ _ _ _ _ _ (c .enter .ensures) (search needs) (search needs) (search needs) (c .before .before .before .before .is-new .ensures) (search needs) (search needs) (search needs))  -- loop-again
+    (λ c. search (checking, needs))  -- loop-again
     (λ c. search (checking, needs))  -- returns-2
     )
