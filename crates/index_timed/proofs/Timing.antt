@@ -21,7 +21,7 @@ use Rattle.plan.specs.Table.{numbers, TakenIn}
 use Rattle.plan.proofs.Rooms.{roomy-fresh}
 use Rattle.index_ids.specs.Chain.{lowest-below}
 use Rattle.index_ids.specs.Ids.{is-id}
-use Rattle.index_ids.specs.Table.{IndexedIn}
+use Rattle.index_ids.specs.Path.{IndexedIn}
 use Rattle.index_ids.proofs.Tables.{rooms-fresh}
 use Rattle.index_timed.specs.Timed.{counts, each-round, all-rounds, id-row, timed}
 
@@ -84,10 +84,10 @@ module _ (s ids : List ℕ) (rounds : ℕ) (b : Bool) (eb : b ≡ whole 24 1024 
 
       pub timed-refused : (y : Refusal) → r ≡ Refused y → 0 ≡ timed s ids rounds
       unfolding timed
-      timed-refused y e = rw (← eb, not-false b q, ← same-row, ← en, ← (x .indexed .answer), e)
+      timed-refused y e = rw (← eb, not-false b q, ← same-row, ← en, ← (x .answer), e)
 
       pub timed-done : (z : ℕ) → r ≡ Fine → z ≡ all-rounds (numbers plan) n ids rounds → z ≡ timed s ids rounds
       unfolding timed
-      timed-done z e h = rw (← eb, not-false b q, ← same-row, ← en, ← (x .indexed .answer), e) h
+      timed-done z e h = rw (← eb, not-false b q, ← same-row, ← en, ← (x .answer), e) h
 
 pub ruleset timing = (roomy-fresh, rooms-fresh, timed-unfit, timed-few, timed-bytes, timed-refused, timed-done)

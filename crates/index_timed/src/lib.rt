@@ -12,7 +12,7 @@ ghost use mathlib.Core.Path.{_≡_};
 ghost use Prim.Native.Nat.{_/_, _≤_};
 ghost use lib.ListN.{length};
 ghost use Rattle.plan.specs.Table.{numbers};
-ghost use Rattle.index_ids.specs.Table.{IdsChained};
+ghost use Rattle.index_ids.specs.Path.{IdsChained};
 ghost use Rattle.index_timed.specs.Timed.{counts, each-round, all-rounds, timed};
 
 // The count behind one search.
@@ -66,7 +66,7 @@ pub extern "C" fn braidhurdle_timed_search(records: &[u8], ids: &[u8], rounds: u
     }
     let n = records.len() / 24;
     let mut plan = [[0u32; 1024]; 3];
-    let mut index = [[0u16; 1024]; 7];
+    let mut index = [[0u16; 1024]; 8];
     take_base(records, n, &mut plan);
     let checked = check_ids(&plan, n, 0, &mut index);
     if let Check::Refused(_) = checked {

@@ -15,6 +15,6 @@ braidhurdle-timed-search-spec =
     (λ c. search needs)  -- enum-told
     (λ c. search (timing, needs))  -- returns-2
     (λ c. search needs)  -- enum-told-2
-    (λ c κs. (search (timed-few, needs), c .before .before .before .before .check-ids .ensures .indexed .index (c .before .before .enum-told2 .given .1)))  -- search-rounds-requires
+    (λ c κs. (search (timed-few, needs), c .before .before .before .before .check-ids .ensures .index (c .before .before .enum-told2 .given .1)))  -- search-rounds-requires
     (λ c. search (timing, needs))  -- returns-3
     )
