@@ -149,6 +149,7 @@ fn figures(times: &[Option<f64>]) -> String {
 /// How many times ours goes into theirs.
 fn ratio(ours: Option<f64>, theirs: Option<f64>) -> String {
     ours.zip(theirs).map_or("-".into(), |(ours, theirs)| match theirs / ours {
+        least if least < 0.01 => format!("{least:.4}"),
         less if less < 1.0 => format!("{less:.3}"),
         more => format!("{more:.1}"),
     })
