@@ -1,4 +1,4 @@
-//! Links the search by id alone where its archive is there, beside the port's. `rust/test` makes it.
+//! Links the search by id alone, where its archive stands beside the port's. `rust/test` makes it.
 
 use std::env;
 use std::path::PathBuf;

@@ -1,6 +1,6 @@
 //! Families of ids: those that schemas have, and those that are built to be bad for a search by id.
 //! It goes from the ten lowest bits of an id to a slot, then by one bit more from slot to slot, so
-//! ids that share their low bits go deep. Ids of one bucket were bad for the hash that it had before.
+//! ids that share their low bits go deep. Ids of one bucket were bad for the hash of before.
 
 use judge::MOST_RECORDS;
 

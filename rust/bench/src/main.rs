@@ -102,7 +102,7 @@ fn searching(iceberg: Option<Iceberg>) {
             let one = |time: f64| time / f64::from(row.rounds());
             let ours = times[0].map(|time| one(time - times[1].unwrap_or(0.0)));
             let [scan, theirs] = [times[2], times[3]].map(|time| time.map(one));
-            let shown = |time: Option<f64>| time.map_or("-".into(), |t| format!("{t:.1}"));
+            let shown = |time: Option<f64>| time.map_or("-".into(), |t| format!("{t:.2}"));
             println!(
                 "{records:>7} {:45}{:>12}{:>12}{:>9}{:>12}{:>9}",
                 row.what,

@@ -28,8 +28,8 @@ pub fn times(calls: &[Option<Call>]) -> Vec<Option<f64>> {
     best
 }
 
-/// Nanoseconds of one call, of as many as fill a turn. One goes before them untimed, since the turns
-/// of others have filled the caches: a call that fills its turn alone would pay for that.
+/// Nanoseconds of one call, of as many as fill a turn. One goes before them untimed, since others
+/// have filled the caches in their turns: a call that fills its turn alone would pay for that.
 fn turn(mut call: impl FnMut(), count: &mut u32) -> f64 {
     call();
     loop {

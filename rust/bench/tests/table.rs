@@ -106,8 +106,8 @@ fn searches_by_id_meet_so_many_slots() {
     assert_eq!(met, [bucket, top, reversed, [11_198, 1_024 * 23, 23]]);
 }
 
-/// Both judges of a search, the scan and the text, agree on what is there; so does the search alone,
-/// where its archive is there.
+/// The scan and the text agree on what is there, and so does the search alone, where its archive is
+/// there.
 #[test]
 fn searches_find_what_is_there() {
     for (name, family) in ["flat", "tables"].iter().flat_map(|name| FAMILIES.map(|f| (name, f))) {
