@@ -1,22 +1,24 @@
 //! Cases whose walks go deep.
 
 use cases::{
-    Ask, Case, Generator, Sizes, ask_of, list_of, map_of, packed, prim, prune_by, renumber_by,
-    strukt, update_of,
+    Ask, Case, Generator, Sizes, ask_of, ids_by, list_of, map_of, packed, prim, prune_by,
+    renumber_by, strukt, update_of,
 };
 use judge::{LEVELS, LIST, MAP, MOST_RECORDS, Node, STRUCT, Tree};
 
 use crate::rows::rows;
 use crate::schemas::{SCHEMAS, numbered};
+use crate::worst::worst_ids;
 
 /// Cases whose walks go as deep as they can, in trees as large as they can be: the table's own,
-/// sixteen levels of each kind, and random ones.
+/// sixteen levels of each kind, ids that are bad to search, and random ones.
 pub fn deepest() -> impl Iterator<Item = Case> {
     let table = SCHEMAS.iter().flat_map(|(name, _)| rows(name, MOST_RECORDS));
     let nested = [STRUCT, LIST, MAP, KEY].into_iter().flat_map(|kind| asked_of(&nested(kind)));
     let random = Generator { seed: 1, sizes: Sizes::Usual };
     let random = (0..4_000).map(move |n| random.case(n)).filter(|case| case.ask != Ask::List);
-    table.map(|row| row.case).chain(nested).chain(random)
+    let ids = worst_ids().into_iter().flatten();
+    table.chain(ids).map(|row| row.case).chain(nested).chain(random)
 }
 
 /// A map whose key is nested.
@@ -69,6 +71,7 @@ fn asked_of(base: &[Node]) -> Vec<Case> {
         ask_of(packed(base), Ask::Name(name)),
         ask_of(packed(base), Ask::Name(beyond)),
         ask_of(packed(base), Ask::Id(id)),
+        ids_by(packed(base), &ids),
         ask_of(packed(base), Ask::Parent(id)),
     ]
 }

@@ -1,21 +1,27 @@
 //! The benchmark: named schemas, sizes, and the cases that are timed on them; cases that are
-//! built to be bad; the stack that an entry uses.
+//! built to be bad; searches by id beside a scan; the stack that an entry uses.
 
 mod deepest;
 mod folded;
+mod ids;
 mod rows;
 mod schemas;
+mod searches;
 mod stack;
+mod timed;
 mod timing;
 mod worst;
 
 pub use deepest::deepest;
 pub use folded::worst_folded;
+pub use ids::{FAMILIES, Family};
 pub use rows::{Row, rows};
 pub use schemas::{SCHEMAS, schema};
+pub use searches::{Search, scan, searches};
 pub use stack::{marks, stack_used};
+pub use timed::{LINKED, timed_search};
 pub use timing::{Call, Room, copy_all, times};
-pub use worst::worst;
+pub use worst::{worst_ids, worst_names};
 
 /// Records in a schema.
 pub const SIZES: [usize; 3] = [10, 100, 1_024];

@@ -1,15 +1,30 @@
 //! The benchmark: for each schema, size and operation the port's time, the time of iceberg's
 //! own code from the same bytes (build and operation), how many times the port is faster, and
 //! a plain copy of the same bytes. Then the same for trees that are built to be bad, for the index
-//! and for the look-up that forgets case, and the stack that each entry uses.
+//! and for the look-up that forgets case; searches by id beside a linear scan; the stack that each
+//! entry uses. Words behind the command choose parts of that.
 
 use std::hint::black_box;
+use std::process::ExitCode;
 
-use bench::{Call, Room, Row, SCHEMAS, SIZES, deepest, marks, rows, times, worst, worst_folded};
+use bench::{
+    Call, FAMILIES, LINKED, Room, Row, SCHEMAS, SIZES, Search, deepest, marks, rows, searches,
+    times, worst_folded, worst_ids, worst_names,
+};
 use oracle::Iceberg;
 use port::Port;
 
-fn main() {
+/// The parts besides the schemas.
+const PARTS: [&str; 5] = ["ids", "names", "folded", "searches", "stack"];
+
+fn main() -> ExitCode {
+    let parts: Vec<&str> = SCHEMAS.iter().map(|(name, _)| *name).chain(PARTS).collect();
+    let asked: Vec<String> = std::env::args().skip(1).collect();
+    if let Some(word) = asked.iter().find(|word| !parts.contains(&word.as_str())) {
+        eprintln!("there is no part {word}, only {}", parts.join(", "));
+        return ExitCode::from(2);
+    }
+    let wanted = |part: &str| asked.is_empty() || asked.iter().any(|word| word == part);
     println!("microseconds of processor time of one call, best of 50 rounds; {}", machine());
     if cfg!(debug_assertions) {
         println!(
@@ -26,18 +41,32 @@ fn main() {
     if let Some(why) = port::absent() {
         println!("the port is not there: {why}");
     }
-    for (schema, what) in SCHEMAS {
+    for (schema, what) in SCHEMAS.iter().filter(|(schema, _)| wanted(schema)) {
         println!("\n{schema}: {what}");
         table(SIZES.into_iter().flat_map(|size| rows(schema, size)), iceberg);
     }
-    println!("\nbuilt to be bad: look-ups by id, and one update");
-    table(worst(), iceberg);
-    println!("\nbuilt to be bad for the look-up that forgets case: the exact one, then that");
-    table(worst_folded().into_iter().flatten(), iceberg);
-    println!("\nbytes of stack, the most of all cases tried");
-    if port::absent().is_none() {
+    if wanted("ids") {
+        println!("\nids: built to be bad for the search by id");
+        table(worst_ids().into_iter().flatten(), iceberg);
+    }
+    if wanted("names") {
+        println!("\nnames: built to be bad for the index of names; look-ups by id, and one update");
+        table(worst_names(), iceberg);
+    }
+    if wanted("folded") {
+        println!(
+            "\nfolded: built to be bad for the look-up that forgets case, beside the exact one"
+        );
+        table(worst_folded().into_iter().flatten(), iceberg);
+    }
+    if wanted("searches") {
+        searching(iceberg);
+    }
+    if wanted("stack") && port::absent().is_none() {
+        println!("\nstack: bytes, the most of all cases tried");
         marks(deepest(), &Port).iter().for_each(|(entry, bytes)| println!("{bytes:>7} {entry}"));
     }
+    ExitCode::SUCCESS
 }
 
 fn table(rows: impl IntoIterator<Item = Row>, iceberg: Option<Iceberg>) {
@@ -50,6 +79,40 @@ fn table(rows: impl IntoIterator<Item = Row>, iceberg: Option<Iceberg>) {
     for (row, times) in rows.iter().zip(times(&calls).chunks(3)) {
         let records = row.case.records.len() / judge::RECORD_BYTES;
         println!("{records:>7} {:45}{}", row.what, figures(times));
+    }
+}
+
+/// A table for each family of ids, of a flat and of a nested schema.
+fn searching(iceberg: Option<Iceberg>) {
+    println!("\nsearches: by id, beside a linear scan of the same records; here in nanoseconds");
+    if !LINKED {
+        println!("the search alone is not there: tools/staticlib index_timed makes its archive");
+    }
+    for (schema, family) in ["flat", "tables"].iter().flat_map(|s| FAMILIES.map(|f| (s, f))) {
+        println!("\n{schema}, {}", family.0);
+        println!(
+            "{:>7} {:45}{:>12}{:>12}{:>9}{:>12}{:>9}",
+            "records", "", "ours", "scan", "times", "iceberg", "times"
+        );
+        let rows: Vec<Search> =
+            SIZES.into_iter().flat_map(|size| searches(schema, family, size)).collect();
+        let calls: Vec<Option<Call>> = rows.iter().flat_map(|row| row.calls(iceberg)).collect();
+        for (row, times) in rows.iter().zip(times(&calls).chunks(4)) {
+            let records = row.case.records.len() / judge::RECORD_BYTES;
+            let one = |time: f64| time / f64::from(row.rounds());
+            let ours = times[0].map(|time| one(time - times[1].unwrap_or(0.0)));
+            let [scan, theirs] = [times[2], times[3]].map(|time| time.map(one));
+            let shown = |time: Option<f64>| time.map_or("-".into(), |t| format!("{t:.2}"));
+            println!(
+                "{records:>7} {:45}{:>12}{:>12}{:>9}{:>12}{:>9}",
+                row.what,
+                shown(ours),
+                shown(scan),
+                ratio(ours, scan),
+                shown(theirs),
+                ratio(ours, theirs)
+            );
+        }
     }
 }
 
@@ -78,10 +141,16 @@ fn calls(row: &Row, iceberg: Option<Iceberg>) -> [Option<Call<'_>>; 3] {
 fn figures(times: &[Option<f64>]) -> String {
     let shown =
         |time: Option<f64>| time.map_or(format!("{:>12}", "-"), |t| format!("{:>12.3}", t / 1e3));
-    let ratio = times[0].zip(times[1]).map_or("-".into(), |(o, t)| match t / o {
+    let copy = times[2].map_or("-".into(), |t| format!("{:.3}", t / 1e3));
+    let ratio = ratio(times[0], times[1]);
+    format!("{}{}{ratio:>9}{copy:>9}", shown(times[0]), shown(times[1]))
+}
+
+/// How many times ours goes into theirs.
+fn ratio(ours: Option<f64>, theirs: Option<f64>) -> String {
+    ours.zip(theirs).map_or("-".into(), |(ours, theirs)| match theirs / ours {
+        least if least < 0.01 => format!("{least:.4}"),
         less if less < 1.0 => format!("{less:.3}"),
         more => format!("{more:.1}"),
-    });
-    let copy = times[2].map_or("-".into(), |t| format!("{:.3}", t / 1e3));
-    format!("{}{}{ratio:>9}{copy:>9}", shown(times[0]), shown(times[1]))
+    })
 }

@@ -1,6 +1,6 @@
 //! What is timed on a schema.
 
-use cases::{Addition, Ask, Case, list_of, packed, prim, request, update_of};
+use cases::{Addition, Ask, Case, ids_by, list_of, packed, prim, request, update_of};
 use judge::{Node, OUT_NAMES, OUT_RECORDS, PRIMITIVE, Tree};
 
 use crate::schemas::schema;
@@ -23,6 +23,7 @@ pub fn rows(name: &str, records: usize) -> Vec<Row> {
         .filter(|slot| tree.rows[*slot].kind == PRIMITIVE && member(&tree, *slot))
         .collect();
     let ids: Vec<i32> = primitives.iter().step_by(2).map(|slot| tree.rows[*slot].id).collect();
+    let every: Vec<i32> = tree.rows.iter().map(|row| row.id).collect();
     let last = records - 1;
     let asked = tree.full_name(last);
     // no name of a schema has a capital letter
@@ -35,6 +36,7 @@ pub fn rows(name: &str, records: usize) -> Vec<Row> {
         row("look-up by name", ask(&base, Ask::Name(asked))),
         row("look-up that forgets case", ask(&base, Ask::Folded(other_case))),
         row("look-up by id", ask(&base, Ask::Id(tree.rows[last].id))),
+        row("look-up of every id", ids_by(packed(&base), &every)),
         row("look-up of the record above", ask(&base, Ask::Parent(deep(&tree)))),
         Row { refusal: 6, crate_too: false, ..row("1 to 6 alone", up_to_6(name, records)) },
         Row { refusal: 11, ..row("1 to 9 and one look-up", up_to_11(&base)) },

@@ -32,8 +32,13 @@ pub fn schema(name: &str, records: usize) -> Vec<Node> {
 }
 
 /// The same with ids from 1 in slot order.
-pub fn numbered(mut roots: Vec<Node>) -> Vec<Node> {
-    number(&mut roots, &mut 0);
+pub fn numbered(roots: Vec<Node>) -> Vec<Node> {
+    with_ids(roots, 1..)
+}
+
+/// The same with these ids in slot order.
+pub fn with_ids(mut roots: Vec<Node>, ids: impl IntoIterator<Item = i32>) -> Vec<Node> {
+    number(&mut roots, &mut ids.into_iter());
     roots
 }
 
@@ -41,11 +46,10 @@ fn size(node: &Node) -> usize {
     1 + node.inside.iter().map(size).sum::<usize>()
 }
 
-fn number(nodes: &mut [Node], next: &mut i32) {
+fn number(nodes: &mut [Node], ids: &mut impl Iterator<Item = i32>) {
     for node in nodes {
-        *next += 1;
-        node.id = *next;
-        number(&mut node.inside, next);
+        node.id = ids.next().expect("an id for each record");
+        number(&mut node.inside, ids);
     }
 }
 

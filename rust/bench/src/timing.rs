@@ -3,7 +3,7 @@
 use std::hint::black_box;
 
 use cases::{Ask, Case, Operations};
-use judge::{OUT_NAMES, OUT_RECORDS};
+use judge::{ID_BYTES, MOST_ASKED, OUT_NAMES, OUT_RECORDS};
 
 const ROUNDS: usize = 50;
 const TURN_NANOSECONDS: i64 = 1_000_000;
@@ -28,8 +28,10 @@ pub fn times(calls: &[Option<Call>]) -> Vec<Option<f64>> {
     best
 }
 
-/// Nanoseconds of one call, of as many as fill a turn.
+/// Nanoseconds of one call, of as many as fill a turn. One goes before them untimed, since others
+/// have filled the caches in their turns: a call that fills its turn alone would pay for that.
 fn turn(mut call: impl FnMut(), count: &mut u32) -> f64 {
+    call();
     loop {
         let start = processor_time();
         (0..*count).for_each(|_| call());
@@ -69,11 +71,17 @@ pub struct Room {
     records: Vec<u8>,
     names: Vec<u8>,
     identifiers: Vec<u8>,
+    slots: Vec<u8>,
 }
 
 impl Default for Room {
     fn default() -> Room {
-        Room { records: vec![0; OUT_RECORDS], names: vec![0; OUT_NAMES], identifiers: vec![0; 256] }
+        Room {
+            records: vec![0; OUT_RECORDS],
+            names: vec![0; OUT_NAMES],
+            identifiers: vec![0; 256],
+            slots: vec![0; MOST_ASKED * ID_BYTES],
+        }
     }
 }
 
@@ -93,8 +101,7 @@ impl Room {
             Ask::Name(name) => by.find_name(base, pool, name).refusal,
             Ask::Folded(name) => by.find_folded(base, pool, name).refusal,
             Ask::Id(id) => by.find_id(base, pool, *id).refusal,
-            // slots take no more room than names
-            Ask::Ids { ids, .. } => by.find_ids(base, pool, ids, n).refusal,
+            Ask::Ids { ids, .. } => by.find_ids(base, pool, ids, &mut self.slots).refusal,
             Ask::Parent(id) => by.find_parent(base, pool, *id).refusal,
             Ask::List => return None,
         })

@@ -1,13 +1,15 @@
-//! Trees that are built to be bad for the index: it chooses chains by a hash, so ids of one
-//! bucket, or names of one hash, make long chains. Names like these must be sought on purpose.
+//! Trees that are built to be bad for the index. A search by id goes by the id's bits, so ids that
+//! share many go deep. Chains of names are chosen by a hash, so names of one hash make long chains;
+//! names like these must be sought on purpose.
 
 use std::collections::HashMap;
 
-use cases::{Ask, Case, packed, prim, strukt, update_of};
+use cases::{Ask, ask_of, ids_by, packed, prim, strukt, update_of};
 use judge::{LEVELS, MOST_RECORDS, Node};
 
+use crate::ids::{at_chain_ends, in_chains, of_one_bucket, of_top_bits, reversed};
 use crate::rows::{Row, row};
-use crate::schemas::numbered;
+use crate::schemas::{numbered, schema, with_ids};
 
 const FACTOR: u32 = 16_777_619;
 
@@ -15,16 +17,6 @@ const FACTOR: u32 = 16_777_619;
 fn hash(name: &[u8], seed: u32) -> u32 {
     name.iter()
         .fold(seed, |h, x| h.wrapping_add(u32::from(*x)).wrapping_add(1).wrapping_mul(FACTOR))
-}
-
-/// The bucket of a key: `bucket_of` of crates/index_ids.
-fn bucket(key: u32) -> u64 {
-    u64::from(key) * 2_654_435_761 / 4_194_304 % 1_024
-}
-
-/// So many ids that share a bucket.
-fn ids_of_one_bucket(count: usize) -> Vec<i32> {
-    (1..).filter(|id| bucket(*id as u32) == bucket(1)).take(count).collect()
 }
 
 /// The n-th word of so many letters, from 64 of them.
@@ -74,12 +66,9 @@ fn chains(
     numbered(words[..count].iter().map(chain).collect())
 }
 
-/// The worst cases that are known, each with the operation that is timed.
-pub fn worst() -> Vec<Row> {
+/// The worst cases that are known for names, each with the operation that is timed.
+pub fn worst_names() -> Vec<Row> {
     let words = words_of_one_hash(MOST_RECORDS);
-    let ids = ids_of_one_bucket(MOST_RECORDS);
-    let column = |(n, id): (usize, &i32)| prim(*id, &format!("column_{n}"));
-    let one_bucket: Vec<Node> = ids.iter().enumerate().map(column).collect();
     // siblings are compared from their fronts, so these differ at their ends
     let end = |word: &Vec<u8>| prim(0, &format!("{}{}", "x".repeat(24), text(word)));
     let one_hash = numbered(words.iter().map(end).collect());
@@ -88,9 +77,7 @@ pub fn worst() -> Vec<Row> {
     let gone = format!("{}.{}", text(&words[31]), long(&words[30], 32));
     let fresh = [(None, prim(0, "fresh"))];
     let updated = update_of(&wide, &[], MOST_RECORDS as i32, &[&gone], &fresh);
-    let look_up = |what, base: &[Node]| row(what, asked(base));
     vec![
-        look_up("all ids in one bucket", &one_bucket),
         look_up("1,024 root names of one hash", &one_hash),
         look_up("4 chains of 15 levels, the same 241 leaves", &deep),
         look_up("32 structs, the same 31 leaves", &wide),
@@ -98,8 +85,27 @@ pub fn worst() -> Vec<Row> {
     ]
 }
 
+/// The worst cases that are known for ids: a look-up by id, and one of 1,024 ids.
+pub fn worst_ids() -> [[Row; 2]; 4] {
+    let pair = |what, ids: Vec<i32>, each, asked: &[i32]| {
+        let base = with_ids(schema("flat", MOST_RECORDS), ids);
+        [look_up(what, &base), row(each, ids_by(packed(&base), asked))]
+    };
+    let all = |what, ids: Vec<i32>| pair(what, ids.clone(), "the same, every id sought", &ids);
+    [
+        all("ids of one bucket of the hash of before", of_one_bucket(MOST_RECORDS)),
+        all("multiples of 2^22", of_top_bits(MOST_RECORDS)),
+        all("numbers from 0 with their bits reversed", reversed(MOST_RECORDS)),
+        pair(
+            "chains of 23 ids",
+            in_chains(),
+            "the same, 1,024 times the last of a chain",
+            &at_chain_ends(MOST_RECORDS),
+        ),
+    ]
+}
+
 /// A look-up by id: 2 to 8, then hardly more.
-fn asked(base: &[Node]) -> Case {
-    let (records, pool) = packed(base);
-    Case { records, pool, ask: Ask::Id(1) }
+fn look_up(what: &'static str, base: &[Node]) -> Row {
+    row(what, ask_of(packed(base), Ask::Id(1)))
 }

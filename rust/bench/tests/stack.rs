@@ -25,7 +25,7 @@ fn every_entry_fits_in_a_stack_of_64_kib() {
         return;
     }
     let marks = marks(deepest(), &Port);
-    assert_eq!(marks.len(), 7);
+    assert_eq!(marks.len(), 8);
     for (entry, bytes) in marks {
         assert!((1_000..64 * 1024).contains(&bytes), "{entry}: {bytes} bytes");
     }

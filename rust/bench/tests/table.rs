@@ -1,8 +1,12 @@
 //! The benchmark times what its table says.
 
-use bench::{Room, SCHEMAS, SIZES, rows, schema, worst, worst_folded};
+use std::collections::HashMap;
+
+use bench::{
+    FAMILIES, Room, SCHEMAS, SIZES, rows, schema, searches, worst_folded, worst_ids, worst_names,
+};
 use cases::{Answer, Ask, ByJudge, Case, answer};
-use judge::{LEVELS, RECORD_BYTES, Tree};
+use judge::{ID_BYTES, LEVELS, RECORD_BYTES, Tree};
 
 #[test]
 fn every_schema_has_exactly_its_records() {
@@ -18,7 +22,8 @@ fn every_schema_has_exactly_its_records() {
 #[test]
 fn every_row_goes_as_far_as_it_says() {
     let table = SCHEMAS.iter().flat_map(|(name, _)| SIZES.map(|size| rows(name, size)));
-    let worst = worst().into_iter().chain(worst_folded().into_iter().flatten());
+    let pairs = worst_ids().into_iter().flatten().chain(worst_folded().into_iter().flatten());
+    let worst = worst_names().into_iter().chain(pairs);
     for row in table.flatten().chain(worst) {
         let records = row.case.records.len() / RECORD_BYTES;
         let refusal = answer(&row.case).refusal().map_or(0, |r| r.number);
@@ -57,6 +62,67 @@ fn walks_that_forget_case_compare_so_many_bytes() {
         full + if hidden { 0 } else { compared(&tree, |slot| tree.short_name(slot), asked) }
     });
     assert_eq!(bytes, [255, 31_744, 63_488, 30_720, 31_744]);
+}
+
+/// The bytes of ids, as numbers.
+fn numbers<'a>(ids: impl Iterator<Item = &'a [u8]>) -> Vec<u32> {
+    ids.map(|id| u32::from_le_bytes(id.try_into().expect("4 bytes"))).collect()
+}
+
+/// The places that a search for an id meets, each by how many bits lead there and by these bits;
+/// whatever is met last ends it: the id, or an empty place.
+fn way(places: &HashMap<(u32, u32), u32>, id: u32) -> Vec<(u32, u32)> {
+    let mut way = vec![];
+    for bits in 10..=32 {
+        let place = (bits, id & (u32::MAX >> (32 - bits)));
+        way.push(place);
+        if places.get(&place).is_none_or(|met| *met == id) {
+            break;
+        }
+    }
+    way
+}
+
+/// docs/PERFORMANCE.md has these numbers: of the slots that are met while the index is built, by
+/// the searches, and by one of these at most.
+#[test]
+fn searches_by_id_meet_so_many_slots() {
+    let met = worst_ids().map(|[_, each]| {
+        let Case { records, ask: Ask::Ids { ids, .. }, .. } = &each.case else {
+            panic!("{} asks {:?}", each.what, each.case.ask)
+        };
+        let (mut places, mut building) = (HashMap::new(), 0);
+        for id in numbers(records.chunks_exact(RECORD_BYTES).map(|record| &record[..ID_BYTES])) {
+            let way = way(&places, id);
+            building += way.len() - 1;
+            places.insert(way[way.len() - 1], id);
+        }
+        assert_eq!(places.len(), 1_024, "{}", each.what);
+        let met = numbers(ids.chunks_exact(ID_BYTES)).into_iter().map(|id| way(&places, id).len());
+        let met: Vec<usize> = met.collect();
+        [building, met.iter().sum(), *met.iter().max().expect("some are asked for")]
+    });
+    let [bucket, top, reversed] = [[325, 1_349, 3], [20_305, 21_329, 22], [20_518, 21_542, 23]];
+    assert_eq!(met, [bucket, top, reversed, [11_198, 1_024 * 23, 23]]);
+}
+
+/// The scan and the text agree on what is there, and so does the search alone, where its archive is
+/// there.
+#[test]
+fn searches_find_what_is_there() {
+    for (name, family) in ["flat", "tables"].iter().flat_map(|name| FAMILIES.map(|f| (name, f))) {
+        for search in SIZES.into_iter().flat_map(|size| searches(name, family, size)) {
+            // which compares the answers
+            search.calls(None);
+            let found = match answer(&search.case) {
+                Answer::Searched { found, .. } => found,
+                Answer::Found { .. } => 1,
+                Answer::Nothing => 0,
+                other => panic!("{name}, {}, {}: {other:?}", family.0, search.what),
+            };
+            assert_eq!(found, search.found, "{name}, {}, {}", family.0, search.what);
+        }
+    }
 }
 
 #[test]

@@ -140,6 +140,12 @@ pub fn operate(case: &Case) -> bool {
     }
 }
 
+/// The base as it is built, asked whether it has an id.
+pub fn built(case: &Case) -> Option<Box<dyn Fn(i32) -> bool>> {
+    let schema = build(case, &[]).ok()?;
+    Some(Box::new(move |id| schema.field_by_id(id).is_some()))
+}
+
 // ---- update ----
 
 /// The table, the request, and the given last id of an update.

@@ -51,6 +51,11 @@ impl Iceberg {
         crate::operations::operate(case)
     }
 
+    /// The base as the crate builds it, asked whether it has an id, for measuring.
+    pub fn built(&self, case: &Case) -> Option<Box<dyn Fn(i32) -> bool>> {
+        crate::operations::built(case)
+    }
+
     /// The last id consumed by an accepted update, as one more column shows it: its id less one.
     pub fn last_id(&self, case: &Case) -> Option<i32> {
         crate::operations::last_id_by_one_more(case)
@@ -72,6 +77,11 @@ impl Iceberg {
     /// From the bytes to the crate's answer and no further, for measuring. True where it is
     /// accepted and, in a look-up, something is found.
     pub fn operate(&self, _: &Case) -> bool {
+        match *self {}
+    }
+
+    /// The base as the crate builds it, asked whether it has an id, for measuring.
+    pub fn built(&self, _: &Case) -> Option<Box<dyn Fn(i32) -> bool>> {
         match *self {}
     }
 
