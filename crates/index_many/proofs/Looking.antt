@@ -1,5 +1,5 @@
 -- What the index finds for an id is the paper's row; its four bytes are the first of those that are left to write, and what is left
--- makes the whole. `search telling`, `search looking`, `search finding`.
+-- makes the whole. `search looking`, `search finding`.
 use Prim.Native.Nat.{ℕ, zero, suc, _+_, _-_, _*_, _/_, _<_, _≤_}
 use mathlib.Core.Path.{_≡_, refl, sym, ap, _∙_}
 use mathlib.Core.Bool.{Bool, true, false, not}
@@ -7,7 +7,6 @@ use mathlib.Core.List.{List, [], _∷_, map}
 use mathlib.Core.Option.{Option, none, some}
 use native.Mathlib.Omega.{arith}
 use borrow.Author.Tests.{not-true, not-false, le-leb, lt-leb}
-use lib.Dec.{leb}
 use lib.ListN.{length}
 use lib.Seq.{sets, length-sets}
 use Rattle.paper.specs.Answer.{Answer, ok, _>>=_}
@@ -32,32 +31,15 @@ use Rattle.record.proofs.Testing.{refused-as}
 use Rattle.record_limits.proofs.Within.{whole-most}
 use Rattle.plan.specs.Table.{numbers, PlanIn, fields-in}
 use Rattle.plan.proofs.Rooms.{roomy-fresh}
-use Rattle.index_ids.specs.Chain.{Below, lowest-below}
+use Rattle.index_ids.specs.Chain.{lowest-below}
 use Rattle.index_ids.specs.Ids.{is-id}
 use Rattle.index_ids.proofs.Chains.{found-below-room}
 use Rattle.index_ids.proofs.Tables.{rooms-fresh}
 use Rattle.index.specs.Index.{found-slot, held, Opened}
-use Rattle.index.proofs.Looking.{slot-small, finds-id}
+use Rattle.index.proofs.Looking.{finds-id}
 use Rattle.index_many.specs.declared.Searched.{Searched}
 use Rattle.index_many.specs.declared.Searched.the-variants.{Done, Refused}
 use Rattle.index_many.specs.Many.{searches, slot-word, met-one, Searchable, rows-of, ByIds}
-
--- ---- one id
-
-module _ (w : FoundSlot) where
-  pub word-none : w ≡ Nothing → 4294967295 ≡ slot-word w
-  word-none e = rw e
-
-  pub word-some : (s : Slot) → w ≡ At s → s .0 ≡ slot-word w
-  word-some s e = rw e
-
-  pub one-none : w ≡ Nothing → 0 ≡ met-one w
-  one-none e = rw e
-
-  pub one-some : (s : Slot) → w ≡ At s → 1 ≡ met-one w
-  one-some s e = rw e
-
-pub ruleset telling = (slot-small, word-none, word-some, one-none, one-some)
 
 -- ---- rows
 
@@ -65,30 +47,14 @@ one-most : (w : FoundSlot) → met-one w ≤ 1
 one-most Nothing = omega arith
 one-most (At s) = omega arith
 
--- How one row counts, and how it is written.
-one-row : Option Row → ℕ
-one-row none = 0
-one-row (some row) = 1
-
-many-first : (o : Option Row) (rows : List (Option Row)) → how-many (o ∷ rows) ≡ one-row o + how-many rows
-unfolding one-row
-many-first none rows = omega arith
-many-first (some row) rows = omega arith
-
-module _ (is : List ℕ) where
-  row-word : (o : Option Row) (w : FoundSlot) → found-slot is (held w) ≡ found-row o → slot-word w ≡ slot-number o
-  unfolding found-slot found-row
-  row-word none Nothing e = refl
-  row-word none (At s) e = absurd (let z : _≡_ {A = ℕ} 0 1 = cc in omega arith)
-  row-word (some row) Nothing e = absurd (let z : _≡_ {A = ℕ} 0 1 = cc in omega arith)
-  row-word (some row) (At s) e = ap (λ (t : Slot). t .0) (let z : s ≡ record { 0 = row .slot } = cc in z)
-
-  row-one : (o : Option Row) (w : FoundSlot) → found-slot is (held w) ≡ found-row o → met-one w ≡ one-row o
-  unfolding found-slot found-row one-row
-  row-one none Nothing e = refl
-  row-one none (At s) e = absurd (let z : _≡_ {A = ℕ} 0 1 = cc in omega arith)
-  row-one (some row) Nothing e = absurd (let z : _≡_ {A = ℕ} 0 1 = cc in omega arith)
-  row-one (some row) (At s) e = refl
+-- What the index found is the row: the number that is written, and what it adds to the count.
+row-is : (is : List ℕ) (o : Option Row) (w : FoundSlot) → found-slot is (held w) ≡ found-row o
+    → (slot-word w ≡ slot-number o) × ((rows : List (Option Row)) → how-many (o ∷ rows) ≡ met-one w + how-many rows)
+unfolding found-slot found-row
+row-is is none Nothing e = (refl, λ rows. omega arith)
+row-is is none (At s) e = absurd (let z : _≡_ {A = ℕ} 0 1 = cc in omega arith)
+row-is is (some row) Nothing e = absurd (let z : _≡_ {A = ℕ} 0 1 = cc in omega arith)
+row-is is (some row) (At s) e = (ap (λ (t : Slot). t .0) (let z : s ≡ record { 0 = row .slot } = cc in z), λ rows. omega arith)
 
 slots-length : (g : ℕ → Option Row) (k m : ℕ) → length (out-slots (from g k m)) ≡ m * 4
 unfolding out-slots from
@@ -156,14 +122,13 @@ module _ (plan : List (List ℕ)) (m : ℕ) (s out : List ℕ) (n : ℕ) where
                 few = let a = k .few in let c = one-most w in omega arith;
                 wide = ap length e ∙ length-sets out′ (i * 4) b ∙ k .wide;
                 counts = λ l p.
-                    let c = ap how-many (from-step (row-at l) i n z) ∙ many-first (row-at l i) (rest l (i + 1)) in
-                    let d = row-one (numbers plan) (row-at l i) w (the-row l p) in
+                    let c = ap how-many (from-step (row-at l) i n z) ∙ row-is (numbers plan) (row-at l i) w (the-row l p) .1 (rest l (i + 1)) in
                     let f = k .counts l p in
                     omega arith;
                 bytes = λ l p.
                     let c : sets out′ (i * 4) (bytes32 (slot-number (row-at l i)) (out-slots (rest l (i + 1)))) ≡ sets out 0 (out-slots (rest l 0)) = rw (from-step (row-at l) i n z) at (k .bytes l p) in
                     let d : (i + 1) * 4 ≡ i * 4 + 4 = omega arith in
-                    rw (e, eb, ex, row-word (numbers plan) (row-at l i) w (the-row l p), d) (sets-append (bytes32 (slot-number (row-at l i)) []) (out-slots (rest l (i + 1))) out′ (i * 4) ∙ c);
+                    rw (e, eb, ex, row-is (numbers plan) (row-at l i) w (the-row l p) .0, d) (sets-append (bytes32 (slot-number (row-at l i)) []) (out-slots (rest l (i + 1))) out′ (i * 4) ∙ c);
               }
 
 pub ruleset looking = (found-below-room, looking-starts, looking-wide, looking-done, looking-few, bytes-room, looking-goes)

@@ -1,6 +1,5 @@
 -- A slot is below 1,024.
 use Rattle.index.proofs.Looking.{slot-small}
-use Rattle.index_many.proofs.Looking.{telling}
 use borrow.Author.Needs.{needs}
 use Rattle.index_many.proofs.slot_word.Statement.{statement}
 use Rattle.index_many.proofs.slot_word.Tie as tie
@@ -9,9 +8,9 @@ pub slot-word-spec : {M : Type 1} → statement M
 slot-word-spec =
     tie.close
     (tie.spec
-    (λ c. search (telling, needs))  -- enum-told
-    (λ c. search (telling, needs))  -- enum-known-found
+    (λ c. search needs)  -- enum-told
+    (λ c. search needs)  -- enum-known-found
     (λ c. let z = slot-small _ _ (c .before .before .before .before .pre) (c .before .before .found .given .1) in search needs)  -- cast-result
-    (λ c. search (telling, needs))  -- returns
-    (λ c. search (telling, needs))  -- returns-2
+    (λ c. search needs)  -- returns
+    (λ c. search needs)  -- returns-2
     )
