@@ -4,6 +4,7 @@ mod lister;
 mod look_ups;
 mod pruning;
 mod renumbering;
+mod searching;
 mod tally;
 mod updating;
 
@@ -179,6 +180,7 @@ fn replay_line(
         Line::Parent => tally.judged(look_ups::replay_parent(text, inputs)),
         Line::List => tally.judged(lister::replay(text, inputs, names)),
         Line::Folded => tally.judged(look_ups::replay_name(text, inputs, true)),
+        Line::Ids => tally.judged(searching::replay(text, inputs, names)),
         Line::Comment => tally,
         Line::Unknown => tally.judged(Verdict::Unreadable),
     }

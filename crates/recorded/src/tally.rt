@@ -12,6 +12,7 @@ pub enum Line {
     Parent,
     List,
     Folded,
+    Ids,
     Comment,
     Unknown,
 }
@@ -34,6 +35,7 @@ pub struct Tally {
     pub parent: u64,
     pub list: u64,
     pub folded: u64,
+    pub ids: u64,
     pub agree: u64,
     pub differ: u64,
 }
@@ -96,6 +98,9 @@ pub fn line_of(text: &[u8], word: &[u8]) -> Line {
     if equal(word, b"folded") {
         return Line::Folded;
     }
+    if equal(word, b"ids") {
+        return Line::Ids;
+    }
     Line::Unknown
 }
 
@@ -112,6 +117,7 @@ impl Tally {
             parent: 0,
             list: 0,
             folded: 0,
+            ids: 0,
             agree: 0,
             differ: 0,
         }
@@ -144,6 +150,9 @@ impl Tally {
             }
             Line::Folded => {
                 self.folded = more(self.folded);
+            }
+            Line::Ids => {
+                self.ids = more(self.ids);
             }
             Line::Comment => {}
             Line::Unknown => {}
@@ -179,6 +188,7 @@ impl Tally {
         tell_count(b"parent ", self.parent);
         tell_count(b"list ", self.list);
         tell_count(b"folded ", self.folded);
+        tell_count(b"ids ", self.ids);
         io::print_decimal(STDOUT_FILENO, self.agree);
         io::write_all(STDOUT_FILENO, b" cases agree, ");
         io::print_decimal(STDOUT_FILENO, self.differ);

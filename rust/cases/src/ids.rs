@@ -6,12 +6,11 @@ use judge::{ID_BYTES, MOST_ASKED, RECORD_BYTES, Tree};
 use crate::build::ids_by;
 use crate::case::{Ask, Case};
 use crate::random::Random;
-use crate::shapes::ids_in;
 use crate::trees::{Shape, lay, tree};
 
 /// Turns the ids of a case by one map that takes no two of them to one, so that whatever was equal
 /// or not stays so. Small ids, counted up, share their low bits afterwards, or differ in one high
-/// bit alone. The ids that an update hands out may meet those of the tree.
+/// bit alone.
 pub fn turn_ids(random: &mut Random, case: &mut Case) {
     let reversed = random.chance(1, 4);
     let left = match random.below(6) {
@@ -41,9 +40,9 @@ pub fn turn_ids(random: &mut Random, case: &mut Case) {
     match &mut case.ask {
         Ask::Update { identifiers, last_id, .. } => {
             each(identifiers, ID_BYTES);
-            let known = ids_in(&case.records);
-            if !known.is_empty() && random.chance(1, 6) {
-                *last_id = random.pick(&known).saturating_sub(1);
+            // the next id that is handed out, which may be one of the tree's
+            if random.chance(5, 6) {
+                *last_id = turned(last_id.wrapping_add(1)).wrapping_sub(1);
             }
         }
         Ask::Renumber { identifiers: ids, .. }

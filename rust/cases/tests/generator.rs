@@ -70,6 +70,35 @@ fn names_that_differ_in_case_alone_are_common() {
     }
 }
 
+/// Whatever the operation, so that its own search is put to such ids.
+#[test]
+fn ids_that_share_their_bits_are_common_where_they_are_turned() {
+    for operation in OPERATIONS {
+        let mut tally = Tally::default();
+        for n in of(operation, 1_000) {
+            let (case, origin) = usual().turned(n);
+            tally.count(&case, origin, &answer(&case));
+        }
+        let cases = tally.cases.sum();
+        for shape in
+            ["tree: two ids that share ten low bits", "tree: two ids that share 22 low bits"]
+        {
+            let times = tally.shapes[shape].of(operation);
+            assert!(times * 8 > cases, "{operation}, {shape}: {times} of {cases}");
+        }
+        let again = tally.refusals[&(7, judge::BASE)].of(operation);
+        assert!(again * 40 > cases, "{operation}, refusal 7: {again} of {cases}");
+    }
+}
+
+/// Ids that were equal stay so, and others apart: the same slots are found, the same places told.
+#[test]
+fn turned_ids_are_found_where_the_others_were() {
+    for n in of("ids", 2_000) {
+        assert_eq!(answer(&usual().turned(n).0), answer(&usual().case(n)), "case {n}");
+    }
+}
+
 #[test]
 fn small_cases_stay_small() {
     let small = Generator { seed: SEED, sizes: Sizes::Small };

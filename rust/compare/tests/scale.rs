@@ -10,7 +10,7 @@ const LARGE: u64 = 500;
 const SEED: u64 = 2;
 
 /// The same of the second run, in which the ids of each case share their bits.
-const TURNED: u64 = 40_000;
+const TURNED: u64 = 50_000;
 const TURNED_LARGE: u64 = 100;
 
 fn from_environment(variable: &str, usual: u64) -> u64 {
