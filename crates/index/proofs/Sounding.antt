@@ -61,7 +61,7 @@ names-indexed l plan m list r c old mid new S R w u =
 
 -- ---- 7 to 9: `search sounding`
 
--- The test of the names leaves the chains of the ids.
+-- The test of the names leaves the paths of the ids.
 pub ids-chained : (l : Trees) (plan : List (List ℕ)) (m list : ℕ) (a b : Check) (old mid new : List (List ℕ)) → IndexedIn (numbers plan) m list a old mid → a ≡ Fine → NamesIndexed l plan m list b mid new → IdsChained (numbers plan) new m
 ids-chained l plan m list a b old mid new ea fa eb = rows-kept (numbers plan) mid new m (eb .within .below) (ea .index fa)
 

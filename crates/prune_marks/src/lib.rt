@@ -1,4 +1,4 @@
-// The chosen ids of prune_columns.rs, as marks on slots: expected linear time, by the index of ids.
+// The chosen ids of prune_columns.rs, as marks on slots: linear time, by the index of ids.
 use index_ids::IndexRows;
 use index_ids::find_id;
 use plan::PlanRows;
