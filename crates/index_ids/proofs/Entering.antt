@@ -11,7 +11,7 @@ use Rattle.index_ids.specs.Ids.{bucket-of, id-in}
 use Rattle.index_ids.specs.Table.{row, Rooms, Within}
 use Rattle.index_ids.specs.Path.{bit, Together, met, linked, First, IdsChained, EndsAt, unlinked, entered-at}
 use Rattle.index_ids.proofs.Chains.{eqb-cases}
-use Rattle.index_ids.proofs.Tables.{row-stored, row-left, within-both, within-wider, within-cell}
+use Rattle.index_ids.proofs.Tables.{row-left, cell-stored, within-both, within-wider, within-cell}
 use Rattle.index_ids.proofs.Paths.{together-back, together-on, together-less, together-more, met-head, met-linked, met-stops, met-cell, met-together, went, own-way, own-below, one-depth, no-first}
 
 -- ---- one slot more
@@ -53,17 +53,17 @@ module _ (ids : List ℕ) (x d from k w : ℕ) (h : First ids x d from k w) wher
       go i p q (inl z) t = f (rw (← z) t)
       go i p q (inr z) t = h .none e i p (omega arith) t
 
--- ---- one store
+-- ---- one store: what a cell holds behind it
 
-module _ (t : List (List ℕ)) (r b v : ℕ) (n : Rooms t) (lr : r < 8) where
-  cell-stored : b < 1024 → getD (row (set t r (set (row t r) b v)) r) b 0 ≡ v
-  cell-stored l = ap (λ (z : List ℕ). getD z b 0) (row-stored t r _ (let y = n .rows in omega arith)) ∙ getD-set-same (row t r) b v 0 (let y = n .wide r lr in omega arith)
+module _ (t : List (List ℕ)) (r b v : ℕ) where
+  held-there : Rooms t → r < 8 → b < 1024 → getD (row (set t r (set (row t r) b v)) r) b 0 ≡ v
+  held-there n lr l = ap (λ (z : List ℕ). getD z b 0) (cell-stored t r b v) ∙ getD-set-same (row t r) b v 0 (let y = n .wide r lr in omega arith)
 
-  cell-left : (q e : ℕ) → (q ≡ r → e ≡ b → ⊥) → getD (row (set t r (set (row t r) b v)) q) e 0 ≡ getD (row t q) e 0
-  cell-left q e f = go (eqb-cases q r)
+  held-else : (q e : ℕ) → (q ≡ r → e ≡ b → ⊥) → getD (row (set t r (set (row t r) b v)) q) e 0 ≡ getD (row t q) e 0
+  held-else q e f = go (eqb-cases q r)
     where
       go : (q ≡ r) ⊎ (q ≡ r → ⊥) → getD (row (set t r (set (row t r) b v)) q) e 0 ≡ getD (row t q) e 0
-      go (inl i) = rw i (ap (λ (z : List ℕ). getD z e 0) (row-stored t r _ (let y = n .rows in omega arith)) ∙ getD-set-other (row t r) b e v 0 (f i))
+      go (inl i) = rw i (ap (λ (z : List ℕ). getD z e 0) (cell-stored t r b v) ∙ getD-set-other (row t r) b e v 0 (f i))
       go (inr i) = ap (λ (z : List ℕ). getD z e 0) (row-left t r _ q i)
 
 -- ---- three stores: the links of k, then k in its cell
@@ -88,21 +88,21 @@ module _ (t : List (List ℕ)) (k : ℕ) (n : Rooms t) (l c : ℕ) (ll : l < 3) 
   entered-within = within-both 0 3 t mid new mid-within (within-wider l (suc l) 0 3 mid new (within-cell mid l c (k + 1)) (omega arith) (omega arith))
 
   pub put-in : getD (row new l) c 0 ≡ suc k
-  put-in = cell-stored mid l c (k + 1) (mid-within .rooms n) (omega arith) lc ∙ add-one k
+  put-in = held-there mid l c (k + 1) (mid-within .rooms n) (omega arith) lc ∙ add-one k
 
   pub no-links : (b : ℕ) → b < 2 → (suc b ≡ l → k ≡ c → ⊥) → getD (row new (suc b)) k 0 ≡ 0
-  no-links b lb f = cell-left mid l c (k + 1) (mid-within .rooms n) (omega arith) (suc b) k f ∙ go b lb
+  no-links b lb f = held-else mid l c (k + 1) (suc b) k f ∙ go b lb
     where
       go : (b : ℕ) → b < 2 → getD (row mid (suc b)) k 0 ≡ 0
-      go zero q = cell-left one 2 k 0 (one-within .rooms n) (omega arith) 1 k (λ z y. omega arith) ∙ cell-stored t 1 k 0 n (omega arith) lk
-      go (suc zero) q = cell-stored one 2 k 0 (one-within .rooms n) (omega arith) lk
+      go zero q = held-else one 2 k 0 1 k (λ z y. omega arith) ∙ held-there t 1 k 0 n (omega arith) lk
+      go (suc zero) q = held-there one 2 k 0 (one-within .rooms n) (omega arith) lk
       go (suc (suc b)) q = absurd (omega arith)
 
   pub kept-in : (r b : ℕ) → (r ≡ l → b ≡ c → ⊥) → (b ≡ k → r ≡ 0) → getD (row new r) b 0 ≡ getD (row t r) b 0
   kept-in r b f g =
-      cell-left mid l c (k + 1) (mid-within .rooms n) (omega arith) r b f
-      ∙ cell-left one 2 k 0 (one-within .rooms n) (omega arith) r b (λ z y. let q = g y in omega arith)
-      ∙ cell-left t 1 k 0 n (omega arith) r b (λ z y. let q = g y in omega arith)
+      held-else mid l c (k + 1) r b f
+      ∙ held-else one 2 k 0 r b (λ z y. let q = g y in omega arith)
+      ∙ held-else t 1 k 0 r b (λ z y. let q = g y in omega arith)
 
 -- ---- paths behind them
 

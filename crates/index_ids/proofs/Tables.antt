@@ -1,8 +1,8 @@
 -- Tables of eight rows: a store in one row leaves the others, and what a writer leaves adds up.
 use mathlib.Core.Path.{_≡_, refl, ap, _∙_}
 use mathlib.Core.Logic.{_⊎_, inl, inr}
-use mathlib.Core.List.{List, []}
-use Prim.Native.Nat.{ℕ, suc, _+_, _<_, _≤_}
+use mathlib.Core.List.{List, [], _∷_}
+use Prim.Native.Nat.{ℕ, zero, suc, _+_, _<_, _≤_}
 use native.Mathlib.Omega.{arith}
 use lib.ListN.{length, getD, set, replicate, length-set, length-replicate, getD-replicate}
 use lib.Seq.{getD-set-same, getD-set-other}
@@ -48,7 +48,12 @@ module _ (t : List (List ℕ)) (r : ℕ) (x : List ℕ) where
   pub within-row : length x ≡ 1024 → Within r (suc r) t (set t r x)
   within-row e = row-within (λ h l. e)
 
--- One number of a row is stored.
+-- One number of a row is stored. Where there is no such row, there is nothing to store in: so no length is asked for.
+pub cell-stored : (t : List (List ℕ)) (r k v : ℕ) → row (set t r (set (row t r) k v)) r ≡ set (row t r) k v
+cell-stored [] r k v = refl
+cell-stored (x ∷ t) zero k v = refl
+cell-stored (x ∷ t) (suc r) k v = cell-stored t r k v
+
 pub within-cell : (t : List (List ℕ)) (r k v : ℕ) → Within r (suc r) t (set t r (set (row t r) k v))
 within-cell t r k v = row-within t r (set (row t r) k v) (λ h l. length-set (row t r) k v ∙ h .wide r l)
 

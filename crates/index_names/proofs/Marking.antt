@@ -13,7 +13,7 @@ use Rattle.paper.specs.Rows.{dotted}
 use Rattle.laws.proofs.Runs.{sets-append, map-append}
 use Rattle.record.specs.Trees.{Trees}
 use Rattle.index_ids.specs.Table.{row}
-use Rattle.index_ids.proofs.Tables.{within-same, within-both, within-wider, within-cell, row-left}
+use Rattle.index_ids.proofs.Tables.{within-same, within-both, within-wider, within-cell, row-left, cell-stored}
 use Rattle.index_names.specs.declared.Prefix.{Prefix}
 use Rattle.plan.specs.Walk.{walk}
 use Rattle.index_names.specs.Hash.{mix, hash-on, hash-of, tag, tag-of}
@@ -73,12 +73,6 @@ module _ (name : ℕ → List ℕ) where
       hashed pre q = rw (hash-append 0 pre (name k ++ (46 ∷ [])), ← q, hash-append h (name k) (46 ∷ []), ← eh)
 
 -- ---- the same in the rows of an index
-
--- Where there is no such row, there is nothing to store in: so no length is asked for.
-cell-stored : (t : List (List ℕ)) (r k v : ℕ) → row (set t r (set (row t r) k v)) r ≡ set (row t r) k v
-cell-stored [] r k v = refl
-cell-stored (x ∷ t) zero k v = refl
-cell-stored (x ∷ t) (suc r) k v = cell-stored t r k v
 
 -- One slot is marked: a store in each of the three rows.
 module _ (t : List (List ℕ)) (k u own x : ℕ) where
