@@ -13,6 +13,7 @@ use Rattle.paper.specs.Folded.{fold, folded, matching, look-folded}
 use Rattle.paper.specs.Sound.{text, fitting, misnamed, names, ids, sound, name-bytes, within}
 use Rattle.paper.specs.Prune.{prune}
 use Rattle.paper.specs.Renumber.{level, numbered, renumber}
+use Rattle.paper.specs.Gone.{gone}
 use Rattle.paper.specs.Update.{deleted, member-taken, placed, placed-all, planned}
 use Rattle.paper.specs.Rebuild.{fresh, arrivals, arriving, rebuilt, carried-out, update}
 use Rattle.paper.specs.Bytes.{word16, word32, turned, ok-bytes, in-pool, kind-from, name-of, field-at}
@@ -125,7 +126,7 @@ pub pins : Held
 unfolding answer answer-of signed-id _>>=_ lowest size siblings levels preorder counts mapped _then_
     rows entered look-name look-id look-parent fold folded matching look-folded
     fitting misnamed names ids sound name-bytes within prune level numbered renumber
-    deleted member-taken placed placed-all planned fresh arrivals arriving rebuilt carried-out update
+    gone deleted member-taken placed placed-all planned fresh arrivals arriving rebuilt carried-out update
     word16 word32 turned ok-bytes in-pool kind-from name-of field-at from
     ok-deletion ok-addition path-in entries-ok path-of parent-path deletion-paths addition-paths id-list
     deep row-with row roots fields decode row24 encode-records encode-names record-bytes pool-bytes Encode.id-bytes

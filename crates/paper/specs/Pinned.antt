@@ -163,12 +163,11 @@ updates =
     ∷ (of tree-of structs ask drop [] add (("x" under "m.key") ∷ []) gives (1 ∷ 2 ∷ 3 ∷ 11 ∷ 4 ∷ 5 ∷ []) with-last 11)
     ∷ (of tree-of listings ask drop [] add (("x" under "l") ∷ []) gives refusal 16 list 3 place 0)  -- 38
     ∷ (of tree-of listings ask drop [] add (("x" under "l.element") ∷ []) gives (1 ∷ 2 ∷ 3 ∷ 4 ∷ 11 ∷ []) with-last 11)
-    -- A name is taken at the root, and free if what has it is dropped; under a parent also if the struct itself is.
+    -- A name is taken at the root, and free if what has it is dropped; so it is under a parent (P4), and there also if the struct
+    -- itself is dropped and stays (P6).
     ∷ (drop [] add (at-root "node" ∷ []) gives refusal 17 list 3 place 0)
     ∷ (drop ("node" ∷ []) add (at-root "node" ∷ []) gives (2 ∷ 6 ∷ 7 ∷ 3 ∷ 8 ∷ 9 ∷ 10 ∷ 11 ∷ []) with-last 11)
     ∷ (drop [] add (("cost" under "node") ∷ []) gives refusal 17 list 3 place 0)
-    ∷ (drop ("node" ∷ []) add (("cost" under "node") ∷ []) gives (2 ∷ 6 ∷ 7 ∷ 3 ∷ 8 ∷ 9 ∷ 10 ∷ []) with-last 11)
-    ∷ (drop ("visits" ∷ []) add (("day" under "visits") ∷ []) gives refusal 17 list 3 place 0)  -- 37
     -- The base as it was is looked in; the added column alone is; a path of no bytes is a path.
     ∷ (drop [] add (new (struct "s" 0 empty) none ∷ ("x" under "s") ∷ []) gives refusal 15 list 3 place 1)  -- 35
     ∷ (of tree-of empty ask drop [] add (new (struct "s" 0 (required "a.b" 0)) none ∷ [])  -- 34
@@ -184,18 +183,48 @@ updates =
     -- A dropped element stays, and what is dropped of its members goes.
     ∷ (of tree-of (list-of (primitive "a" 3 then primitive "b" 4)) ask drop ("l.element" ∷ "l.a" ∷ []) add []  -- 46
     gives (1 ∷ 2 ∷ 4 ∷ []) with-last 10)
-    -- The last id: any is taken, the highest may be given, and vanished additions count.
+    -- The last id: any is taken, and the highest may be given.
     ∷ (of tree-of (primitive "a" 11) ask drop [] add [] gives (11 ∷ []) with-last 10)  -- 30
     ∷ (of lent empty [] 2_147_483_646 ask drop [] add (at-root "x" ∷ [])  -- 39
     gives (2_147_483_647 ∷ []) with-last 2_147_483_647)
-    ∷ (of T-lent [] 2_147_483_647 ask drop ("node" ∷ []) add (("x" under "node") ∷ [])  -- 40
-    gives refusal 18 list 3 place 0)
     -- The places of 7 and 8: by slots, of the later one, in the rebuilt tree's order.
     ∷ (of T-lent [] 1 ask drop [] add (("x" under "node") ∷ []) gives refusal 7 list 4 place 4)  -- 27
     ∷ (of tree-of (struct "a" 1 (primitive "x" 2) then struct "a" 3 (primitive "x" 4)) ask drop [] add []  -- 24
     gives refusal 8 list 0 place 2)
     ∷ (of tree-of (struct "a" 1 (primitive "b" 2) then primitive "a.b" 3) ask drop [] add []  -- 26
     gives refusal 8 list 0 place 2)
+    ∷ []
+
+-- Lists of structs of a struct; a struct of a list of structs.
+abbrev struct-in-list : Forest Field
+struct-in-list = list-of (struct "s" 3 (primitive "a" 4))
+
+abbrev list-in-struct : Forest Field
+list-in-struct = struct "s" 1 (listing "l" 2 (struct "element" 3 (primitive "a" 4)))
+
+-- 02, 3/13: an addition whose receiving struct goes.
+abbrev going : List Example
+going =
+    -- The struct itself is dropped as a member, or a record above it: near or far, a list, a map, above a key too.
+    (drop ("node" ∷ []) add (("x" under "node") ∷ []) gives refusal 22 list 3 place 0)
+    ∷ (of tree-of (chain 16) ask drop ("a" ∷ []) add (("x" under "a.a.a.a.a.a.a.a.a.a.a.a.a.a.a.a") ∷ [])
+    gives refusal 22 list 3 place 0)
+    ∷ (drop ("parts" ∷ []) add (("x" under "parts") ∷ []) gives refusal 22 list 3 place 0)
+    ∷ (of tree-of structs ask drop ("m" ∷ []) add (("x" under "m.key") ∷ []) gives refusal 22 list 3 place 0)
+    ∷ (of tree-of list-in-struct ask drop ("s" ∷ []) add (("x" under "s.l") ∷ []) gives refusal 22 list 3 place 0)
+    ∷ (of tree-of list-in-struct ask drop ("s.l" ∷ []) add (("x" under "s.l") ∷ []) gives refusal 22 list 3 place 0)
+    -- A dropped element, key or value stays, and is no reason, nor is one above.
+    ∷ (drop ("visits.element" ∷ []) add (("x" under "visits") ∷ [])
+    gives (1 ∷ 4 ∷ 5 ∷ 2 ∷ 6 ∷ 7 ∷ 11 ∷ 3 ∷ 8 ∷ 9 ∷ 10 ∷ []) with-last 11)
+    ∷ (of tree-of structs ask drop ("m.key" ∷ "m.value" ∷ []) add (("x" under "m.key") ∷ ("y" under "m") ∷ [])
+    gives (1 ∷ 2 ∷ 3 ∷ 11 ∷ 4 ∷ 5 ∷ 12 ∷ []) with-last 12)
+    ∷ (of tree-of struct-in-list ask drop ("l.element" ∷ []) add (("x" under "l.s") ∷ [])
+    gives (1 ∷ 2 ∷ 3 ∷ 4 ∷ 11 ∷ []) with-last 11)
+    ∷ (of tree-of struct-in-list ask drop ("l.element" ∷ "l.s" ∷ []) add (("x" under "l.s") ∷ []) gives refusal 22 list 3 place 0)
+    ∷ (of tree-of struct-in-list ask drop ("l.element" ∷ "l" ∷ []) add (("x" under "l.s") ∷ []) gives refusal 22 list 3 place 0)
+    -- What is dropped beneath the receiving struct, or beside it, is no reason; at the root nothing is.
+    ∷ (of tree-of struct-in-list ask drop ("l.s" ∷ []) add (("x" under "l") ∷ at-root "s" ∷ []) gives (1 ∷ 2 ∷ 11 ∷ 12 ∷ []) with-last 12)
+    ∷ (drop ("node" ∷ "visits" ∷ "parts" ∷ []) add (at-root "x" ∷ []) gives (11 ∷ []) with-last 11)
     ∷ []
 
 abbrev others : List Example
@@ -353,6 +382,7 @@ met =
     gives refusal 19 list 4 place 0)
     ∷ (choose (3 ∷ []) gives refusal 20 list 0 place 6)
     ∷ (of tree-of (primitive "b" 1 then primitive "A" 2 then primitive "a" 3) ask find-folding "a" gives refusal 21 list 0 place 2)
+    ∷ (drop ("visits" ∷ []) add and-then ("fault" under "visits") gives refusal 22 list 3 place 1)
     ∷ []
 
 -- ---- the order: what is asked breaks two rules, and the first is told
@@ -430,8 +460,9 @@ lists-order =
 abbrev spent : Lending
 spent = T-lent [] 2_147_483_647
 
--- Of what is decided: 10 and 11; 12 of the first deletion and 11 of the next; 11 and 12; 12 and 13; 13 and 14; 14 and 15, 16, 17;
--- 15, 16, 17 and 18; 18 of the first addition and 13 of the next; 18 and 19; 19 and 7; 7 and 8; 8 and 9 of the rebuilt tree.
+-- Of what is decided: 10 and 11; 12 of the first deletion and 11 of the next; 11 and 12; 12 and 13; 13 and 14; 14 and 15, 16, 22, 17;
+-- 16 and 22; 22 and 17; 15, 16, 22, 17 and 18; 18 of the first addition and 13 of the next; 18 and 19; 19 and 7; 7 and 8; 8 and 9 of
+-- the rebuilt tree.
 abbrev decided-order : List Example
 decided-order =
     (lists-are (entry 0 0 1) (entry 0 0 0) (tree-of empty) gives refusal 10 list 3 place 0)  -- 31
@@ -441,9 +472,13 @@ decided-order =
     ∷ (drop [] add (new (required "a.b" 0) none ∷ []) gives refusal 13 list 3 place 0)
     ∷ (drop [] add (new (required "a" 0) (some "day") ∷ []) gives refusal 14 list 3 place 0)
     ∷ (drop [] add (new (required "a" 0) (some "node.cost") ∷ []) gives refusal 14 list 3 place 0)
+    ∷ (drop ("node" ∷ []) add (new (required "a" 0) (some "node") ∷ []) gives refusal 14 list 3 place 0)
     ∷ (drop [] add (new (required "node" 0) none ∷ []) gives refusal 14 list 3 place 0)
+    ∷ (drop ("node" ∷ []) add (("a" under "node.cost") ∷ []) gives refusal 16 list 3 place 0)  -- 161
+    ∷ (drop ("visits" ∷ []) add (("day" under "visits") ∷ []) gives refusal 22 list 3 place 0)  -- 161
     ∷ (of spent ask drop [] add (("a" under "day") ∷ []) gives refusal 15 list 3 place 0)
     ∷ (of spent ask drop [] add (("a" under "node.cost") ∷ []) gives refusal 16 list 3 place 0)
+    ∷ (of spent ask drop ("node" ∷ []) add (("a" under "node") ∷ []) gives refusal 22 list 3 place 0)
     ∷ (of spent ask drop [] add (at-root "node" ∷ []) gives refusal 17 list 3 place 0)
     ∷ (of spent ask drop [] add and-then (at-root "a.b") gives refusal 18 list 3 place 0)
     ∷ (of lent (chain 16) [] 2_147_483_647 ask drop [] add (("x" under "a.a.a.a.a.a.a.a.a.a.a.a.a.a.a.a") ∷ [])
@@ -455,4 +490,4 @@ decided-order =
     ∷ []
 
 abbrev pub pinned : List Example
-pinned = names ++ folded-names ++ many-ids ++ updates ++ others ++ byte-rules ++ met ++ base-order ++ own-order ++ lists-order ++ decided-order
+pinned = names ++ folded-names ++ many-ids ++ updates ++ going ++ others ++ byte-rules ++ met ++ base-order ++ own-order ++ lists-order ++ decided-order

@@ -8,7 +8,7 @@ use mathlib.Core.Option.{Option}
 use Rattle.paper.specs.Answer.{Answer, refused, fault, fault-if, demand}
 
 abbrev pub last-refusal : ℕ
-last-refusal = 21
+last-refusal = 22
 
 abbrev pub last-list : ℕ
 last-list = 5
@@ -97,3 +97,8 @@ chosen-directly slot = refused 20 0 slot
 -- refusal 21: two columns match at the same level where case is forgotten
 abbrev pub ambiguous : {A : Type 0} → (second : ℕ) → Answer A
 ambiguous second = refused 21 0 second
+
+-- 02, 3/13: of an addition, between 16 and 17.
+-- refusal 22: the receiving struct, or a record above it, is dropped as a member of a struct or of the root
+abbrev pub standing : (place : ℕ) → (gone : Bool) → Answer (Unit {0})
+standing place gone = fault-if 22 3 place gone
