@@ -3,18 +3,18 @@
 use std::collections::HashSet;
 
 use judge::{
-    DEFAULT, LEVELS, LIST, MAP, MOST_DELETIONS, MOST_RECORDS, MOST_SELECTED, Node, REQUIRED,
-    STRUCT, Tree,
+    DEFAULT, LEVELS, LIST, MAP, MOST_DELETIONS, MOST_RECORDS, MOST_SELECTED, Node, REQUIRED, Tree,
 };
 
 use crate::build::{Addition, ask_of, prune_by, renumber_by, request, update_by};
 use crate::case::{Ask, Case};
 use crate::damage::damage;
+use crate::dropped::dropped_parent;
 use crate::edges::edge;
 use crate::folded::folded;
 use crate::ids::{many_ids, turn_ids};
 use crate::random::Random;
-use crate::trees::{Shape, column, identifiers, lay, name, size, tree};
+use crate::trees::{Shape, column, identifiers, lay, name, parents, size, tree};
 
 /// The operations' words, in the order in which cases of a seed take turns: 01's, then 02's.
 pub const OPERATIONS: [&str; 9] =
@@ -23,6 +23,9 @@ pub const OPERATIONS: [&str; 9] =
 /// How many of them are 01's. Their cases are counted among themselves, and those of any other
 /// operation for themselves, so that no case changes where an operation is added.
 const FIRST: u64 = 7;
+
+/// Sets the row of updates that add beneath what they drop apart from the others.
+const DROPPED_PARENT: u64 = 3 << 40;
 
 /// How large the trees are.
 #[derive(Clone, Copy, Debug, PartialEq, Eq)]
@@ -65,11 +68,32 @@ impl Generator {
         (case, origin)
     }
 
+    /// The n-th update that adds beneath what it drops, from a row of its own.
+    pub fn dropped_parent(&self, n: u64) -> Case {
+        let mut random = Random::nth(self.seed ^ DROPPED_PARENT, n);
+        let shape = self.shape(&mut random);
+        dropped_parent(&mut random, shape)
+    }
+
+    fn shape(&self, random: &mut Random) -> Shape {
+        let records = match self.sizes {
+            Sizes::Small => 5,
+            Sizes::Usual if random.chance(1, 200) => MOST_RECORDS,
+            Sizes::Usual => *random.pick(&[6, 12, 24, 40]),
+        };
+        let distinct = !random.chance(1, 12);
+        Shape { records, levels: LEVELS, distinct }
+    }
+
     /// The n-th case, and how it was made.
     pub fn made(&self, n: u64) -> (Case, Origin) {
         let turns = OPERATIONS.len() as u64;
         let (round, turn) = (n / turns, n % turns);
         let operation = OPERATIONS[turn as usize];
+        // the recorded list has them apart, so that its other cases stay
+        if operation == "update" && self.sizes == Sizes::Usual && round % 6 == 5 {
+            return (self.dropped_parent(round), Origin::Whole);
+        }
         let mut random = match turn < FIRST {
             true => Random::nth(self.seed, round * FIRST + turn),
             false => Random::nth(self.seed ^ turn << 32, round),
@@ -77,13 +101,7 @@ impl Generator {
         if self.sizes == Sizes::Usual && random.chance(1, 40) {
             return (edge(&mut random, operation), Origin::Edge);
         }
-        let most = match self.sizes {
-            Sizes::Small => 5,
-            Sizes::Usual if random.chance(1, 200) => MOST_RECORDS,
-            Sizes::Usual => *random.pick(&[6, 12, 24, 40]),
-        };
-        let distinct = !random.chance(1, 12);
-        let shape = Shape { records: most, levels: LEVELS, distinct };
+        let shape = self.shape(&mut random);
         let mut case = plain(&mut random, operation, shape);
         if random.chance(1, 6) {
             damage(&mut random, &mut case);
@@ -167,17 +185,7 @@ fn path(random: &mut Random, tree: &Tree) -> Vec<u8> {
 
 /// A path to something that can take members, if there is one.
 fn parent_path(random: &mut Random, tree: &Tree) -> Option<Vec<u8>> {
-    let is_struct = |slot: usize| tree.rows[slot].kind == STRUCT;
-    let leads = |slot: &usize| {
-        let row = &tree.rows[*slot];
-        match row.kind {
-            STRUCT => true,
-            LIST => is_struct(row.children[0]),
-            MAP => is_struct(row.children[1]),
-            _ => false,
-        }
-    };
-    let fit: Vec<usize> = (0..tree.rows.len()).filter(leads).collect();
+    let fit = parents(tree);
     if fit.is_empty() {
         return None;
     }
@@ -253,11 +261,7 @@ fn deletions(
 fn added(random: &mut Random, rows: &Tree, tame: bool, most: usize) -> Vec<Addition> {
     let mut added = vec![];
     for _ in 0..random.below(most + 1) {
-        let mut left = 1 + random.below(if most > 3 { 5 } else { 3 });
-        let (levels, nesting) = (1 + random.below(4), random.below(4));
-        let mut new = column(random, None, levels, &mut left, nesting);
-        // ids of the additions tree are ignored
-        new.id = random.any_id();
+        let mut new = fresh(random, if most > 3 { 5 } else { 3 });
         let path = match random.below(3) {
             0 => None,
             _ if tame => parent_path(random, rows),
@@ -271,8 +275,18 @@ fn added(random: &mut Random, rows: &Tree, tame: bool, most: usize) -> Vec<Addit
     added
 }
 
+/// A column to add, of at most so many records.
+pub fn fresh(random: &mut Random, records: usize) -> Node {
+    let mut left = 1 + random.below(records);
+    let (levels, nesting) = (1 + random.below(4), random.below(4));
+    let mut new = column(random, None, levels, &mut left, nesting);
+    // ids of the additions tree are ignored
+    new.id = random.any_id();
+    new
+}
+
 /// A column that 13 and 14 let pass.
-fn made_tame(random: &mut Random, new: &mut Node) {
+pub fn made_tame(random: &mut Random, new: &mut Node) {
     if new.name.contains(&b'.') || random.chance(1, 2) {
         new.name = format!("new{}", random.below(12)).into_bytes();
     }
@@ -281,7 +295,8 @@ fn made_tame(random: &mut Random, new: &mut Node) {
     }
 }
 
-fn last_id(random: &mut Random, rows: &Tree, added: usize) -> i32 {
+/// The last id that is given, where so many records are added.
+pub fn last_id(random: &mut Random, rows: &Tree, added: usize) -> i32 {
     let top = rows.rows.iter().map(|row| row.id).max().unwrap_or(0);
     match random.below(12) {
         // may hand out ids again

@@ -4,6 +4,7 @@
 mod build;
 mod case;
 mod damage;
+mod dropped;
 mod edges;
 mod folded;
 mod generate;

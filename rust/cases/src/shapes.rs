@@ -7,6 +7,7 @@ use judge::{
 };
 
 use crate::case::{Answer, Ask, Case};
+use crate::trees::{path_up, receiver};
 
 /// The shapes. Those of a tree can come up in every operation, the others in the one named.
 pub const SHAPES: &[&str] = &[
@@ -17,7 +18,11 @@ pub const SHAPES: &[&str] = &[
     "update: a column added under a list",
     "update: a column added under a map",
     "update: a column added under a key",
-    "update: an addition vanished",
+    "update: a column added to a dropped element that stays",
+    "update: a column added to a dropped key that stays",
+    "update: a column added to a dropped value that stays",
+    "update: a column added farther beneath a dropped element, key or value",
+    "update: a column added to a struct that loses a member",
     "update: an element, key or value dropped stays",
     "update: found by a short name",
     "update: an id handed out again",
@@ -40,6 +45,25 @@ pub const SHAPES: &[&str] = &[
     "update: 5 for level 17 of the additions tree",
     "update: 5 for counts past the end of the additions tree",
     "update: 9 in the rebuilt tree",
+    "update: 16 beneath a dropped member",
+    "update: 17 beneath a dropped element, key or value",
+    "update: 22 for the receiving struct itself",
+    "update: 22 for the record above it",
+    "update: 22 for the second above it",
+    "update: 22 for the third above it or a farther one",
+    "update: 22 for the first of 16 levels",
+    "update: 22 for a root",
+    "update: 22 for a struct's member",
+    "update: 22 through a list's element",
+    "update: 22 through a map's key",
+    "update: 22 through a map's value",
+    "update: 22, and an element, key or value above is dropped too",
+    "update: 22 of the only addition",
+    "update: 22 of the first of several additions",
+    "update: 22 of an addition between others",
+    "update: 22 of the last of several additions",
+    "update: 22, and the name is taken",
+    "update: 22, and no ids are left",
     "prune: all is kept",
     "prune: a part is kept",
     "prune: an empty tree",
@@ -244,6 +268,10 @@ fn refused_shapes(case: &Case, refusal: Refusal, met: &mut impl FnMut(&'static s
             let known = ids_of(identifiers).iter().all(|id| base.contains(id));
             met("update: 9 in the rebuilt tree", known);
         }
+        (Ask::Update { .. }, 16 | 17 | 22, _) => {
+            let tree = read_tree(&case.records, &case.pool, 0).expect("16 comes after 6");
+            addition_refused_shapes(case, &tree, refusal, met);
+        }
         (Ask::Prune { .. }, 20, _) => {
             let tree = read_tree(&case.records, &case.pool, 0).expect("20 comes after 6");
             let above = tree.rows[refusal.place as usize].parent.map(|up| tree.rows[up].kind);
@@ -380,8 +408,6 @@ fn update_shapes(
     let given = i64::from(*last_id) + 1..=i64::from(*consumed);
     let fresh = |id: &i32| given.contains(&i64::from(*id));
     met("update: an id handed out again", before.iter().any(fresh));
-    let kept = after.iter().filter(|id| fresh(id)).count();
-    met("update: an addition vanished", kept < added_records.len() / RECORD_BYTES);
     met(
         "update: the last id consumed is the largest",
         *consumed == i32::MAX && *last_id < i32::MAX,
@@ -397,6 +423,11 @@ fn update_shapes(
     addition_shapes(case, tree, &found, met);
 }
 
+/// Is a record an element, a key or a value, which a deletion does not take out?
+fn held(tree: &Tree, slot: usize) -> bool {
+    tree.rows[slot].parent.is_some_and(|above| tree.rows[above].kind >= LIST)
+}
+
 fn deletion_shapes(
     case: &Case,
     tree: &Tree,
@@ -409,10 +440,9 @@ fn deletion_shapes(
     met("update: a column dropped twice", twice(paths.iter().map(|path| found(path))));
     for path in paths {
         let slot = found(&path);
-        let fixed = tree.rows[slot].parent.is_some_and(|p| tree.rows[p].kind >= LIST);
         let stays = after.contains(&tree.rows[slot].id);
-        met("update: an element, key or value dropped stays", fixed && stays);
-        met("update: a member dropped", !fixed);
+        met("update: an element, key or value dropped stays", held(tree, slot) && stays);
+        met("update: a member dropped", !held(tree, slot));
         met("update: found by a short name", tree.full_name(slot) != path);
     }
 }
@@ -423,19 +453,113 @@ fn addition_shapes(
     found: &impl Fn(&[u8]) -> usize,
     met: &mut impl FnMut(&'static str, bool),
 ) {
-    let Ask::Update { additions, request_pool, .. } = &case.ask else { return };
+    let Ask::Update { deletions, additions, request_pool, .. } = &case.ask else { return };
+    let dropped: Vec<usize> =
+        paths(deletions, request_pool).iter().flatten().map(|path| found(path)).collect();
     for path in paths(additions, request_pool) {
         let Some(path) = path else {
             met("update: a column added at the root", true);
             continue;
         };
-        let row = &tree.rows[found(&path)];
+        let slot = found(&path);
+        let row = &tree.rows[slot];
         let above = row.parent.map(|p| tree.rows[p].kind);
         met("update: a column added under a struct", row.kind == STRUCT);
         met("update: a column added under a list", row.kind == LIST);
         met("update: a column added under a map", row.kind == MAP);
         met("update: a column added under a key", above == Some(MAP) && row.name == b"key");
+        let up = path_up(tree, receiver(tree, slot).expect("it was accepted"));
+        let to = |name: &str| {
+            let is = held(tree, up[0]) && tree.rows[up[0]].name == name.as_bytes();
+            is && dropped.contains(&up[0])
+        };
+        met("update: a column added to a dropped element that stays", to("element"));
+        met("update: a column added to a dropped key that stays", to("key"));
+        met("update: a column added to a dropped value that stays", to("value"));
+        met(
+            "update: a column added farther beneath a dropped element, key or value",
+            up[1..].iter().any(|slot| dropped.contains(slot)),
+        );
+        let members = &tree.rows[up[0]].children;
+        met(
+            "update: a column added to a struct that loses a member",
+            members.iter().any(|slot| dropped.contains(slot)),
+        );
     }
+}
+
+/// Of an addition that is refused by its parent or its name: what is dropped above it.
+fn addition_refused_shapes(
+    case: &Case,
+    tree: &Tree,
+    refusal: Refusal,
+    met: &mut impl FnMut(&'static str, bool),
+) {
+    let Ask::Update { deletions, additions, request_pool, .. } = &case.ask else { return };
+    let names = Names::of(tree);
+    let found = |path: &Vec<u8>| names.find(path).expect("11 and 15 come before");
+    let Some(path) = &paths(additions, request_pool)[refusal.place as usize] else { return };
+    let dropped: Vec<usize> = paths(deletions, request_pool).iter().flatten().map(found).collect();
+    let parent = found(path);
+    let up = path_up(tree, receiver(tree, parent).unwrap_or(parent));
+    let stays = up.iter().any(|slot| held(tree, *slot) && dropped.contains(slot));
+    let goes = up.iter().position(|slot| !held(tree, *slot) && dropped.contains(slot));
+    match (refusal.number, goes) {
+        (16, goes) => met("update: 16 beneath a dropped member", goes.is_some()),
+        (17, _) => met("update: 17 beneath a dropped element, key or value", stays),
+        (_, Some(far)) => {
+            dropped_parent_shapes(tree, &up, far, met);
+            met("update: 22, and an element, key or value above is dropped too", stays);
+            beside_22_shapes(case, tree, (refusal.place as usize, up[0], &dropped), met);
+        }
+        _ => {}
+    }
+}
+
+/// Of 22: which record above the receiving struct is the nearest that goes.
+fn dropped_parent_shapes(
+    tree: &Tree,
+    up: &[usize],
+    far: usize,
+    met: &mut impl FnMut(&'static str, bool),
+) {
+    met("update: 22 for the receiving struct itself", far == 0);
+    met("update: 22 for the record above it", far == 1);
+    met("update: 22 for the second above it", far == 2);
+    met("update: 22 for the third above it or a farther one", far > 2);
+    met("update: 22 for the first of 16 levels", far == LEVELS - 1);
+    met("update: 22 for a root", far == up.len() - 1);
+    met("update: 22 for a struct's member", far < up.len() - 1);
+    let through = |name: &str| {
+        let is = |slot: &usize| held(tree, *slot) && tree.rows[*slot].name == name.as_bytes();
+        up[..far].iter().any(is)
+    };
+    met("update: 22 through a list's element", through("element"));
+    met("update: 22 through a map's key", through("key"));
+    met("update: 22 through a map's value", through("value"));
+}
+
+/// Of 22: where the addition stands, and what later refusals it would meet.
+fn beside_22_shapes(
+    case: &Case,
+    tree: &Tree,
+    (place, receiver, dropped): (usize, usize, &[usize]),
+    met: &mut impl FnMut(&'static str, bool),
+) {
+    let Ask::Update { added_records, request_pool, last_id, .. } = &case.ask else { return };
+    let added = read_tree(added_records, request_pool, 1).expect("22 comes after 6");
+    let count = added.roots.len();
+    met("update: 22 of the only addition", count == 1);
+    met("update: 22 of the first of several additions", count > 1 && place == 0);
+    met("update: 22 of an addition between others", 0 < place && place + 1 < count);
+    met("update: 22 of the last of several additions", count > 1 && place + 1 == count);
+    let name = &added.rows[added.roots[place]].name;
+    let has = |slot: &usize| tree.rows[*slot].name == *name && !dropped.contains(slot);
+    let taken = !dropped.contains(&receiver) && tree.rows[receiver].children.iter().any(has);
+    met("update: 22, and the name is taken", taken);
+    let records = added.roots.get(place + 1).copied().unwrap_or(added.rows.len());
+    let last = i64::from(*last_id) + records as i64;
+    met("update: 22, and no ids are left", last > i64::from(i32::MAX));
 }
 
 fn prune_shapes(

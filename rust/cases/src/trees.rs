@@ -2,7 +2,7 @@
 
 use std::collections::HashSet;
 
-use judge::{DEFAULT, LEVELS, LIST, MAP, Node, PRIMITIVE, REQUIRED, STRUCT};
+use judge::{DEFAULT, LEVELS, LIST, MAP, Node, PRIMITIVE, REQUIRED, STRUCT, Tree};
 
 use crate::build::{at_the_end, laid_out, list_of, map_of, prim, strukt};
 use crate::random::Random;
@@ -352,6 +352,27 @@ fn parted(
 fn fresh_name(node: &mut Node, number: &mut usize) {
     *number += 1;
     node.name = format!("n{number}").into_bytes();
+}
+
+/// The struct that takes what is added under a record, if the record leads to one.
+pub fn receiver(tree: &Tree, slot: usize) -> Option<usize> {
+    let row = &tree.rows[slot];
+    let at = match row.kind {
+        LIST => row.children[0],
+        MAP => row.children[1],
+        _ => slot,
+    };
+    (tree.rows[at].kind == STRUCT).then_some(at)
+}
+
+/// The records that lead to a struct.
+pub fn parents(tree: &Tree) -> Vec<usize> {
+    (0..tree.rows.len()).filter(|slot| receiver(tree, *slot).is_some()).collect()
+}
+
+/// A record and those above it, up to the root.
+pub fn path_up(tree: &Tree, slot: usize) -> Vec<usize> {
+    std::iter::successors(Some(slot), |slot| tree.rows[*slot].parent).collect()
 }
 
 /// Records and pool, with the names packed, shared, or behind other bytes.

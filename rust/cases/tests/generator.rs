@@ -1,6 +1,6 @@
 //! What the generator makes.
 
-use cases::{Ask, Case, Generator, OPERATIONS, Sizes, Tally, answer, shrink};
+use cases::{Answer, Ask, Case, Generator, OPERATIONS, Sizes, Tally, answer, shrink};
 
 const SEED: u64 = 1;
 
@@ -68,6 +68,45 @@ fn names_that_differ_in_case_alone_are_common() {
         let times = tally.shapes[shape].sum();
         assert!(times * 20 > cases, "{shape}: {times} of {cases}");
     }
+}
+
+/// An addition beneath what is dropped: refused by a member, accepted by what stays.
+#[test]
+fn additions_beneath_what_is_dropped_are_common() {
+    let tally = tally_of("update");
+    let cases = tally.cases.sum();
+    for (often, shape) in [
+        (40, "update: 22 for the receiving struct itself"),
+        (40, "update: 22 for the record above it"),
+        (60, "update: 22 for the third above it or a farther one"),
+        (40, "update: 22 through a list's element"),
+        (80, "update: 22 through a map's key"),
+        (60, "update: 22 of an addition between others"),
+        (100, "update: a column added farther beneath a dropped element, key or value"),
+    ] {
+        let times = tally.shapes[shape].sum();
+        assert!(times * often > cases, "{shape}: {times} of {cases}");
+    }
+}
+
+/// 02, 3/13: every id that an accepted update consumes is that of one column in its answer.
+#[test]
+fn nothing_that_is_added_vanishes() {
+    let mut shown = 0;
+    for n in of("update", 6_000) {
+        let case = usual().case(n);
+        let Answer::Updated { records, last_id: consumed, .. } = answer(&case) else { continue };
+        let Ask::Update { last_id, added_records, .. } = &case.ask else { continue };
+        let id = |r: &[u8]| i32::from_le_bytes([r[0], r[1], r[2], r[3]]);
+        let given: Vec<i32> = (*last_id..consumed).map(|id| id + 1).collect();
+        let mut there: Vec<i32> =
+            records.chunks(24).map(id).filter(|id| given.contains(id)).collect();
+        there.sort_unstable();
+        assert_eq!(there, given, "case {n}");
+        assert_eq!(given.len(), added_records.len() / 24, "case {n}");
+        shown += usize::from(!given.is_empty());
+    }
+    assert!(shown > 1_000, "{shown} cases");
 }
 
 /// Whatever the operation, so that its own search is put to such ids.

@@ -14,7 +14,7 @@ pub const REBUILT: u32 = 4;
 pub const IDENTIFIERS: u32 = 5;
 
 /// The last number of a refusal.
-pub const LAST_REFUSAL: u32 = 21;
+pub const LAST_REFUSAL: u32 = 22;
 
 /// Why a request is turned down: its number, the list, and the place in it.
 #[derive(Clone, Copy, Debug, PartialEq, Eq, PartialOrd, Ord)]

@@ -36,4 +36,4 @@ pub use prune::{Unwrap, prune, prune_where_rust_panics};
 pub use read::read_tree;
 pub use renumber::renumber;
 pub use tree::{Node, Row, Tree};
-pub use update::{UpdateCall, update};
+pub use update::{UpdateCall, update, update_before_22};

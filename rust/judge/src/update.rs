@@ -1,4 +1,4 @@
-//! Deleting and adding columns: refusal 10 to refusal 19.
+//! Deleting and adding columns: refusal 10 to refusal 19, and refusal 22.
 
 use std::collections::HashSet;
 
@@ -26,10 +26,37 @@ pub struct UpdateCall<'a> {
     pub request_pool: &'a [u8],
 }
 
+/// Whose rules an update goes by.
+#[derive(Clone, Copy, PartialEq, Eq)]
+enum Rules {
+    /// 01's alone: an addition beneath a dropped member vanishes, and its ids stay consumed.
+    First,
+    /// 02's amendments among them: such an addition is refused (3/13).
+    Amended,
+}
+
 /// The tree after the deletions and additions, and the last id consumed.
 pub fn update(call: &UpdateCall, out_records: &mut [u8], out_names: &mut [u8]) -> Changed {
+    update_by(Rules::Amended, call, out_records, out_names)
+}
+
+/// The same by 01 as it was before 02 amended it, which is what Rust does: without 22.
+pub fn update_before_22(
+    call: &UpdateCall,
+    out_records: &mut [u8],
+    out_names: &mut [u8],
+) -> Changed {
+    update_by(Rules::First, call, out_records, out_names)
+}
+
+fn update_by(
+    rules: Rules,
+    call: &UpdateCall,
+    out_records: &mut [u8],
+    out_names: &mut [u8],
+) -> Changed {
     let sizes = [(out_records.len(), OUT_RECORDS), (out_names.len(), OUT_NAMES)];
-    match refusal_1(&sizes).and_then(|()| call.updated()) {
+    match refusal_1(&sizes).and_then(|()| call.updated(rules)) {
         Err(refusal) => refusal.into(),
         Ok((tree, last_id)) => write(&tree, last_id, out_records, out_names),
     }
@@ -69,7 +96,7 @@ impl<'a> UpdateCall<'a> {
     /// The order of 01: 2 for everything; base 3 to 6; additions tree 3 to 6; deletion
     /// entries 3, 4; addition entries 3, 4; base 7 to 9; 10; deletions one at a time;
     /// additions one at a time; 19; rebuilt tree 7 to 9.
-    fn updated(&self) -> Result<(Tree, i32), Refusal> {
+    fn updated(&self, rules: Rules) -> Result<(Tree, i32), Refusal> {
         self.limits()?;
         let base = read_tree(self.records, self.pool, BASE)?;
         let added = read_tree(self.added_records, self.request_pool, ADDED)?;
@@ -82,7 +109,8 @@ impl<'a> UpdateCall<'a> {
         refusal_10(added.roots.len(), additions.len())?;
         let names = Names::of(&base);
         let dropped = dropped(&base, &names, &identifiers, &deletions)?;
-        let mut plan = Plan { base: &base, names, dropped, last_id: self.last_id, placed: vec![] };
+        let last_id = self.last_id;
+        let mut plan = Plan { rules, base: &base, names, dropped, last_id, placed: vec![] };
         for (place, (path, column)) in additions.iter().zip(added.nodes()).enumerate() {
             plan.add(place, path.as_deref(), column)?;
         }
@@ -186,6 +214,7 @@ fn refusal_19(tree: &Tree) -> Result<(), Refusal> {
 
 /// What will stand in the rebuilt tree.
 struct Plan<'a> {
+    rules: Rules,
     base: &'a Tree,
     names: Names,
     dropped: HashSet<i32>,
@@ -196,7 +225,7 @@ struct Plan<'a> {
 }
 
 impl Plan<'_> {
-    /// One addition: 13 to 18 in their order, then its ids.
+    /// One addition: 13 to 16, 22, 17 and 18 in this order, then its ids.
     fn add(&mut self, place: usize, path: Option<&[u8]>, mut column: Node) -> Result<(), Refusal> {
         refusal_13(&column, place)?;
         refusal_14(&column, place)?;
@@ -204,7 +233,11 @@ impl Plan<'_> {
             None => None,
             Some(path) => {
                 let parent = refusal_15(self.names.find(path), place)?;
-                Some(refusal_16(self.base, parent, place)?)
+                let receiver = refusal_16(self.base, parent, place)?;
+                if self.rules == Rules::Amended {
+                    self.refusal_22(receiver, place)?;
+                }
+                Some(receiver)
             }
         };
         self.refusal_17(receiver, &column.name, place)?;
@@ -216,6 +249,16 @@ impl Plan<'_> {
 
     fn is_dropped(&self, slot: usize) -> bool {
         self.dropped.contains(&self.base.rows[slot].id)
+    }
+
+    /// refusal 22: the receiving struct, or any record above it, is dropped as a member of a
+    /// struct or of the root. A dropped element, key or value stays, and is no reason.
+    fn refusal_22(&self, receiver: usize, place: usize) -> Result<(), Refusal> {
+        let above = |slot: &usize| self.base.rows[*slot].parent;
+        let member = |slot: usize| above(&slot).is_none_or(|p| self.base.rows[p].kind == STRUCT);
+        let mut path = std::iter::successors(Some(receiver), above);
+        let goes = path.any(|slot| member(slot) && self.is_dropped(slot));
+        refuse(22, ADDITIONS, goes.then_some(place))
     }
 
     /// refusal 17: the name is taken. At the root if look-up finds it undeleted. Under a

@@ -39,7 +39,7 @@ fn dropped(all: &mut Cases) {
     );
     let twice = || s(0, "z", vec![p(0, "q"), p(0, "q")]);
     let case = update(&t, 10, &["node"], &[(Some("node"), twice()), (Some("node"), twice())]);
-    all.put("what vanishes is tested for no 7 or 8", case, last(&[2, 6, 7, 3, 8, 9, 10], 16));
+    all.put("what would be nowhere is tested for no 7 or 8", case, refused(22, 3, 0));
     let case = update(&t, 10, &[], &[(Some("node"), twice())]);
     all.put("what stays is", case, refused(8, 4, 5));
     let base = [

@@ -1,5 +1,6 @@
 //! The cases that stand in the recorded list by name, each with the answer that it must have.
 
+mod dropped;
 mod faults;
 mod folded;
 mod found;
@@ -75,7 +76,8 @@ impl Expected {
 }
 
 /// Every named case: the worked tree, the readings, the limits, faults two at a time, what
-/// iceberg's own code decided, the look-up that forgets case, and that of many ids.
+/// iceberg's own code decided, the look-up that forgets case, that of many ids, and additions
+/// beneath what is dropped.
 pub fn named() -> Vec<Named> {
     let mut all = Cases(vec![]);
     worked::put(&mut all);
@@ -85,6 +87,7 @@ pub fn named() -> Vec<Named> {
     found::put(&mut all);
     folded::put(&mut all);
     ids::put(&mut all);
+    dropped::put(&mut all);
     all.0
 }
 

@@ -279,7 +279,7 @@ fn requests(all: &mut Cases) {
 fn taken_names(all: &mut Cases) {
     let t = the_tree();
     let dropped = update(&t, 10, &["node"], &[(Some("node"), p(0, "x"))]);
-    all.put("reading 35: a dropped parent is found", dropped, last(&[2, 6, 7, 3, 8, 9, 10], 11));
+    all.put("reading 35: a dropped parent is found, and then refused", dropped, refused(22, 3, 0));
     let child = update(&[], 0, &[], &[(None, s(0, "n", vec![])), (Some("n"), p(0, "x"))]);
     all.put("reading 35: an addition is no parent", child, refused(15, 3, 1));
     let twin = update(&[], 0, &[], &[(None, p(0, "n")), (None, p(0, "n"))]);
@@ -291,13 +291,9 @@ fn taken_names(all: &mut Cases) {
         last(&[1, 4, 5, 2, 6, 7, 3, 8, 9, 10, 11], 11),
     );
     let below = update(&t, 10, &["visits"], &[(Some("visits"), p(0, "day"))]);
-    all.put("reading 37: the element is not dropped with its list", below, refused(17, 3, 0));
+    all.put("reading 37: beneath a dropped list no name is asked for", below, refused(22, 3, 0));
     let freed = update(&t, 10, &["node"], &[(Some("node"), p(0, "cost"))]);
-    all.put(
-        "reading 37: a dropped struct frees its names",
-        freed,
-        last(&[2, 6, 7, 3, 8, 9, 10], 11),
-    );
+    all.put("reading 37: beneath a dropped struct no name is asked for", freed, refused(22, 3, 0));
     all.put("17 at the root", update(&t, 10, &[], &[(None, p(0, "parts"))]), refused(17, 3, 0));
     all.put(
         "17 under a parent",
@@ -336,8 +332,8 @@ fn numbers(all: &mut Cases) {
     all.put("reading 39: the largest id may be consumed", one(most - 1), last(&[1, most], most));
     all.put("reading 39: and none above it", one(most), refused(18, 3, 0));
     let added = [(Some("s"), p(0, "x")), (None, p(0, "y")), (None, p(0, "z"))];
-    let vanish = update(&[s(1, "s", vec![])], most - 1, &["s"], &added);
-    all.put("reading 40: 18 counts what vanishes", vanish, refused(18, 3, 1));
+    let dropped = update(&[s(1, "s", vec![])], most - 1, &["s"], &added);
+    all.put("reading 40: 22 before 18 of a later addition", dropped, refused(22, 3, 0));
     let tree = s(0, "t", vec![p(0, "x"), p(0, "y")]);
     let whole = update(&a, most - 2, &[], &[(None, tree)]);
     all.put("reading 40: 18 counts every record", whole, refused(18, 3, 0));
@@ -356,7 +352,7 @@ fn numbers(all: &mut Cases) {
     all.put("reading 42: a last id below 0", one(-1), last(&[1, 0], 0));
     all.put("reading 42: the least last id", one(i32::MIN), last(&[1, i32::MIN + 1], i32::MIN + 1));
     let gone = update(&[s(1, "s", vec![]), p(9, "k")], 20, &["s"], &[(Some("s"), p(0, "x"))]);
-    all.put("reading 43: the last id consumed, though all vanished", gone, last(&[9], 21));
+    all.put("reading 43: no id is consumed for what would be nowhere", gone, refused(22, 3, 0));
 }
 
 fn rebuilding(all: &mut Cases) {

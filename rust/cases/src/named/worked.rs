@@ -1,4 +1,4 @@
-//! P1 to P13 on 01's tree T.
+//! P1 to P13 on 01's tree T, P5 as 02 amends it.
 
 use super::*;
 use crate::build::the_tree;
@@ -27,9 +27,9 @@ fn one_to_thirteen(all: &mut Cases) {
         last(&[1, 4, 11, 2, 6, 7, 3, 8, 9, 10], 11),
     );
     all.put(
-        "P5: an addition beneath a dropped member vanishes",
+        "P5: an addition beneath a dropped member is refused (02, 3/13)",
         update(&t, 10, &["visits"], &[(Some("visits"), p(0, "fault")), (None, p(0, "floor"))]),
-        last(&[1, 4, 5, 3, 8, 9, 10, 12], 12),
+        refused(22, 3, 0),
     );
     all.put(
         "P6: a dropped element stays, and its members take no name",
