@@ -104,7 +104,7 @@ fn added(
 fn under(random: &mut Random, rows: &Tree, parent: usize, column: &mut Node) {
     let receiver = receiver(rows, parent).expect("it leads to a struct");
     let members = &rows.rows[receiver].children;
-    if !members.is_empty() && random.chance(1, 3) {
+    if !members.is_empty() && random.chance(1, 2) {
         let name = &rows.rows[*random.pick(members)].name;
         if !name.contains(&b'.') {
             column.name = name.clone();

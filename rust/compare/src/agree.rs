@@ -2,9 +2,10 @@
 
 use std::collections::BTreeSet;
 
-use cases::{Answer, Ask, Case};
+use cases::{Answer, Ask, Case, Numbers, Outcome, shown};
 use judge::{
-    ENTRY_BYTES, ID_BYTES, Names, PRIMITIVE, RECORD_BYTES, REQUIRED, Refusal, Row, STRUCT, Unwrap,
+    ENTRY_BYTES, ID_BYTES, Names, OUT_NAMES, OUT_RECORDS, PRIMITIVE, RECORD_BYTES, REQUIRED,
+    Refusal, Row, STRUCT, Unwrap,
 };
 use oracle::Verdict;
 
@@ -34,12 +35,13 @@ const VALUE_YIELDS_NOTHING: &str =
     "a panic: a chosen map value of struct kind that yields nothing, not full";
 const ONLY_LETTERS: &str = "only 26 letters fold";
 const AMBIGUOUS: &str = "ambiguity is refused";
+const DROPPED_PARENT: &str = "no additions to a dropped parent";
 const HANDED_OUT_AGAIN: &str = "An identifier's id handed out again";
 const BYTES: &str = "1 to 6 and 10 speak of bytes that the crate never sees";
 const STRICTER: &str = "The builder's rule for identifiers is stricter than 9";
 
 /// Every agreement that is none of the same answer: all that a run may meet.
-pub const LISTED: [Agreement; 12] = [
+pub const LISTED: [Agreement; 13] = [
     Fact,
     Departure(ELEMENT_KEY_VALUE),
     Departure(PAST_LARGEST),
@@ -49,6 +51,7 @@ pub const LISTED: [Agreement; 12] = [
     Departure(VALUE_YIELDS_NOTHING),
     Departure(ONLY_LETTERS),
     Departure(AMBIGUOUS),
+    Departure(DROPPED_PARENT),
     Departure(HANDED_OUT_AGAIN),
     Outside(BYTES),
     Outside(STRICTER),
@@ -123,6 +126,9 @@ pub fn agreement(case: &Case, paper: &Answer, said: &Verdict) -> Agreement {
     if let Some(own) = not_the_crates(case, paper) {
         return own;
     }
+    if paper.refusal().is_some_and(|refusal| refusal.number == 22) {
+        return dropped_parent(case, said);
+    }
     match said {
         Verdict::Unfit("a name that is not UTF-8") => Departure(NOT_UTF8),
         Verdict::Unfit(_) => Differ,
@@ -131,6 +137,26 @@ pub fn agreement(case: &Case, paper: &Answer, said: &Verdict) -> Agreement {
         Verdict::Refused { number, place, .. } => refused(case, paper, *number, *place),
         Verdict::Panicked { place, text } => panicked(case, paper, *place, text),
     }
+}
+
+/// The crate has no 22 and goes by 01 as it was: the addition is nowhere, or a later refusal is
+/// met. So its word is held to 01's answer, whatever that is.
+fn dropped_parent(case: &Case, said: &Verdict) -> Agreement {
+    match agreement(case, &before_22(case), said) {
+        Same | Fact | Departure(PAST_LARGEST | LIMITS | HANDED_OUT_AGAIN) => {
+            Departure(DROPPED_PARENT)
+        }
+        other => other,
+    }
+}
+
+/// 01's answer to an update, before 02 amended it.
+fn before_22(case: &Case) -> Answer {
+    let call = case.update_call().expect("only an update is refused with 22");
+    let (mut out_records, mut out_names) = (vec![0; OUT_RECORDS], vec![0; OUT_NAMES]);
+    let answer = judge::update_before_22(&call, &mut out_records, &mut out_names);
+    let (numbers, out_identifiers, out_slots) = (Numbers::Changed(answer), vec![], vec![]);
+    shown(case, &Outcome { numbers, out_records, out_names, out_identifiers, out_slots })
 }
 
 fn answered(case: &Case, paper: &Answer, said: &Answer) -> Agreement {

@@ -15,13 +15,15 @@ use crate::run::check;
 const SEED: u64 = 20_260;
 /// Random cases in the list.
 const RANDOM: u64 = 3_856;
+/// Random updates behind them that add beneath what they drop.
+const DROPPED_PARENT: u64 = 80;
 
 /// Where the list stands in the repository.
 pub fn recorded_path() -> PathBuf {
     PathBuf::from(env!("CARGO_MANIFEST_DIR")).join("../../crates/recorded/data/recorded.txt")
 }
 
-/// The whole list: a header, the named cases, then the random ones.
+/// The whole list: a header, the named cases, then the random ones, those of 02 last.
 pub fn recorded_list(iceberg: Iceberg) -> String {
     let mut lines = vec![];
     for Named { title, case, .. } in named() {
@@ -34,6 +36,9 @@ pub fn recorded_list(iceberg: Iceberg) -> String {
     // those of 02 behind the others, so that an operation more only adds lines
     random.sort_by_key(|case| ["folded", "ids"].iter().position(|word| *word == case.ask.word()));
     lines.extend(random.into_iter().map(|case| entry(case, iceberg)));
+    lines.push(format!("# 3/13: additions beneath what is dropped, random, seed {SEED}"));
+    let beneath = (0..DROPPED_PARENT).map(|n| generator.dropped_parent(n));
+    lines.extend(beneath.map(|case| entry(case, iceberg)));
     header(&lines) + &lines.join("\n") + "\n"
 }
 

@@ -35,8 +35,8 @@ fn number(iceberg: Iceberg, case: &Case) -> u32 {
     }
 }
 
-/// P1 to P5, P8, P9 and P12: the very answer. P10: and the place. P6, P7: the number, and the
-/// text names ids that stand at 01's places. P11, P13: the crate panics.
+/// P1 to P4, P8, P9 and P12: the very answer. P5: 01's, which 02 amends. P10: and the place. P6,
+/// P7: the number, and the text names ids that stand at 01's places. P11, P13: the crate panics.
 #[test]
 fn the_worked_tree_by_the_crate() {
     let Some(iceberg) = iceberg() else { return };
@@ -45,6 +45,9 @@ fn the_worked_tree_by_the_crate() {
         let worked = title.split(':').next().expect("a title has a number");
         match (worked, iceberg.verdict(&case)) {
             ("P11" | "P13", said) => assert!(matches!(said, Verdict::Panicked { .. }), "{title}"),
+            ("P5", Verdict::Answer(said)) => {
+                assert!(Expected::Last(vec![1, 4, 5, 3, 8, 9, 10, 12], 12).met_by(&said));
+            }
             ("P6", Verdict::Refused { number: 8, text, .. }) => {
                 assert!(text.contains("visits.element.day: 11 and 7"), "{text}");
             }
@@ -112,6 +115,31 @@ fn the_builder_asks_more_of_an_identifier_than_9_does() {
         assert!(answer(&case).refusal().is_none(), "id {id}");
     }
     assert_eq!(number(iceberg, &renumbering(&base, &[10, 10], 1)), 0);
+}
+
+/// 02, 3/13: what the crate says where the port gives 22. It accepts, and the column is nowhere;
+/// or it meets a later refusal.
+#[test]
+fn an_addition_to_a_dropped_parent_is_nowhere() {
+    let Some(iceberg) = iceberg() else { return };
+    let x = || prim(0, "x");
+    let smallest =
+        update_of(&[strukt(1, "node", vec![])], &[], 1, &["node"], &[(Some("node"), x())]);
+    let nothing = Answer::Updated { records: vec![], names: vec![], last_id: 2 };
+    assert_eq!(iceberg.verdict(&smallest), Verdict::Answer(nothing));
+    let fixed = [required(strukt(1, "node", vec![required(prim(5, "cost"))]))];
+    let t = the_tree();
+    let taken = update_of(&t, &[], 10, &["visits"], &[(Some("visits"), prim(0, "day"))]);
+    let identifier = update_of(&fixed, &[5], 5, &["node"], &[(Some("node"), x())]);
+    let next = update_of(&t, &[], 10, &["node"], &[(Some("node"), x()), (None, prim(0, "a.b"))]);
+    for (case, said) in [(&taken, 17), (&identifier, 9), (&next, 13)] {
+        assert_eq!(number(iceberg, case), said);
+    }
+    let past = update_of(&t, &[], i32::MAX, &["node"], &[(Some("node"), x())]);
+    assert!(matches!(iceberg.verdict(&past), Verdict::Panicked { place: Some(0), .. }));
+    for case in [smallest, taken, identifier, next, past] {
+        assert!(Expected::Refused(22, 3, 0).met_by(&answer(&case)));
+    }
 }
 
 #[test]

@@ -2,16 +2,20 @@
 
 use cases::{Ask, ByJudge, Generator, Operations, Sizes, named, outcome, read_line};
 use compare::{Run, iceberg, replay};
-use judge::{Changed, Found, ID_BYTES, NO_SLOT, RECORD_BYTES, Searched, UpdateCall};
+use judge::{Changed, Found, ID_BYTES, NO_SLOT, Names, RECORD_BYTES, Searched, Tree, UpdateCall};
 use port::{Guarded, beside_paper};
 
 /// The second judge with its answers changed a little.
 struct Altered {
+    updated: Updated,
     changed: fn(Changed, &mut [u8], &mut [u8]) -> Changed,
     found: fn(Found) -> Found,
     folded: Folded,
     ids: Ids,
 }
+
+/// An update.
+type Updated = fn(&UpdateCall, &mut [u8], &mut [u8]) -> Changed;
 
 /// A look-up that forgets case.
 type Folded = fn(&[u8], &[u8], &[u8]) -> Found;
@@ -21,7 +25,7 @@ type Ids = fn(&[u8], &[u8], &[u8], &mut [u8]) -> Searched;
 
 impl Operations for Altered {
     fn update(&self, call: &UpdateCall, r: &mut [u8], n: &mut [u8]) -> Changed {
-        let answer = ByJudge.update(call, r, n);
+        let answer = (self.updated)(call, r, n);
         (self.changed)(answer, r, n)
     }
     fn prune(
@@ -68,6 +72,7 @@ impl Operations for Altered {
 
 fn right() -> Altered {
     Altered {
+        updated: judge::update,
         changed: |answer, _, _| answer,
         found: |answer| answer,
         folded: judge::find_folded,
@@ -142,6 +147,110 @@ fn a_wrong_slot_is_found() {
 fn a_slot_where_nothing_is_found_is_found() {
     let found = |answer: Found| Found { slot: 1 - answer.found.min(1), ..answer };
     assert!(failures(Altered { found, ..right() }) > 5);
+}
+
+/// Of the addition at a place: the record that its path finds, and those above it; and what the
+/// deletions find. For requests that pass 11 and 15.
+fn path_and_dropped(call: &UpdateCall, place: usize) -> (Vec<usize>, Vec<usize>, Tree) {
+    let tree = judge::read_tree(call.records, call.pool, judge::BASE).expect("it was read");
+    let names = Names::of(&tree);
+    let found = |path: &Option<Vec<u8>>| path.as_ref().and_then(|path| names.find(path));
+    let paths = |entries, list| judge::read_paths(entries, call.request_pool, list).expect("read");
+    let dropped = paths(call.deletions, judge::DELETIONS).iter().filter_map(found).collect();
+    let parent = found(&paths(call.additions, judge::ADDITIONS)[place]);
+    let path = std::iter::successors(parent, |slot| tree.rows[*slot].parent).collect();
+    (path, dropped, tree)
+}
+
+/// The addition that a refusal speaks of, or the first that has a path.
+fn place_of(call: &UpdateCall, answer: Changed) -> usize {
+    let has_path = |entry: &[u8]| entry[6] == 1;
+    let first = call.additions.chunks_exact(8).position(has_path).unwrap_or(0);
+    if answer.refusal == 0 { first } else { answer.place as usize }
+}
+
+/// 22 in the place of an answer, if what is dropped above the addition's parent says so.
+fn refused_22_if(
+    call: &UpdateCall,
+    answer: Changed,
+    wrong: fn(&[usize], &[usize], &Tree) -> bool,
+) -> Changed {
+    if call.additions.is_empty() {
+        return answer;
+    }
+    let place = place_of(call, answer);
+    let (path, dropped, tree) = path_and_dropped(call, place);
+    match wrong(&path, &dropped, &tree) {
+        true => judge::Refusal::new(22, judge::ADDITIONS, place).into(),
+        false => answer,
+    }
+}
+
+/// 01's answer where the text gives 22, if it is of this number.
+fn before_22(call: &UpdateCall, r: &mut [u8], n: &mut [u8], number: u32) -> Changed {
+    let answer = judge::update(call, r, n);
+    let (mut other_r, mut other_n) = (r.to_vec(), n.to_vec());
+    let before = judge::update_before_22(call, &mut other_r, &mut other_n);
+    if answer.refusal != 22 || before.refusal != number {
+        return answer;
+    }
+    r.copy_from_slice(&other_r);
+    n.copy_from_slice(&other_n);
+    before
+}
+
+#[test]
+fn wrong_ways_to_refuse_a_dropped_parent_are_found() {
+    let wrong: [(&str, Updated); 9] = [
+        ("it is never refused", judge::update_before_22),
+        ("what would be nowhere is accepted", |call, r, n| before_22(call, r, n, 0)),
+        ("17 comes before 22", |call, r, n| before_22(call, r, n, 17)),
+        ("18 comes before 22", |call, r, n| before_22(call, r, n, 18)),
+        ("9 comes before 22", |call, r, n| before_22(call, r, n, 9)),
+        ("22 comes before 16", |call, r, n| match judge::update(call, r, n) {
+            answer if answer.refusal == 16 => refused_22_if(call, answer, |path, dropped, tree| {
+                path.iter().any(|slot| dropped.contains(slot) && is_member(tree, *slot))
+            }),
+            answer => answer,
+        }),
+        ("a dropped element, key or value above refuses", |call, r, n| {
+            let (mut other_r, mut other_n) = (r.to_vec(), n.to_vec());
+            let answer = judge::update(call, &mut other_r, &mut other_n);
+            let held = |path: &[usize], dropped: &[usize], tree: &Tree| {
+                path.iter().any(|slot| dropped.contains(slot) && !is_member(tree, *slot))
+            };
+            let answer = match answer.refusal {
+                0 => refused_22_if(call, answer, held),
+                _ => answer,
+            };
+            if answer.refusal == 0 {
+                r.copy_from_slice(&other_r);
+                n.copy_from_slice(&other_n);
+            }
+            answer
+        }),
+        ("only the receiving struct is asked", |call, r, n| {
+            let answer = judge::update(call, r, n);
+            if answer.refusal != 22 {
+                return answer;
+            }
+            let (path, dropped, _) = path_and_dropped(call, answer.place as usize);
+            if dropped.contains(&path[0]) { answer } else { judge::update_before_22(call, r, n) }
+        }),
+        ("the place is the deletion's", |call, r, n| {
+            let answer = judge::update(call, r, n);
+            let list = if answer.refusal == 22 { judge::DELETIONS } else { answer.list };
+            Changed { list, ..answer }
+        }),
+    ];
+    for (what, updated) in wrong {
+        assert!(failures(Altered { updated, ..right() }) > 0, "{what}");
+    }
+}
+
+/// Is a record a root or a struct's member?
+fn is_member(tree: &Tree, slot: usize) -> bool {
+    tree.rows[slot].parent.is_none_or(|above| tree.rows[above].kind == judge::STRUCT)
 }
 
 /// Which columns match by full and by short names, in a base that was accepted.

@@ -1,6 +1,6 @@
 //! The two judges beside each other, on their common ground.
 
-use cases::{Generator, Named, OPERATIONS, Sizes, answer, named};
+use cases::{Answer, Generator, Named, OPERATIONS, Sizes, answer, named};
 use compare::{Agreement, LISTED, Run, absent, agreement, check, iceberg};
 use oracle::Verdict;
 
@@ -68,7 +68,7 @@ fn the_last_id_is_the_crates_own() {
     let mut shown = 0;
     for n in (0..18_000).step_by(OPERATIONS.len()) {
         let case = generator.case(n);
-        let Verdict::Answer(cases::Answer::Updated { last_id, .. }) = iceberg.verdict(&case) else {
+        let Verdict::Answer(Answer::Updated { last_id, .. }) = iceberg.verdict(&case) else {
             continue;
         };
         // the added column may pass the largest id, or meet an id of the base
@@ -85,7 +85,7 @@ fn a_word_that_differs_is_told() {
     let Some(iceberg) = iceberg() else { return };
     for Named { title, case, .. } in named().into_iter().filter(|one| one.title.starts_with('P')) {
         let said = iceberg.verdict(&case);
-        let wrong = cases::Answer::Found { id: 77, slot: 7 };
+        let wrong = Answer::Found { id: 77, slot: 7 };
         let agreed = agreement(&case, &wrong, &said);
         // where the crate panics there is no word to differ from
         let says = !matches!(said, Verdict::Panicked { .. });
@@ -93,6 +93,37 @@ fn a_word_that_differs_is_told() {
         let right = agreement(&case, &answer(&case), &said);
         assert!(right != Agreement::Differ, "{title}");
     }
+}
+
+/// Where the text gives 22 the crate is held to 01 as it was, so no other word passes.
+#[test]
+fn a_word_that_differs_is_told_where_22_is_given_too() {
+    let Some(iceberg) = iceberg() else { return };
+    let (mut departures, mut others) = (0, 0);
+    for Named { title, case, .. } in named() {
+        let paper = answer(&case);
+        if paper.refusal().is_none_or(|refusal| refusal.number != 22) {
+            continue;
+        }
+        let said = iceberg.verdict(&case);
+        let departs = agreement(&case, &paper, &said);
+        assert_eq!(departs.words(), Some("no additions to a dropped parent"), "{title}");
+        let wrong = match said {
+            Verdict::Answer(Answer::Updated { records, names, last_id }) => {
+                Verdict::Answer(Answer::Updated { records, names, last_id: last_id ^ 1 })
+            }
+            Verdict::Refused { number: 17, place, base, text } => {
+                Verdict::Refused { number: 15, place, base, text }
+            }
+            _ => continue,
+        };
+        assert_eq!(agreement(&case, &paper, &wrong), Agreement::Differ, "{title}");
+        match wrong {
+            Verdict::Answer(_) => departures += 1,
+            _ => others += 1,
+        }
+    }
+    assert!(departures > 20 && others > 1, "{departures} and {others}");
 }
 
 #[test]

@@ -33,7 +33,7 @@ pub use limits::{
 pub use lister::list;
 pub use lookup::{find_folded, find_id, find_ids, find_name, find_parent};
 pub use prune::{Unwrap, prune, prune_where_rust_panics};
-pub use read::read_tree;
+pub use read::{read_paths, read_tree};
 pub use renumber::renumber;
 pub use tree::{Node, Row, Tree};
 pub use update::{UpdateCall, update, update_before_22};

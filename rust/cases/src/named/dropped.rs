@@ -220,12 +220,9 @@ fn order(all: &mut Cases) {
     all.put("22 before 8 of the rebuilt tree", case, refused(22, 3, 2));
     let case = update(&t, 1, &["node"], &[(None, p(0, "a")), under("node", "a")]);
     all.put("22 before 7 of the rebuilt tree", case, refused(22, 3, 1));
-    let many: Vec<Node> = (0..1_024).map(|_| p(0, "a")).collect();
-    let case =
-        update(&t, 10, &["node"], &[(None, s(0, "w", many[1..].to_vec())), under("node", "a")]);
-    all.put("2 of the additions tree before 22", case, refused(2, 0, 0));
-    let case =
-        update(&t, 10, &["node"], &[(None, s(0, "w", many[2..].to_vec())), under("node", "a")]);
+    let path = vec!["s"; 16].join(".");
+    let added = [under(&path, "a"), under("z", "a")];
+    let case = update(&[chain(16), s(17, "z", vec![])], 17, &["z"], &added);
     all.put("22 before 19", case, refused(22, 3, 1));
 }
 
