@@ -73,7 +73,8 @@
     X(18, NO_IDS_LEFT, "an id would pass 2,147,483,647") \
     X(19, REBUILT_PAST_LIMIT, "the rebuilt tree passes a limit on trees (records, levels or name sum)") \
     X(20, LIST_OR_MAP_CHOSEN, "pruning meets a list or map chosen directly, not in full mode") \
-    X(21, AMBIGUOUS, "two columns match at the same level where case is forgotten")
+    X(21, AMBIGUOUS, "two columns match at the same level where case is forgotten") \
+    X(22, DROPPED_PARENT, "the receiving struct, or a record above it, is dropped as a member of a struct or of the root")
 
 /* Every list that a refusal may speak of: X(number, name, what it is). Later versions may have more of them. */
 #define BRAIDHURDLE_LISTS(X) \
@@ -132,8 +133,9 @@ uint32_t braidhurdle_abi_4(void);
 
 /* Drops and adds columns. Deletions and additions are path entries into request_pool; the k-th root of added_records belongs to
  * the k-th addition, its names too stand in request_pool, and ids in it are ignored. Ids are handed out from last_id + 1: the
- * largest id in the tree is not enough, since that column may have been dropped. The answer's last_id is what to give next time.
- * Refusals 1 to 19. */
+ * largest id in the tree is not enough, since that column may have been dropped. The answer's last_id is what to give next time;
+ * every id from last_id + 1 up to it is in the answer. Refusals 1 to 19, and 22 between 16 and 17 of the same addition: nothing is
+ * added to what the same request drops. An element, key or value that is dropped stays, and takes additions. From version 5 on. */
 struct braidhurdle_changed braidhurdle_update(
     const uint8_t *records, size_t records_len, const uint8_t *pool, size_t pool_len,
     const uint8_t *identifiers, size_t identifiers_len, int32_t last_id,

@@ -171,7 +171,8 @@ static void updates(void)
 {
     /* one pool for paths and new names, which may share bytes in it */
     const uint8_t *request_pool = (const uint8_t *)"node.costfloor";
-    const uint8_t drop[] = {PATH(0, 9)}, under_node[] = {PATH(0, 4)}, at_root_twice[] = {ROOT, ROOT};
+    const uint8_t drop[] = {PATH(0, 9)}, drop_node[] = {PATH(0, 4)};
+    const uint8_t under_node[] = {PATH(0, 4)}, at_root_twice[] = {ROOT, ROOT};
     const uint8_t cost[] = {RECORD(0, 5, 4, PRIMITIVE, OPTIONAL, 0)};
     const uint8_t floor_twice[] = {RECORD(0, 9, 5, PRIMITIVE, OPTIONAL, 0), RECORD(0, 9, 5, PRIMITIVE, OPTIONAL, 0)};
     uint8_t expected[sizeof t];
@@ -188,6 +189,10 @@ static void updates(void)
     a = braidhurdle_update(T, NOTHING, 10, NOTHING, at_root_twice, sizeof at_root_twice, floor_twice, sizeof floor_twice,
                            request_pool, 14, ROOM);
     held("update: floor twice is refused with 8 at list 4, place 11, and nothing is written (P7)", refused(a, 8, 4, 11));
+    a = braidhurdle_update(T, NOTHING, 10, drop_node, sizeof drop_node, under_node, sizeof under_node, cost, sizeof cost,
+                           request_pool, 14, ROOM);
+    held("update: cost under node, which is dropped, is refused with 22 at list 3, place 0",
+         refused(a, BRAIDHURDLE_DROPPED_PARENT, BRAIDHURDLE_LIST_ADDITIONS, 0));
 }
 
 static void prunings(void)

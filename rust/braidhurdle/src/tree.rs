@@ -72,7 +72,7 @@ impl Tree {
     ///
     /// # Errors
     ///
-    /// Refusals 2 to 19.
+    /// Refusals 2 to 19 and 22.
     pub fn update(&self, request: &Request) -> Result<Updated, Refusal> {
         let mut room = Room::boxed();
         let Updated { tree, last_id } = self.lent().update_in(request.lent(), &mut room)?;
@@ -214,7 +214,7 @@ impl<'a> TreeRef<'a> {
     ///
     /// # Errors
     ///
-    /// Refusals 2 to 19.
+    /// Refusals 2 to 19 and 22.
     pub fn update_in<'r>(
         self,
         request: RequestRef<'_>,

@@ -183,6 +183,21 @@ fn refusal_21_is_met_by_two_columns_that_differ_in_case_alone() {
 }
 
 #[test]
+fn refusal_22_is_met_by_an_addition_to_a_dropped_parent() -> Result<(), braidhurdle::Overlong> {
+    let beneath = |dropped: &str, parent: &str| {
+        let request = request().drop(dropped)?.add(floor())?.add_under(parent, floor())?;
+        Ok(t().update(&request).map(|updated| updated.last_id))
+    };
+    for (dropped, parent) in [("node", "node"), ("visits", "visits"), ("parts", "parts.value")] {
+        assert_eq!(beneath(dropped, parent)?, Err(refused(22, 3, 1)), "{dropped}");
+    }
+    for (stays, parent) in [("visits.element", "visits"), ("parts.value", "parts")] {
+        assert_eq!(beneath(stays, parent)?, Ok(FieldId(12)), "{stays}");
+    }
+    Ok(())
+}
+
+#[test]
 fn ids_are_counted_up_to_their_limit_and_not_a_byte_is_lost() {
     let ids = |count: usize| vec![FieldId(7); count];
     let pruned =

@@ -53,11 +53,9 @@ fn p4_a_dropped_name_is_added_again_under_a_new_id() -> Result<(), Box<dyn std::
 }
 
 #[test]
-fn p5_an_addition_that_vanishes_consumes_its_id() -> Result<(), Box<dyn std::error::Error>> {
+fn p5_an_addition_to_what_is_dropped_is_refused() -> Result<(), Box<dyn std::error::Error>> {
     let request = request().drop("visits")?.add_under("visits", new("fault"))?.add(new("floor"))?;
-    let Updated { tree, last_id } = t().update(&request)?;
-    assert_eq!(ids(&tree), [1, 4, 5, 3, 8, 9, 10, 12]);
-    assert_eq!(last_id, FieldId(12));
+    assert_eq!(t().update(&request), Err(refused(22, 3, 0)));
     Ok(())
 }
 
