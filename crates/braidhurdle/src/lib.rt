@@ -159,10 +159,10 @@ fn lay_searched(searched: Searched) -> SearchedNumbers
 // The version of these functions, in its name too: whoever is compiled against other declarations asks for another name, and finds
 // none here. A change of any declaration raises both.
 #[no_mangle]
-pub extern "C" fn braidhurdle_abi_4() -> u32
-    ensures { λ r. ⌜ r ≡ 4 ⌝ }
+pub extern "C" fn braidhurdle_abi_5() -> u32
+    ensures { λ r. ⌜ r ≡ 5 ⌝ }
 {
-    4
+    5
 }
 
 // Drops and adds columns; ids are handed out from `last_id` + 1.
