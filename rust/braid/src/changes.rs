@@ -42,6 +42,11 @@ impl<'a> Changes<'a> {
         Some(Changes { columns, drops, adds })
     }
 
+    /// The slot of the struct that receives an addition; none is the root.
+    pub fn receiver(&self, addition: usize) -> Option<usize> {
+        self.adds[addition].0
+    }
+
     /// The outermost dropped member that takes a column with it, which may be the column itself.
     pub fn taken_by(&self, slot: usize) -> Option<usize> {
         let column = &self.columns[slot];
@@ -81,8 +86,7 @@ impl<'a> Changes<'a> {
         (above.map_or(0, |above| above + 1)..self.columns.len()).filter(of)
     }
 
-    /// A line for each column that was dropped, stays although a deletion finds it, was added or
-    /// vanished.
+    /// A line for each column that was dropped, stays although a deletion finds it, or was added.
     pub fn lines(&self) -> String {
         let mut lines = String::new();
         for (nth, slot) in self.drops.iter().enumerate() {
@@ -91,8 +95,7 @@ impl<'a> Changes<'a> {
             }
         }
         for (under, field) in &self.adds {
-            let name = under.map(|slot| self.columns[slot].full_name());
-            self.add_lines(under.and_then(|slot| self.taken_by(slot)), name, field, &mut lines);
+            add_lines(under.map(|slot| self.columns[slot].full_name()), field, &mut lines);
         }
         lines
     }
@@ -116,29 +119,6 @@ impl<'a> Changes<'a> {
         }
     }
 
-    fn add_lines(
-        &self,
-        gone: Option<usize>,
-        above: Option<Vec<u8>>,
-        field: &Field,
-        lines: &mut String,
-    ) {
-        let name = match above {
-            Some(above) => [&above, &b"."[..], &field.name].concat(),
-            None => field.name.clone(),
-        };
-        let told = format!("{} {}", field.id, shown(&name));
-        *lines += &match gone {
-            Some(gone) => {
-                format!("vanished {told}, with {}; its id stays consumed\n", self.told(gone))
-            }
-            None => format!("added {told}\n"),
-        };
-        for child in &field.inside {
-            self.add_lines(gone, Some(name.clone()), child, lines);
-        }
-    }
-
     /// How many columns stand inside another.
     fn inside(&self, slot: usize) -> usize {
         let level = self.columns[slot].level;
@@ -149,6 +129,18 @@ impl<'a> Changes<'a> {
     fn told(&self, slot: usize) -> String {
         let column = &self.columns[slot];
         format!("{} {}", column.id, shown(&column.full_name()))
+    }
+}
+
+/// A line for an added column, and for each inside it.
+fn add_lines(above: Option<Vec<u8>>, field: &Field, lines: &mut String) {
+    let name = match above {
+        Some(above) => [&above, &b"."[..], &field.name].concat(),
+        None => field.name.clone(),
+    };
+    *lines += &format!("added {} {}\n", field.id, shown(&name));
+    for child in &field.inside {
+        add_lines(Some(name.clone()), child, lines);
     }
 }
 

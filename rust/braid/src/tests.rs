@@ -3,7 +3,7 @@
 use std::path::Path;
 
 use braidhurdle::layout::{ENTRY_BYTES, ID_BYTES, RECORD_BYTES};
-use braidhurdle::{Field, FieldId, Refusal, Request, Tree};
+use braidhurdle::{Field, FieldId, Refusal, RefusalKind, Request, Tree};
 use cases::{Ask, Case, Generator, OPERATIONS, Sizes};
 use judge::UpdateCall;
 
@@ -73,10 +73,16 @@ fn well_told(line: &str, refusal: Refusal, case: u64) {
     );
 }
 
+/// Does a line of an addition say which deletion takes its receiving struct away?
+fn goes(line: &str) -> bool {
+    let addition = line.contains(": addition ");
+    addition && line.contains(", which deletion ") && line.ends_with(" drops")
+}
+
 #[test]
 fn a_tree_that_is_rebuilt_for_words_is_the_librarys_own() {
     let generator = Generator { seed: 141, sizes: Sizes::Usual };
-    let (mut same, mut told) = (0, [0; 21]);
+    let (mut same, mut told) = (0, [0; RefusalKind::ALL.len() + 1]);
     for n in 0..20_000 {
         let case = generator.case(n);
         let Some((call, (dropped, added))) =
@@ -111,14 +117,16 @@ fn a_tree_that_is_rebuilt_for_words_is_the_librarys_own() {
                 let ask = Asked::Update { asked, request: &request };
                 let given =
                     Given { identifiers: &ids, ask, ..Given::new(Path::new("base"), &tree) };
-                well_told(&first_line(given.refused(refusal)), refusal, n);
+                let line = first_line(given.refused(refusal));
+                well_told(&line, refusal, n);
+                assert_eq!(refusal.number == 22, goes(&line), "case {n}: {line}");
                 told[refusal.number as usize] += 1;
             }
             Err(_) => {}
         }
     }
     assert!(same > 200, "{same} trees");
-    for number in [2, 3, 4, 5, 6, 7, 8, 9, 11, 12, 13, 14, 15, 16, 17, 18, 19] {
+    for number in (2..=9).chain(11..=19).chain([22]) {
         assert!(told[number] > 0, "refusal {number} was not met: {told:?}");
     }
 }
@@ -126,7 +134,7 @@ fn a_tree_that_is_rebuilt_for_words_is_the_librarys_own() {
 #[test]
 fn a_damaged_tree_is_told_whatever_its_bytes() {
     let generator = Generator { seed: 142, sizes: Sizes::Usual };
-    let mut told = [0; 21];
+    let mut told = [0; RefusalKind::ALL.len() + 1];
     for n in 0..20_000 {
         let Case { records, pool, .. } = generator.case(n);
         let tree = Tree::new(records, pool);

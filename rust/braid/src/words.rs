@@ -149,7 +149,7 @@ impl<'a> Given<'a> {
     fn identifier(&self, place: usize) -> String {
         let id = self.identifiers[place];
         match self.tree.find_id(id) {
-            Ok(Some(slot)) => match self.deletion_of(slot.0 as usize) {
+            Ok(Some(slot)) => match self.identifier_goes(slot.0 as usize) {
                 Some(words) => format!("identifier {place}, {words}"),
                 None => format!("identifier {place}, id {id}"),
             },
@@ -157,15 +157,30 @@ impl<'a> Given<'a> {
         }
     }
 
-    /// A column, and the deletion that takes it away.
-    fn deletion_of(&self, slot: usize) -> Option<String> {
+    /// An identifier's column, and the deletion that takes it away.
+    fn identifier_goes(&self, slot: usize) -> Option<String> {
         let Asked::Update { asked, .. } = self.ask else { return None };
+        self.goes(&Changes::of(self.tree, asked)?, slot)
+    }
+
+    /// The struct that would receive an addition, and the deletion that takes it away. Additions
+    /// behind this one are not asked: their paths may lead nowhere.
+    fn receiver_goes(&self, place: usize, asked: &changes::Asked) -> Option<String> {
+        let asked = changes::Asked { added: &asked.added[..=place], ..*asked };
         let changes = Changes::of(self.tree, asked)?;
+        self.goes(&changes, changes.receiver(place)?)
+    }
+
+    /// A column that goes, and the deletion that takes it away.
+    fn goes(&self, changes: &Changes, slot: usize) -> Option<String> {
         let outer = changes.taken_by(slot)?;
         let drop = changes.drops.iter().position(|drop| *drop == outer)?;
         let outline = Outline::of(self.tree);
-        let (column, outer) = (outline.told(slot), outline.told(outer));
-        Some(format!("{column}: it goes with {outer}, which deletion {drop} drops"))
+        let with = match outer == slot {
+            true => String::new(),
+            false => format!(": it goes with {}", outline.told(outer)),
+        };
+        Some(format!("{}{with}, which deletion {drop} drops", outline.told(slot)))
     }
 
     fn deletion(&self, place: usize, dropped: &[Vec<u8>]) -> String {
@@ -193,6 +208,10 @@ impl<'a> Given<'a> {
             (16, Some(parent)) => format!(": {}, a {}", told_of(&parent), self.kinds(&parent)),
             (17, parent) => match self.taken(parent, &what.name) {
                 Some(column) => format!(": so is named {}", told_of(&column)),
+                None => String::new(),
+            },
+            (22, _) => match self.receiver_goes(place, asked) {
+                Some(words) => format!(": {words}"),
                 None => String::new(),
             },
             (18, _) => {

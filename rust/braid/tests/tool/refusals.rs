@@ -266,7 +266,7 @@ fn an_identifier_that_goes_is_told_with_the_deletion_that_takes_it() {
     let folder = Folder::with_t();
     refused(
         &folder,
-        "update T --identifiers 7,10 --drop node --drop parts --add x:2 --under parts --out U",
+        "update T --identifiers 7,10 --drop node --drop parts --add x:2 --under visits --out U",
         "9 at 5 1: an identifier id is not in the tree: identifier 1, id 10 slot 9 \
          parts.value.price: it goes with id 3 slot 6 parts, which deletion 1 drops",
     );
@@ -342,6 +342,52 @@ fn an_addition_is_told_with_its_name_its_parent_and_what_is_in_the_way() {
         "18 at 3 1: an id would pass 2,147,483,647: addition 1, \"a\" at the root: new ids up to \
          it: 2; the last id: 2147483646",
     );
+}
+
+#[test]
+fn an_addition_to_what_is_dropped_is_told_with_the_deletion_that_takes_it() {
+    let folder = Folder::with_t();
+    let says = |asked: &str, place: u32, words: &str| {
+        let means = "the receiving struct, or a record above it, is dropped as a member of a struct \
+                     or of the root";
+        refused(
+            &folder,
+            &format!("update T {asked} --out U"),
+            &format!("22 at 3 {place}: {means}: addition {place}, {words}"),
+        );
+    };
+    let node = "\"x\" under \"node\": id 1 slot 0 node, which deletion 1 drops";
+    says("--drop visits.day --drop node --add x:0 --under node", 0, node);
+    says("--drop-id 7,1 --add y:0 --add x:0 --under-id 1", 1, node);
+    // the additions behind it are not asked, and the deletion is the first of its column
+    says(
+        "--drop visits.day --drop node --drop node --add x:0 --under node --add z:0 --under no",
+        0,
+        node,
+    );
+    says(
+        "--drop visits.element --drop visits.day --drop visits --add fault:2 --under visits",
+        0,
+        "\"fault\" under \"visits\": id 6 slot 4 visits.element: it goes with id 2 slot 3 visits, \
+         which deletion 2 drops",
+    );
+    says(
+        "--drop parts --add fault:2 --under parts.value",
+        0,
+        "\"fault\" under \"parts.value\": id 9 slot 8 parts.value: it goes with id 3 slot 6 parts, \
+         which deletion 0 drops",
+    );
+    let (records, names) = packed(&[chain(16)]);
+    folder.put("deep", &records, &names);
+    let path = |levels: usize| vec!["s"; levels].join(".");
+    let arguments = format!(
+        "update deep --last-id 16 --drop {} --add x:0 --under {} --out U",
+        path(2),
+        path(16)
+    );
+    let said = folder.braid(&arguments).refusal();
+    let end = format!("{}: it goes with id 15 slot 1 s.s, which deletion 0 drops", path(16));
+    assert!(said[0].ends_with(&end), "{said:?}");
 }
 
 #[test]
