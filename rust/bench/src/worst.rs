@@ -1,11 +1,11 @@
-//! Trees that are built to be bad for the index. A search by id goes by the id's bits, so ids that
+//! Trees that are built to be bad for the index, or for a walk up from a record. A search by id goes by the id's bits, so ids that
 //! share many go deep. Chains of names are chosen by a hash, so names of one hash make long chains;
 //! names like these must be sought on purpose.
 
 use std::collections::HashMap;
 
-use cases::{Ask, ask_of, ids_by, packed, prim, strukt, update_of};
-use judge::{LEVELS, MOST_RECORDS, Node};
+use cases::{Addition, Ask, ask_of, ids_by, packed, prim, request, strukt, update_by, update_of};
+use judge::{LEVELS, MOST_RECORDS, Node, PRIMITIVE, Tree};
 
 use crate::ids::{at_chain_ends, in_chains, of_one_bucket, of_top_bits, reversed};
 use crate::rows::{Row, row};
@@ -102,6 +102,35 @@ pub fn worst_ids() -> [[Row; 2]; 4] {
             "the same, 1,024 times the last of a chain",
             &at_chain_ends(MOST_RECORDS),
         ),
+    ]
+}
+
+/// The worst case that is known for what is above an addition: 64 of them, each to a struct at
+/// level 15, and 64 deletions, none of which takes such a struct away. Beside it the same deletions
+/// with additions at the root, and the same where the last addition is refused.
+pub fn worst_parents() -> Vec<Row> {
+    let base = schema("levels", MOST_RECORDS);
+    let tree = Tree::of(&base);
+    let leaf = |slot: &usize| tree.rows[*slot].kind == PRIMITIVE && tree.rows[*slot].level > 1;
+    let leaves: Vec<usize> = (0..MOST_RECORDS).filter(leaf).collect();
+    let above = |slot: &usize| tree.full_name(tree.rows[*slot].parent.expect("it is nested"));
+    let updated = |dropped: Vec<Vec<u8>>, under: &dyn Fn(&usize) -> Option<Vec<u8>>| {
+        let fresh = |(n, slot)| Addition { path: under(slot), column: prim(0, &format!("n{n}")) };
+        let added: Vec<Addition> = leaves.iter().enumerate().map(fresh).collect();
+        update_by(packed(&base), &[], MOST_RECORDS as i32, request(&dropped, &added))
+    };
+    let dropped: Vec<Vec<u8>> = leaves.iter().map(|slot| tree.full_name(*slot)).collect();
+    let mut last = dropped.clone();
+    last[0] = tree.full_name(*tree.roots.last().expect("there are chains"));
+    let refused = updated(last, &|slot| Some(above(slot)));
+    vec![
+        row("64 deletions, 64 additions at the root", updated(dropped.clone(), &|_| None)),
+        row("64 deletions, 64 additions to level 15", updated(dropped, &|slot| Some(above(slot)))),
+        Row {
+            refusal: 22,
+            crate_too: false,
+            ..row("the same, the last one refused (22)", refused)
+        },
     ]
 }
 

@@ -4,6 +4,7 @@ use std::collections::HashMap;
 
 use bench::{
     FAMILIES, Room, SCHEMAS, SIZES, rows, schema, searches, worst_folded, worst_ids, worst_names,
+    worst_parents,
 };
 use cases::{Answer, Ask, ByJudge, Case, answer};
 use judge::{ID_BYTES, LEVELS, RECORD_BYTES, Tree};
@@ -23,7 +24,7 @@ fn every_schema_has_exactly_its_records() {
 fn every_row_goes_as_far_as_it_says() {
     let table = SCHEMAS.iter().flat_map(|(name, _)| SIZES.map(|size| rows(name, size)));
     let pairs = worst_ids().into_iter().flatten().chain(worst_folded().into_iter().flatten());
-    let worst = worst_names().into_iter().chain(pairs);
+    let worst = worst_names().into_iter().chain(pairs).chain(worst_parents());
     for row in table.flatten().chain(worst) {
         let records = row.case.records.len() / RECORD_BYTES;
         let refusal = answer(&row.case).refusal().map_or(0, |r| r.number);
@@ -31,6 +32,27 @@ fn every_row_goes_as_far_as_it_says() {
         let called = Room::default().call(&row.case, &ByJudge);
         assert_eq!(called, Some(row.refusal), "{records} {}", row.what);
     }
+}
+
+/// 64 additions, each with fourteen records above its struct or more.
+#[test]
+fn additions_far_down_have_many_records_above_them() {
+    let [_, deep, refused] = worst_parents().try_into().unwrap_or_else(|_| panic!("three rows"));
+    let tree = judge::read_tree(&deep.case.records, &deep.case.pool, judge::BASE).expect("read");
+    let Answer::Updated { records, .. } = answer(&deep.case) else { panic!("it is accepted") };
+    assert_eq!(records.len(), deep.case.records.len());
+    let call = deep.case.update_call().expect("an update");
+    let paths = judge::read_paths(call.additions, call.request_pool, judge::ADDITIONS);
+    let names = judge::Names::of(&tree);
+    let level = |path: &Option<Vec<u8>>| tree.rows[names.find(path.as_ref()?)?].level.into();
+    let levels: Vec<Option<usize>> = paths.expect("read").iter().map(level).collect();
+    assert_eq!(levels.len(), 64);
+    assert!(
+        levels.iter().all(|level| level.is_some_and(|level| level >= LEVELS - 2)),
+        "{levels:?}"
+    );
+    let place = answer(&refused.case).refusal().map(|refusal| refusal.place);
+    assert_eq!(place, Some(63));
 }
 
 /// The bytes of the own names that a walk over full or short names compares: where the names above

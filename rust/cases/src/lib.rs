@@ -19,7 +19,7 @@ mod trees;
 
 pub use build::{
     Addition, additions, ask_of, ids_by, list_of, map_of, packed, prim, prune_by, renumber_by,
-    request, strukt, the_tree, update_of,
+    request, strukt, the_tree, update_by, update_of,
 };
 pub use case::{Answer, Ask, ByJudge, Case, Numbers, Operations, Outcome, answer, outcome, shown};
 pub use damage::lists;
