@@ -38,12 +38,12 @@ use Rattle.theorems.specs.Numbered.{OneNumberEach}
 use Rattle.theorems.specs.Sites.{IdsAreNoSlots}
 use Rattle.theorems.specs.Folds.{Alone, Second, ByRows, Plain, CaseForgotten, FoldingMet}
 use Rattle.theorems.specs.Many.{Lendable, OneByOne, InSlots}
-use Rattle.theorems.specs.Wrong.{P4, P5, RightUpdate, P8, P9, RightPruner}
+use Rattle.theorems.specs.Wrong.{P4, two-added, RightUpdate, P8, P9, RightPruner}
 use Rattle.theorems.proofs.Signed.{signed-natural, signed-negative}
 use Rattle.theorems.proofs.Evolution.{evolved-stays, lasting, one-column}
 use Rattle.theorems.proofs.Storing.{lasting-stored}
 use Rattle.theorems.proofs.Beginning.{T-schema, T-stored, T-requests, T-begins, T-begins-stored}
-use Rattle.theorems.proofs.Beginning.{T-lends-bytes, accepted-twice}
+use Rattle.theorems.proofs.Beginning.{T-lends-bytes, accepted-in-a-row}
 use Rattle.theorems.proofs.Ends as Ends
 use Rattle.theorems.proofs.Again.{decoded-again, update-again, prune-again, renumber-again}
 use Rattle.theorems.proofs.Again.{prune-parts, renumber-numbers}
@@ -114,13 +114,15 @@ ids-keep-columns-stored stored begins requests bytes =
 pub runs-begin : Begins T-schema × BeginsStored T-stored × LendsBytes T-requests
 runs-begin = (T-begins, T-begins-stored, T-lends-bytes)
 
--- and two of them in a row are accepted. The first consumes 11
--- for a column that vanishes; the second is given 13.
+-- and three of them in a row are accepted. The first adds 11 and 12;
+-- the second drops 12, `floor`, and adds 13; `floor`, added again, is 14.
 pub runs-go-on : (update-reply (update-entry T-stored (T-requests 0))
-    ≡ (1 ∷ 4 ∷ 5 ∷ 3 ∷ 8 ∷ 9 ∷ 10 ∷ 12 ∷ []) with-last 12)
+    ≡ (1 ∷ 4 ∷ 5 ∷ 11 ∷ 3 ∷ 8 ∷ 9 ∷ 10 ∷ 12 ∷ []) with-last 12)
     × (update-reply (update-entry (run-stored T-stored T-requests 1) (T-requests 1))
-    ≡ (1 ∷ 4 ∷ 5 ∷ 3 ∷ 8 ∷ 9 ∷ 10 ∷ 12 ∷ 13 ∷ []) with-last 13)
-runs-go-on = accepted-twice
+    ≡ (1 ∷ 4 ∷ 5 ∷ 11 ∷ 3 ∷ 8 ∷ 9 ∷ 10 ∷ 13 ∷ []) with-last 13)
+    × (update-reply (update-entry (run-stored T-stored T-requests 2) (T-requests 2))
+    ≡ (1 ∷ 4 ∷ 5 ∷ 11 ∷ 3 ∷ 8 ∷ 9 ∷ 10 ∷ 13 ∷ 14 ∷ []) with-last 14)
+runs-go-on = accepted-in-a-row
 
 -- A renumbering ends a run: no run lasts in which T is followed by T renumbered from 4, whatever was asked.
 pub renumbering-ends : (at : ℕ → Schema) (requests : ℕ → Request) (result : Result)
@@ -274,10 +276,10 @@ slots-are-in-order = in-slots
 
 -- ---- wrong programs
 
--- An update that answers P4 and P5 as the definition does is not one that turns all down, no no-op, not
+-- An update that answers P4 and two additions as the definition does is not one that turns all down, no no-op, not
 -- one that applies the first entry alone, and makes up no record count, name bytes or last id.
-pub no-wrong-update : (update : AnUpdate) → P4 update ≡ P4 update-entry → P5 update ≡ P5 update-entry
-    → RightUpdate update
+pub no-wrong-update : (update : AnUpdate) → P4 update ≡ P4 update-entry
+    → two-added update ≡ two-added update-entry → RightUpdate update
 no-wrong-update = right-update
 
 -- A pruner that answers P8 and P9 as the definition does hands back no constant tree.
