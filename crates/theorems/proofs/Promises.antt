@@ -9,7 +9,7 @@ use lib.IntN.{pos, negsuc}
 use Rattle.paper.specs.Answer.{Answer, ok, refused}
 use Rattle.paper.specs.Forest.{Forest, size}
 use Rattle.paper.specs.Field.{Field}
-use Rattle.paper.specs.Update.{Request, Schema}
+use Rattle.paper.specs.Update.{Request, Schema, Plan, planned}
 use Rattle.paper.specs.Rebuild.{update}
 use Rattle.paper.specs.Rows.{Row, look-name}
 use Rattle.paper.specs.Folded.{look-folded}
@@ -31,6 +31,7 @@ use Rattle.paper.proofs.Pins.{Held, pins}
 use Rattle.laws.specs.Fit.{Bytes}
 use Rattle.theorems.specs.Run.{Column, Has, Begins, run, evolve, Lasting, LastingRun}
 use Rattle.theorems.specs.Stored.{schema-of, request-of, LendsBytes, run-stored, BeginsStored, LastingStored}
+use Rattle.theorems.specs.Standing.{AdditionsStand, ConsumedAreAdded, NothingVanishes, GoneIsLeftOut, OfStored}
 use Rattle.theorems.specs.Again.{ReadsAgain}
 use Rattle.theorems.specs.Changed.{Pruned, Renumbered}
 use Rattle.theorems.specs.One.{NoByteChanges, PromisedFound, Told, RefusalsTold}
@@ -41,7 +42,10 @@ use Rattle.theorems.specs.Many.{Lendable, OneByOne, InSlots}
 use Rattle.theorems.specs.Wrong.{P4, two-added, RightUpdate, P8, P9, RightPruner}
 use Rattle.theorems.proofs.Signed.{signed-natural, signed-negative}
 use Rattle.theorems.proofs.Evolution.{evolved-stays, lasting, one-column}
-use Rattle.theorems.proofs.Storing.{lasting-stored}
+use Rattle.theorems.proofs.Storing.{lasting-stored, of-stored}
+use Rattle.theorems.proofs.Standing.{additions-stand, consumed-added}
+use Rattle.theorems.proofs.Weighing as Weighing
+use Rattle.theorems.proofs.Weighing.{gone-left-out}
 use Rattle.theorems.proofs.Beginning.{T-schema, T-stored, T-requests, T-begins, T-begins-stored}
 use Rattle.theorems.proofs.Beginning.{T-lends-bytes, accepted-in-a-row}
 use Rattle.theorems.proofs.Ends as Ends
@@ -123,6 +127,55 @@ pub runs-go-on : (update-reply (update-entry T-stored (T-requests 0))
     × (update-reply (update-entry (run-stored T-stored T-requests 2) (T-requests 2))
     ≡ (1 ∷ 4 ∷ 5 ∷ 11 ∷ 3 ∷ 8 ∷ 9 ∷ 10 ∷ 13 ∷ 14 ∷ []) with-last 14)
 runs-go-on = accepted-in-a-row
+
+-- ---- one update
+
+-- Every addition stands: each record that an accepted update adds is in the answer, under the parent that was asked for;
+pub every-addition-stands : (schema : Schema) (request : Request) (plan : Plan) (updated : Schema)
+    → planned schema request ≡ ok plan → update schema request ≡ ok updated
+    → AdditionsStand schema request plan updated
+every-addition-stands = additions-stand
+
+-- and so over bytes.
+pub every-addition-stands-stored : (stored : Stored) (lent : Lent) (result : Result) → Bytes (stored .records)
+    → Bytes (lent .added-records) → update-entry stored lent ≡ ok result → OfStored AdditionsStand stored lent result
+every-addition-stands-stored stored lent result bytes added accepted =
+    of-stored stored lent result bytes added accepted _ every-addition-stands
+
+-- So the ids that it consumes are exactly those that it adds.
+pub consumed-are-added : (schema : Schema) (request : Request) (plan : Plan) (updated : Schema)
+    → planned schema request ≡ ok plan → update schema request ≡ ok updated
+    → ConsumedAreAdded schema request plan updated
+consumed-are-added = consumed-added
+
+pub consumed-are-added-stored : (stored : Stored) (lent : Lent) (result : Result) → Bytes (stored .records)
+    → Bytes (lent .added-records) → update-entry stored lent ≡ ok result → OfStored ConsumedAreAdded stored lent result
+consumed-are-added-stored stored lent result bytes added accepted =
+    of-stored stored lent result bytes added accepted _ consumed-are-added
+
+-- Nothing vanishes: the records of the answer and those that go are as many as those of the base and those added.
+pub nothing-vanishes : (schema : Schema) (request : Request) (plan : Plan) (updated : Schema)
+    → planned schema request ≡ ok plan → update schema request ≡ ok updated
+    → NothingVanishes schema request plan updated
+nothing-vanishes = Weighing.nothing-vanishes
+
+pub nothing-vanishes-stored : (stored : Stored) (lent : Lent) (result : Result) → Bytes (stored .records)
+    → Bytes (lent .added-records) → update-entry stored lent ≡ ok result → OfStored NothingVanishes stored lent result
+nothing-vanishes-stored stored lent result bytes added accepted =
+    of-stored stored lent result bytes added accepted _ nothing-vanishes
+
+-- What 22 asks for is what the rebuild leaves out: a column of the base goes exactly where the answer does not have it.
+pub gone-is-left-out : (schema : Schema) (request : Request) (plan : Plan) (updated : Schema)
+    → planned schema request ≡ ok plan → update schema request ≡ ok updated
+    → GoneIsLeftOut schema request plan updated
+gone-is-left-out = gone-left-out
+
+pub gone-is-left-out-stored : (stored : Stored) (lent : Lent) (result : Result) → Bytes (stored .records)
+    → Bytes (lent .added-records) → update-entry stored lent ≡ ok result → OfStored GoneIsLeftOut stored lent result
+gone-is-left-out-stored stored lent result bytes added accepted =
+    of-stored stored lent result bytes added accepted _ gone-is-left-out
+
+-- ---- runs end
 
 -- A renumbering ends a run: no run lasts in which T is followed by T renumbered from 4, whatever was asked.
 pub renumbering-ends : (at : ℕ → Schema) (requests : ℕ → Request) (result : Result)
