@@ -130,7 +130,8 @@ runs-go-on = accepted-in-a-row
 
 -- ---- one update
 
--- Every addition stands: each record that an accepted update adds is in the answer, under the parent that was asked for;
+-- Every addition stands: each record that an accepted update adds is in the answer, under the parent that it was
+-- added to;
 pub every-addition-stands : (schema : Schema) (request : Request) (plan : Plan) (updated : Schema)
     → planned schema request ≡ ok plan → update schema request ≡ ok updated
     → AdditionsStand schema request plan updated
@@ -164,7 +165,8 @@ pub nothing-vanishes-stored : (stored : Stored) (lent : Lent) (result : Result) 
 nothing-vanishes-stored stored lent result bytes added accepted =
     of-stored stored lent result bytes added accepted _ nothing-vanishes
 
--- What 22 asks for is what the rebuild leaves out: a column of the base goes exactly where the answer does not have it.
+-- What goes, and so refuses additions (22), is what the rebuild leaves out: a column of the base goes exactly where
+-- its id is missing in the answer.
 pub gone-is-left-out : (schema : Schema) (request : Request) (plan : Plan) (updated : Schema)
     → planned schema request ≡ ok plan → update schema request ≡ ok updated
     → GoneIsLeftOut schema request plan updated

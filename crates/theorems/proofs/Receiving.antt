@@ -1,5 +1,5 @@
--- What receives an accepted addition: the root list, or a struct of the base that does not go. 15 and 16 find the struct among the
--- rows of the base, and 22 says that it stays.
+-- What receives an accepted addition: the root list, or a struct of the base that does not go. 15 and 16 find the
+-- struct among the rows of the base, and 22 says that it stays.
 use Prim.Native.Nat.{ℕ, suc, _+_}
 use mathlib.Core.Path.{_≡_, refl, sym, ap, subst}
 use mathlib.Core.Logic.{_⊎_, inl, inr, ⊎-elim}
@@ -15,12 +15,12 @@ use Rattle.paper.specs.Field.{Field, id-of, kind-of, with-id, is-struct}
 use Rattle.paper.specs.Rows.{Row, Start, top, below, beside, rows, look-name}
 use Rattle.paper.specs.Sound.{ids}
 use Rattle.paper.specs.Gone.{dropped-member, gone, gone-columns}
-use Rattle.paper.specs.Update.{Request, Schema, Plan, Receiver, as-struct, beyond, receiver, Placed, placed, placed-all}
-use Rattle.paper.specs.Update.{planned}
+use Rattle.paper.specs.Update.{Request, Schema, Plan, Receiver, as-struct, beyond, receiver, Placed, placed}
+use Rattle.paper.specs.Update.{placed-all, planned}
 use Rattle.paper.specs.Rebuild.{Addition, arrivals, added}
 use Rattle.laws.specs.Members.{_∈_}
-use Rattle.laws.proofs.Basics.{refused≢ok, unbind, ok-is, fault-if-ok, none≢some, some-is, in-left, in-right, in-append}
-use Rattle.laws.proofs.Basics.{any-false, eqb-self}
+use Rattle.laws.proofs.Basics.{refused≢ok, unbind, ok-is, fault-if-ok, none≢some, some-is, in-left, in-right}
+use Rattle.laws.proofs.Basics.{in-append, any-false, eqb-self}
 use Rattle.laws.proofs.Own.{ids-preorder}
 use Rattle.laws.proofs.Rows.{name-found}
 use Rattle.laws.proofs.Runs.{map-append}
@@ -88,7 +88,8 @@ gone-ids ds b f m n = go (dropped-member b ds (f .id))
     gn : List Field
     gn = gone id-of kind-of ds b n
 
-    go : (d : Bool) → map id-of (cond d (f ∷ preorder m) gm ++ gn) ≡ cond d (f .id ∷ ids m) (map id-of gm) ++ map id-of gn
+    go : (d : Bool)
+        → map id-of (cond d (f ∷ preorder m) gm ++ gn) ≡ cond d (f .id ∷ ids m) (map id-of gm) ++ map id-of gn
     go true = rw (ids-preorder m) (map-append id-of (f ∷ preorder m) gn)
     go false = map-append id-of gm gn
 
@@ -122,7 +123,8 @@ module _ (t : Forest Field) (ds : List ℕ) where
   all-placed-stay : (last k : ℕ) (ps : List (Option (List ℕ))) (a : Forest Field) (r : Placed)
       → placed-all t ds last k ps a ≡ ok r → AllStay (arrivals with-id last (r .parents) a)
   unfolding placed-all arrivals
-  all-placed-stay last k [] a r e = subst (λ (r : Placed). AllStay (arrivals with-id last (r .parents) a)) (ok-is e) tt
+  all-placed-stay last k [] a r e =
+      subst (λ (r : Placed). AllStay (arrivals with-id last (r .parents) a)) (ok-is e) tt
   all-placed-stay last k (p ∷ ps) empty r e =
       subst (λ (r : Placed). AllStay (arrivals with-id last (r .parents) empty)) (ok-is e) tt
   all-placed-stay last k (p ∷ ps) (node f m n) r e =

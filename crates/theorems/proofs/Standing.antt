@@ -1,5 +1,5 @@
--- Every addition of an accepted update stands in the answer, and no other id is consumed. What receives an addition stays
--- (Receiving.antt), so the rebuild comes to its open members and puts the addition behind them.
+-- Every addition of an accepted update stands in the answer, and no other id is consumed. What receives an
+-- addition stays (Receiving.antt), so the rebuild comes to its open members and puts the addition behind them.
 use Prim.Native.Nat.{ℕ, suc, _+_}
 use mathlib.Core.Path.{_≡_, refl, sym, ap, subst, _∙_}
 use mathlib.Core.Logic.{inl, inr, ⊎-elim}
@@ -36,13 +36,16 @@ module _ (ds : List ℕ) (adds : List (Addition Field)) where
   abbrev again : Option ℕ → Bool → Forest Field → Forest Field
   again = rebuilt id-of kind-of ds adds
 
-  stands-open : (q : Option ℕ) (t : Forest Field) (c : Column) → Stands q (arriving adds q) c → Stands q (again q true t) c
+  stands-open : (q : Option ℕ) (t : Forest Field) (c : Column) → Stands q (arriving adds q) c
+      → Stands q (again q true t) c
   unfolding rebuilt
   stands-open q empty c h = h
   stands-open q (node f m n) c h = go (dropped-member true ds (f .id)) (stands-open q n c h)
     where
-      go : (d : Bool) → Stands q (again q true n) c
-          → Stands q (cond d (again q true n) (node f (again (some (f .id)) (is-struct (f .kind)) m) (again q true n))) c
+      m′ : Forest Field
+      m′ = again (some (f .id)) (is-struct (f .kind)) m
+
+      go : (d : Bool) → Stands q (again q true n) c → Stands q (cond d (again q true n) (node f m′ (again q true n))) c
       go true k = k
       go false k = inr (inr k)
 
@@ -82,8 +85,8 @@ module _ (ds : List ℕ) (adds : List (Addition Field)) where
   stays-stands t (some x) c h k = stands-under x none true t c (h .0) (h .1) k
 
 -- A column of the additions arrives under a parent that stays.
-arrives : (t : Forest Field) (ds : List ℕ) (adds : List (Addition Field)) (c : Column) → AllStay t ds adds → Adds adds c
-    → (p : Option ℕ) × Stays t ds p × Stands p (arriving adds p) c
+arrives : (t : Forest Field) (ds : List ℕ) (adds : List (Addition Field)) (c : Column) → AllStay t ds adds
+    → Adds adds c → (p : Option ℕ) × Stays t ds p × Stands p (arriving adds p) c
 unfolding arriving
 arrives t ds [] c s h = absurd h
 arrives t ds (a ∷ rest) c s (inl h) =
@@ -125,7 +128,8 @@ additions-stand s q p u e₁ e c h =
 -- ---- the ids consumed
 
 -- The column of an id that was given.
-given-column : (adds : List (Addition Field)) (x : ℕ) → x ∈ given adds → (c : Column) × Adds adds c × (c .field .id ≡ x)
+given-column : (adds : List (Addition Field)) (x : ℕ) → x ∈ given adds
+    → (c : Column) × Adds adds c × (c .field .id ≡ x)
 given-column [] x h = absurd h
 given-column (a ∷ rest) x h =
     ⊎-elim
@@ -147,15 +151,19 @@ consumed-added s q p u e₁ e =
     let stands : (x : ℕ) → x ∈ given (added s q p) → Found u x =
     λ x h.
     let c = given-column (added s q p) x h in
-    subst (λ (y : ℕ). Found u y) (c .2) (stands-id (u .tree) none (c .0) (additions-stand s q p u e₁ e (c .0) (c .1))) in
+    let has = additions-stand s q p u e₁ e (c .0) (c .1) in
+    subst (λ (y : ℕ). Found u y) (c .2) (stands-id (u .tree) none (c .0) has) in
     let from : (x : ℕ) → x ∈ given (added s q p) → Consumed s u x =
-    λ x h. let b = in-range x (suc (s .last)) (size (q .added)) (rw (o .ids-given) at h) in (omega arith, omega arith) in
+    λ x h.
+    let b = in-range x (suc (s .last)) (size (q .added)) (rw (o .ids-given) at h) in
+    (omega arith, omega arith) in
     record {
       of-added = λ x. (λ h. (stands x (to x h), to x h), λ h. from x (h .1));
       new = λ bounded x. (
         λ h. (stands x (to x h), λ k. let b = bounded x k in let low = h .0 in omega arith),
         λ h.
-            let f = update-follows s q u (record { distinct = accepted s q p u e₁ e .distinct; bounded = bounded }) e in
+            let d = accepted s q p u e₁ e .distinct in
+            let f = update-follows s q u (record { distinct = d; bounded = bounded }) e in
             let c = column-of none (u .tree) x (h .0) in
             let i = c .its-id in
             ⊎-elim

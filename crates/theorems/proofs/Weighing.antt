@@ -1,8 +1,9 @@
--- In an accepted update nothing vanishes, and what goes is what the answer leaves out. As ids stand once the rebuild comes once to
--- what receives an addition; so any weights of ids, summed over the answer and what goes, are those of the base and what is added.
+-- In an accepted update nothing vanishes, and what goes is what the answer leaves out. As ids stand once, the rebuild
+-- comes once to what receives an addition; so weights of ids, whatever they are, have one sum over the answer and what
+-- goes, and over the base and what is added.
 use Prim.Native.Nat.{ℕ, zero, suc, _+_}
 use mathlib.Core.Path.{_≡_, refl, sym, ap, subst, _∙_}
-use mathlib.Core.Logic.{inl, inr}
+use mathlib.Core.Logic.{_⊎_, inl, inr}
 use mathlib.Core.Bool.{Bool, true, false, _&&_, cond}
 use mathlib.Core.List.{List, [], _∷_, _++_, map}
 use mathlib.Core.Option.{Option, none, some}
@@ -31,103 +32,121 @@ use Rattle.theorems.proofs.Standing.{accepted}
 
 -- ---- the rebuild comes once to what receives an addition
 
-module _ (ds : List ℕ) (p : Option ℕ) (load : ℕ) where
-  -- What an addition under p brings, if it weighs `load`: that much at each end of p's open members.
-  abbrev brought : Option ℕ → Bool → Forest Field → ℕ
-  brought q b empty = cond (b && same-parent p q) load 0
-  brought q b (node f m n) =
-      cond (dropped-member b ds (f .id)) (brought q b n) (brought (some (f .id)) (is-struct (f .kind)) m + brought q b n)
-
-  not-here : (b : Bool) (q : Option ℕ) → same-parent p q ≡ false → cond (b && same-parent p q) load 0 ≡ 0
-  not-here true q e = rw e
-  not-here false q e = refl
-
 same-not : (p : Option ℕ) (y : ℕ) → (p ≡ some y → ⊥) → same-parent p (some y) ≡ false
 same-not none y d = refl
 same-not (some x) y d = ne-eqb x y (λ e. d (ap some e))
 
--- Where p is no record of the tree.
-brought-absent : (ds : List ℕ) (p : Option ℕ) (load : ℕ) (q : Option ℕ) (b : Bool) (t : Forest Field)
-    → ((x : ℕ) → x ∈ ids t → p ≡ some x → ⊥) → brought ds p load q b t ≡ cond (b && same-parent p q) load 0
-unfolding ids
-brought-absent ds p load q b empty out = refl
-brought-absent ds p load q b (node f m n) out =
-    go (dropped-member b ds (f .id))
-    (brought-absent ds p load (some (f .id)) (is-struct (f .kind)) m (λ x h. out x (inr (in-left x (ids m) (ids n) h))))
-    (brought-absent ds p load q b n (λ x h. out x (inr (in-right x (ids m) (ids n) h))))
-  where
-    here : ℕ
-    here = cond (b && same-parent p q) load 0
+module _ (ds : List ℕ) (p : Option ℕ) (load : ℕ) where
+  -- What an addition under p brings, if it weighs `load`: that much at each end of p's open members.
+  abbrev here : Option ℕ → Bool → ℕ
+  here q b = cond (b && same-parent p q) load 0
 
-    go : (d : Bool)
-        → brought ds p load (some (f .id)) (is-struct (f .kind)) m ≡ cond (is-struct (f .kind) && same-parent p (some (f .id))) load 0
-        → brought ds p load q b n ≡ here
-        → cond d (brought ds p load q b n) (brought ds p load (some (f .id)) (is-struct (f .kind)) m + brought ds p load q b n) ≡ here
-    go true hm hn = hn
-    go false hm hn =
-        let z = not-here ds p load (is-struct (f .kind)) (some (f .id)) (same-not p (f .id) (out (f .id) (inl refl))) in
-        omega arith
+  abbrev brought : Option ℕ → Bool → Forest Field → ℕ
+  brought q b empty = here q b
+  brought q b (node f m n) =
+      cond (dropped-member b ds (f .id)) (brought q b n)
+      (brought (some (f .id)) (is-struct (f .kind)) m + brought q b n)
 
--- Where it is a struct that does not go.
-brought-once : (ds : List ℕ) (x load : ℕ) (q : Option ℕ) (b : Bool) (t : Forest Field) → StructIn x t
-    → (x ∈ map id-of (gone id-of kind-of ds b t) → ⊥) → Distinct (ids t) → same-parent (some x) q ≡ false
-    → brought ds (some x) load q b t ≡ load
-unfolding ids
-brought-once ds x load q b empty h out u e = absurd h
-brought-once ds x load q b (node f m n) h out u e =
-    go (dropped-member b ds (f .id)) h (rw (gone-ids ds b f m n) at out)
-    (λ i o. brought-once ds x load (some (f .id)) (is-struct (f .kind)) m i o (split .0)
-    (same-not (some x) (f .id) (λ w. u .0 (in-left (f .id) (ids m) (ids n) (rw (some-is w) at (struct-id x m i))))))
-    (λ i o. brought-once ds x load q b n i o (split .1) e)
-  where
-    split : Distinct (ids m) × Distinct (ids n) × Apart (ids m) (ids n)
-    split = distinct-append (ids m) (ids n) (u .1)
+  not-here : (q : Option ℕ) (b : Bool) → same-parent p q ≡ false → here q b ≡ 0
+  not-here q true e = rw e
+  not-here q false e = refl
 
-    gm : List ℕ
-    gm = map id-of (gone id-of kind-of ds (is-struct (f .kind)) m)
+  -- Where p is no record of the tree.
+  brought-absent : (q : Option ℕ) (b : Bool) (t : Forest Field) → ((x : ℕ) → p ≡ some x → x ∈ ids t → ⊥)
+      → brought q b t ≡ here q b
+  unfolding ids
+  brought-absent q b empty out = refl
+  brought-absent q b (node f m n) out =
+      go (dropped-member b ds (f .id))
+      (brought-absent (some (f .id)) (is-struct (f .kind)) m (λ x e h. out x e (inr (in-left x (ids m) (ids n) h))))
+      (brought-absent q b n (λ x e h. out x e (inr (in-right x (ids m) (ids n) h))))
+    where
+      inside : ℕ
+      inside = brought (some (f .id)) (is-struct (f .kind)) m
 
-    gn : List ℕ
-    gn = map id-of (gone id-of kind-of ds b n)
+      beside : ℕ
+      beside = brought q b n
 
-    inside : ℕ
-    inside = brought ds (some x) load (some (f .id)) (is-struct (f .kind)) m
+      go : (d : Bool) → inside ≡ here (some (f .id)) (is-struct (f .kind)) → beside ≡ here q b
+          → cond d beside (inside + beside) ≡ here q b
+      go true hm hn = hn
+      go false hm hn =
+          let own = same-not p (f .id) (λ e. out (f .id) e (inl refl)) in
+          let z = not-here (some (f .id)) (is-struct (f .kind)) own in
+          omega arith
 
-    beside : ℕ
-    beside = brought ds (some x) load q b n
+module _ (ds : List ℕ) (x load : ℕ) where
+  none-brought : (q : Option ℕ) (b : Bool) (t : Forest Field) → (x ∈ ids t → ⊥)
+      → brought ds (some x) load q b t ≡ here ds (some x) load q b
+  none-brought q b t out =
+      brought-absent ds (some x) load q b t (λ y e h. out (subst (λ (z : ℕ). z ∈ ids t) (sym (some-is e)) h))
 
-    nothing-beside : (x ∈ ids n → ⊥) → beside ≡ 0
-    nothing-beside o =
-        brought-absent ds (some x) load q b n (λ y h w. o (subst (λ (z : ℕ). z ∈ ids n) (sym (some-is w)) h))
-        ∙ not-here ds (some x) load b q e
+  -- Where it is a struct that does not go.
+  brought-once : (q : Option ℕ) (b : Bool) (t : Forest Field) → StructIn x t
+      → (x ∈ map id-of (gone id-of kind-of ds b t) → ⊥) → Distinct (ids t) → same-parent (some x) q ≡ false
+      → brought ds (some x) load q b t ≡ load
+  unfolding ids
+  brought-once q b empty h out u e = absurd h
+  brought-once q b (node f m n) h out u e =
+      go (dropped-member b ds (f .id)) h (rw (gone-ids ds b f m n) at out)
+      (λ i o. brought-once (some (f .id)) (is-struct (f .kind)) m i o (split .0) (other (inl (struct-id x m i))))
+      (λ i o. brought-once q b n i o (split .1) e)
+    where
+      split : Distinct (ids m) × Distinct (ids n) × Apart (ids m) (ids n)
+      split = distinct-append (ids m) (ids n) (u .1)
 
-    go : (d : Bool) → StructIn x (node f m n) → (x ∈ (cond d (f .id ∷ ids m) gm ++ gn) → ⊥)
-        → (StructIn x m → (x ∈ gm → ⊥) → inside ≡ load) → (StructIn x n → (x ∈ gn → ⊥) → beside ≡ load)
-        → cond d beside (inside + beside) ≡ load
-    go true (inl k) o hm hn = absurd (o (inl (sym (k .0))))
-    go true (inr (inl i)) o hm hn = absurd (o (inr (in-left x (ids m) gn (struct-id x m i))))
-    go true (inr (inr i)) o hm hn = hn i (λ z. o (inr (in-right x (ids m) gn z)))
-    go false (inl k) o hm hn =
-        let out-m : x ∈ ids m → ⊥ = λ i. u .0 (in-left (f .id) (ids m) (ids n) (rw (← (k .0)) at i)) in
-        let out-n : x ∈ ids n → ⊥ = λ i. u .0 (in-right (f .id) (ids m) (ids n) (rw (← (k .0)) at i)) in
-        let a = brought-absent ds (some x) load (some (f .id)) (is-struct (f .kind)) m (λ y h w. out-m (subst (λ (z : ℕ). z ∈ ids m) (sym (some-is w)) h)) in
-        let z = nothing-beside out-n in
-        let here : cond (is-struct (f .kind) && eqb x (f .id)) load 0 ≡ load = rw (k .1, k .0, eqb-self x) in
-        omega arith
-    go false (inr (inl i)) o hm hn =
-        let z = nothing-beside (split .2 x (struct-id x m i)) in
-        let a = hm i (λ z. o (in-left x gm gn z)) in
-        omega arith
-    go false (inr (inr i)) o hm hn =
-        let a = hn i (λ z. o (in-right x gm gn z)) in
-        let own : same-parent (some x) (some (f .id)) ≡ false =
-        same-not (some x) (f .id) (λ w. u .0 (in-right (f .id) (ids m) (ids n) (rw (some-is w) at (struct-id x n i)))) in
-        let z = brought-absent ds (some x) load (some (f .id)) (is-struct (f .kind)) m (λ y h w. split .2 y h (rw (some-is w) at (struct-id x n i)))
-        ∙ not-here ds (some x) load (is-struct (f .kind)) (some (f .id)) own in
-        omega arith
+      gm : List ℕ
+      gm = map id-of (gone id-of kind-of ds (is-struct (f .kind)) m)
+
+      gn : List ℕ
+      gn = map id-of (gone id-of kind-of ds b n)
+
+      inside : ℕ
+      inside = brought ds (some x) load (some (f .id)) (is-struct (f .kind)) m
+
+      beside : ℕ
+      beside = brought ds (some x) load q b n
+
+      -- The node is another record, where x stands below or beside it;
+      own : (x ∈ ids m) ⊎ (x ∈ ids n) → f .id ≡ x → ⊥
+      own (inl h) k = u .0 (in-left (f .id) (ids m) (ids n) (rw k h))
+      own (inr h) k = u .0 (in-right (f .id) (ids m) (ids n) (rw k h))
+
+      other : (x ∈ ids m) ⊎ (x ∈ ids n) → same-parent (some x) (some (f .id)) ≡ false
+      other h = same-not (some x) (f .id) (λ k. own h (sym (some-is k)))
+
+      -- and then nothing comes where x does not stand.
+      no-inside : (x ∈ ids m → ⊥) → x ∈ ids n → inside ≡ 0
+      no-inside o h =
+          none-brought (some (f .id)) (is-struct (f .kind)) m o
+          ∙ not-here ds (some x) load (some (f .id)) (is-struct (f .kind)) (other (inr h))
+
+      no-beside : (x ∈ ids n → ⊥) → beside ≡ 0
+      no-beside o = none-brought q b n o ∙ not-here ds (some x) load q b e
+
+      go : (d : Bool) → StructIn x (node f m n) → (x ∈ (cond d (f .id ∷ ids m) gm ++ gn) → ⊥)
+          → (StructIn x m → (x ∈ gm → ⊥) → inside ≡ load) → (StructIn x n → (x ∈ gn → ⊥) → beside ≡ load)
+          → cond d beside (inside + beside) ≡ load
+      go true (inl k) o hm hn = absurd (o (inl (sym (k .0))))
+      go true (inr (inl i)) o hm hn = absurd (o (inr (in-left x (ids m) gn (struct-id x m i))))
+      go true (inr (inr i)) o hm hn = hn i (λ z. o (inr (in-right x (ids m) gn z)))
+      go false (inl k) o hm hn =
+          let a = none-brought (some (f .id)) (is-struct (f .kind)) m (λ i. own (inl i) (k .0)) in
+          let it : here ds (some x) load (some (f .id)) (is-struct (f .kind)) ≡ load = rw (k .1, k .0, eqb-self x) in
+          let z = no-beside (λ i. own (inr i) (k .0)) in
+          omega arith
+      go false (inr (inl i)) o hm hn =
+          let a = hm i (λ z. o (in-left x gm gn z)) in
+          let z = no-beside (split .2 x (struct-id x m i)) in
+          omega arith
+      go false (inr (inr i)) o hm hn =
+          let a = hn i (λ z. o (in-right x gm gn z)) in
+          let z = no-inside (λ h. split .2 x h (struct-id x n i)) (struct-id x n i) in
+          omega arith
 
 stays-brings : (t : Forest Field) (ds : List ℕ) (p : Option ℕ) (load : ℕ) → Stays t ds p → Distinct (ids t)
     → brought ds p load none true t ≡ load
-stays-brings t ds none load h u = brought-absent ds none load none true t (λ x i e. absurd (none≢some e))
+stays-brings t ds none load h u = brought-absent ds none load none true t (λ x e. absurd (none≢some e))
 stays-brings t ds (some x) load h u = brought-once ds x load none true t (h .0) (h .1) u refl
 
 -- ---- sums
@@ -217,11 +236,14 @@ module _ (w : ℕ → ℕ) where
           beside : List (Addition Field) → Forest Field
           beside s = again s q b n
 
-          go : (d : Bool) → sum (ids (below (a ∷ adds))) ≡ sum (ids (below adds)) + brings (some (f .id)) (is-struct (f .kind)) m
+          inside : ℕ
+          inside = brings (some (f .id)) (is-struct (f .kind)) m
+
+          go : (d : Bool) → sum (ids (below (a ∷ adds))) ≡ sum (ids (below adds)) + inside
               → sum (ids (beside (a ∷ adds))) ≡ sum (ids (beside adds)) + brings q b n
               → sum (ids (cond d (beside (a ∷ adds)) (node f (below (a ∷ adds)) (beside (a ∷ adds)))))
               ≡ sum (ids (cond d (beside adds) (node f (below adds) (beside adds))))
-              + cond d (brings q b n) (brings (some (f .id)) (is-struct (f .kind)) m + brings q b n)
+              + cond d (brings q b n) (inside + brings q b n)
           go true hm hn = hn
           go false hm hn =
               let z = sum-node f (below (a ∷ adds)) (beside (a ∷ adds)) in
@@ -253,7 +275,8 @@ module _ (s : Schema) (q : Request) (p : Plan) (u : Schema) (e₁ : planned s q 
   nothing-vanishes =
       let r = sum-updated (λ _. 1) in
       let many : (t : Forest Field) → sum (λ _. 1) (ids t) ≡ size t =
-      λ t. rw (ids-preorder t) (sum-ones (map id-of (preorder t)) ∙ length-map (preorder t) id-of ∙ length-preorder t) in
+      λ t.
+      rw (ids-preorder t) (sum-ones (map id-of (preorder t)) ∙ length-map (preorder t) id-of ∙ length-preorder t) in
       let left = sum-ones (gone-columns (p .dropped) (s .tree))
       ∙ length-map (gone id-of kind-of (p .dropped) true (s .tree)) id-of in
       let new = sum-ones (given (added s q p)) ∙ ap length (update-consumes s q p u e₁ e .ids-given)

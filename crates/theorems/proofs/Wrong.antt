@@ -95,7 +95,8 @@ right-update f p4 two =
             let z = counts-differ (P4 update-entry) _ (answers .P4-counts) (answers .P4-first-counts) (sym p4 ∙ e) in
             omega arith,
         λ e.
-            let z = counts-differ (two-added update-entry) _ (answers .two-added-counts) (answers .two-added-first-counts) (sym two ∙ e) in
+            let first = answers .two-added-first-counts in
+            let z = counts-differ (two-added update-entry) _ (answers .two-added-counts) first (sym two ∙ e) in
             omega arith,
       );
       P4-counts = ap changed p4 ∙ answers .P4-counts;

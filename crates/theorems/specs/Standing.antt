@@ -1,5 +1,5 @@
--- 02, 3/13: what an accepted update does with the records that it adds, and with those that go. Of `update` over forests; by
--- `OfStored` also of `update-entry` over bytes.
+-- 02, 3/13: what an accepted update does with the records that it adds, and with those that go. Of `update` over
+-- forests; by `OfStored` also of `update-entry` over bytes.
 use Prim.Native.Nat.{ℕ, _+_, _≤_}
 use mathlib.Core.Path.{_≡_}
 use mathlib.Core.Logic.{_⊎_, _↔_}
@@ -41,15 +41,17 @@ NothingVanishes schema request plan updated =
     size (updated .tree) + length (gone id-of kind-of (plan .dropped) true (schema .tree))
     ≡ size (schema .tree) + size (request .added)
 
--- A column of the base goes exactly where the answer does not have it; but its id may be given anew, where it is above the last
--- id of the base.
+-- A column of the base goes exactly where its id is missing in the answer. An id that is given anew is left aside: it
+-- can be one of the base, above the last id.
 abbrev pub GoneIsLeftOut : Schema → Request → Plan → (updated : Schema) → Type 0
 GoneIsLeftOut schema request plan updated =
     (id : ℕ) → Found schema id → (id ∈ given (added schema request plan) → ⊥)
     → (id ∈ gone-columns (plan .dropped) (schema .tree)) ↔ Missing updated id
 
--- One of these, of what is stored and lent, of the plan that is made of it, and of what the answer leaves to be stored.
-pub record OfStored (so : Schema → Request → Plan → Schema → Type 0) (stored : Stored) (lent : Lent) (result : Result) : Type 0 where
+-- One of these, of what is stored and lent, of the plan that is made of it, and of what the answer leaves to be
+-- stored.
+pub record OfStored (so : Schema → Request → Plan → Schema → Type 0) (stored : Stored) (lent : Lent)
+    (result : Result) : Type 0 where
   pub plan : Plan
   pub plans : planned (schema-of stored) (request-of lent) ≡ ok plan
   pub holds : so (schema-of stored) (request-of lent) plan (schema-of (to-store result))

@@ -14,7 +14,7 @@ use Rattle.paper.specs.Asked.{AnUpdate, APruner, asked-update, asked-prune, at-
 abbrev pub P4 : AnUpdate → Answer Result
 P4 update = asked-update update ("node.cost" ∷ []) (("cost" under "node") ∷ [])
 
--- A deletion and two additions, one under a struct, one at the root. 01's P5 served here before 02, 3/13: it is 22 now.
+-- A deletion and two additions, one under a struct, one at the root. 01's P5 served before 02, 3/13: it is 22 now.
 abbrev pub two-added : AnUpdate → Answer Result
 two-added update = asked-update update ("visits" ∷ []) (("fault" under "node") ∷ at-root "floor" ∷ [])
 
