@@ -154,7 +154,7 @@ pub consumed-are-added-stored : (stored : Stored) (lent : Lent) (result : Result
 consumed-are-added-stored stored lent result bytes added accepted =
     of-stored stored lent result bytes added accepted _ consumed-are-added
 
--- Nothing vanishes: the records of the answer and those that go are as many as those of the base and those added.
+-- Nothing vanishes: the records of the answer and those that go are those of the base and those added.
 pub nothing-vanishes : (schema : Schema) (request : Request) (plan : Plan) (updated : Schema)
     → planned schema request ≡ ok plan → update schema request ≡ ok updated
     → NothingVanishes schema request plan updated

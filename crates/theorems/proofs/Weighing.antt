@@ -270,41 +270,49 @@ module _ (s : Schema) (q : Request) (p : Plan) (u : Schema) (e₁ : planned s q 
       let o = accepted s q p u e₁ e in
       rw (o .tree) (sum-all w (p .dropped) (s .tree) (o .distinct) (added s q p) (all-stay s q p e₁))
 
-  -- By weights of one each.
+  -- By weights of one each; and of one for an id, none for the others.
   pub nothing-vanishes : NothingVanishes s q p u
   nothing-vanishes =
-      let r = sum-updated (λ _. 1) in
       let many : (t : Forest Field) → sum (λ _. 1) (ids t) ≡ size t =
       λ t.
       rw (ids-preorder t) (sum-ones (map id-of (preorder t)) ∙ length-map (preorder t) id-of ∙ length-preorder t) in
+      let r = sum-updated (λ _. 1) in
+      let a = many (u .tree) in
+      let b = many (s .tree) in
       let left = sum-ones (gone-columns (p .dropped) (s .tree))
       ∙ length-map (gone id-of kind-of (p .dropped) true (s .tree)) id-of in
       let new = sum-ones (given (added s q p)) ∙ ap length (update-consumes s q p u e₁ e .ids-given)
       ∙ length-range (suc (s .last)) (size (q .added)) in
-      let a = many (u .tree) in
-      let b = many (s .tree) in
-      omega arith
+      record {
+        as-many = omega arith;
+        each-id = λ x.
+            let r = sum-updated (λ y. cond (eqb x y) 1 0) in
+            let a = sum-tally x (ids (u .tree)) in
+            let b = sum-tally x (gone-columns (p .dropped) (s .tree)) in
+            let c = sum-tally x (ids (s .tree)) in
+            let d = sum-tally x (given (added s q p)) in
+            omega arith;
+      }
     where
       sum-ones : (l : List ℕ) → sum (λ _. 1) l ≡ length l
       sum-ones [] = refl
       sum-ones (x ∷ l) = let r = sum-ones l in omega arith
 
+      sum-tally : (x : ℕ) (l : List ℕ) → sum (λ y. cond (eqb x y) 1 0) l ≡ tally x l
+      sum-tally x [] = refl
+      sum-tally x (y ∷ l) = let r = sum-tally x l in omega arith
+
       length-range : (c n : ℕ) → length (range c n) ≡ n
       length-range c zero = refl
       length-range c (suc n) = ap suc (length-range (suc c) n)
 
-  -- By one for the asked id and none for others.
+  -- An id of the base stands there once, so it is counted once in what goes and the answer.
   pub gone-left-out : GoneIsLeftOut s q p u
   gone-left-out x found out =
-      let w : ℕ → ℕ = λ y. cond (eqb x y) 1 0 in
-      let r = sum-updated w in
+      let r = nothing-vanishes .each-id x in
       let there = tally-in x (ids (s .tree)) found in
       let one = tally-distinct x (ids (s .tree)) (accepted s q p u e₁ e .distinct) in
-      let none-new = tally-out x (given (added s q p)) out in
-      let a = sum-tally x (ids (u .tree)) in
-      let b = sum-tally x (gone-columns (p .dropped) (s .tree)) in
-      let c = sum-tally x (ids (s .tree)) in
-      let d = sum-tally x (given (added s q p)) in (
+      let not-given = tally-out x (given (added s q p)) out in (
         λ h k.
             let g = tally-in x (gone-columns (p .dropped) (s .tree)) h in
             let f = tally-in x (ids (u .tree)) k in
@@ -313,7 +321,3 @@ module _ (s : Schema) (q : Request) (p : Plan) (u : Schema) (e₁ : planned s q 
             let f = tally-out x (ids (u .tree)) missing in
             in-tally x (gone-columns (p .dropped) (s .tree)) (omega arith),
       )
-    where
-      sum-tally : (x : ℕ) (l : List ℕ) → sum (λ y. cond (eqb x y) 1 0) l ≡ tally x l
-      sum-tally x [] = refl
-      sum-tally x (y ∷ l) = let r = sum-tally x l in omega arith

@@ -9,12 +9,14 @@ use lib.ListN.{length}
 use Rattle.paper.specs.Answer.{ok}
 use Rattle.paper.specs.Forest.{size}
 use Rattle.paper.specs.Field.{Field, id-of, kind-of}
+use Rattle.paper.specs.Sound.{ids}
 use Rattle.paper.specs.Gone.{gone, gone-columns}
 use Rattle.paper.specs.Update.{Request, Schema, Plan, planned}
 use Rattle.paper.specs.Rebuild.{Addition, added}
 use Rattle.paper.specs.Lent.{Stored, Lent}
 use Rattle.paper.specs.Entries.{Result}
 use Rattle.laws.specs.Members.{_∈_}
+use Rattle.theorems.specs.Numbers.{tally}
 use Rattle.theorems.specs.Run.{Column, Stands, Has, Found, Missing, Consumed, given}
 use Rattle.theorems.specs.Stored.{schema-of, request-of, to-store}
 
@@ -35,11 +37,12 @@ pub record ConsumedAreAdded (schema : Schema) (request : Request) (plan : Plan) 
   pub new : ((id : ℕ) → Found schema id → id ≤ schema .last) → (id : ℕ)
       → Consumed schema updated id ↔ (Found updated id × Missing schema id)
 
--- Each record is counted once: those of the answer and those that go are those of the base and those added.
-abbrev pub NothingVanishes : Schema → Request → Plan → (updated : Schema) → Type 0
-NothingVanishes schema request plan updated =
-    size (updated .tree) + length (gone id-of kind-of (plan .dropped) true (schema .tree))
-    ≡ size (schema .tree) + size (request .added)
+-- The records of the answer and those that go are those of the base and those added: as many, and each id as often.
+pub record NothingVanishes (schema : Schema) (request : Request) (plan : Plan) (updated : Schema) : Type 0 where
+  pub as-many : size (updated .tree) + length (gone id-of kind-of (plan .dropped) true (schema .tree))
+      ≡ size (schema .tree) + size (request .added)
+  pub each-id : (id : ℕ) → tally id (ids (updated .tree)) + tally id (gone-columns (plan .dropped) (schema .tree))
+      ≡ tally id (ids (schema .tree)) + tally id (given (added schema request plan))
 
 -- A column of the base goes exactly where its id is missing in the answer. An id that is given anew is left aside: it
 -- can be one of the base, above the last id.
