@@ -15,7 +15,7 @@ use Rattle.record.specs.declared.Slot.{Slot}
 use Rattle.record.specs.declared.Found.{Found}
 use Rattle.record.specs.declared.Found.the-variants.{At, Nothing}
 use Rattle.record.specs.Says.{found-row, refusal-of}
-use Rattle.update_gone.specs.Gone.{base-slots, gone-in}
+use Rattle.update_gone.specs.Gone.{base-slots}
 use Rattle.update_gone.proofs.Fields.{gone-fields}
 use Rattle.update_parents.specs.declared.Target.{Target}
 use Rattle.update_parents.specs.declared.Target.the-variants as target
