@@ -1,6 +1,6 @@
 -- Going up from a slot by the places above: a record goes if it is dropped as a member, or if the one above it goes.
 use Prim.Native.Nat.{ℕ, zero, suc, _+_, _-_, _≤_}
-use mathlib.Core.Path.{_≡_, refl, sym, ap, subst, _∙_}
+use mathlib.Core.Path.{_≡_, refl, sym, subst, _∙_}
 use mathlib.Core.Logic.{inl, inr, ⊎-elim}
 use mathlib.Core.Bool.{Bool, true, false, _||_, cond, or-true, or-false}
 use mathlib.Core.List.{List, _∷_, _++_}
@@ -16,7 +16,7 @@ use Rattle.paper.specs.Gone.{dropped-member, gone}
 use Rattle.laws.specs.Members.{_∈_}
 use Rattle.laws.proofs.Agreeing.{Agrees, agrees-first, agrees-left, agrees-right}
 use Rattle.laws.proofs.Among.{among-none, among-left, among-right}
-use Rattle.laws.proofs.Basics.{Distinct, distinct-append, in-left, in-right, in-append, any-true, eqb-self}
+use Rattle.laws.proofs.Basics.{Apart, Distinct, distinct-append, in-left, in-right, in-append, any-true, eqb-self}
 use Rattle.laws.proofs.Going.{gone-there}
 use Rattle.plan.proofs.Walks.{Numbered}
 use Rattle.index_names.specs.Full.{ups}
@@ -89,7 +89,7 @@ module _ (us gs : List ℕ) where
       at-hand true k i = i
       at-hand false k i = inr (gone-there (slot-id records) (kind-at records) ds inner m k i)
 
-      apart : (Distinct (preorder m) × Distinct (preorder n) × ((x : ℕ) → x ∈ preorder m → x ∈ preorder n → ⊥)) × (j ∈ (preorder m ++ preorder n) → ⊥)
+      apart : (Distinct (preorder m) × Distinct (preorder n) × Apart (preorder m) (preorder n)) × (j ∈ (preorder m ++ preorder n) → ⊥)
       unfolding preorder
       apart = (distinct-append (preorder m) (preorder n) (d .1), d .0)
 

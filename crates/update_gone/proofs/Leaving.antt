@@ -69,7 +69,7 @@ module _ {records : List ℕ} {n : ℕ} {us : List ℕ} (R : Rises records n us)
   there : (k : ℕ) → k < n → k ∈ preorder (base-slots records n)
   there k l = numbered-in (base-slots records n) 0 k numbered (omega arith) (omega (arith, sized))
 
-  pub up-falls : (k : ℕ) → k < n → getD us k 0 ≤ k
+  up-falls : (k : ℕ) → k < n → getD us k 0 ≤ k
   up-falls = ups-fall (λ _. []) (kids-at records) n us (λ k l. R .above k l ∙ ap (λ (f : Forest ℕ). getD (ups 0 f) k 0) walked)
 
   up-ends : (k : ℕ) → k < n → risen us 16 (suc k) ≡ 0
