@@ -132,7 +132,7 @@ pub fn place_at_root(found: Found, place: u32, dropped: &[u32; 64], drops: usize
     })
 }
 
-// Whether a member of the struct at a slot that stays has the name; in a dropped struct every name is free.
+// Whether the name is taken in the struct at a slot: a member that stays has it. In a dropped struct every name is free.
 fn is_taken(
     recs: &[u8],
     pool: &[u8],
