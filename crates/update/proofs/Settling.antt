@@ -21,6 +21,7 @@ use Rattle.record.specs.declared.Refusal.{Refusal}
 use Rattle.record.specs.Says.{refusal-of}
 use Rattle.record.specs.Trees.{Trees, Lists, stored-in, lent-in}
 use Rattle.laws.proofs.Basics.{unbind, ok-is, fault-ok}
+use Rattle.laws.proofs.Own.{sound-distinct}
 use Rattle.laws.proofs.Fitting.{sized-slots}
 use Rattle.laws.proofs.Preorder.{siblings-mapped}
 use Rattle.laws.proofs.Runs.{length-from}
@@ -146,7 +147,7 @@ module _ (l : Trees) (lists : Lists) (last columns : ℕ) (plan index decisions 
       the-base : BasedIn l plan n
       the-base =
           let p = decode-parts 0 (l .records) (l .pool) (fields-in l plan n) (h .tree) in
-          record { plan = h .is-plan; trees = p .trees; read = p .read; tree = sym (p .tree); whole = omega arith; bytes = p .bytes; named = p .named }
+          record { plan = h .is-plan; trees = p .trees; read = p .read; tree = sym (p .tree); whole = omega arith; bytes = p .bytes; named = p .named; own = sound-distinct 0 _ _ (h .is-sound) }
 
       added-few : m ≤ 1024
       added-few = sized-slots (l .added-records) (l .request-pool) (added-sized _ _ true (sym limits) refl) .0

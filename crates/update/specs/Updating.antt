@@ -76,7 +76,7 @@ pub record Settled (l : Trees) (lists : Lists) (last : ℕ) (base added : Forest
   pub arrive : mapped-all (planned-field l) (additions-in (l .added-records) (given-in l lists last) decisions)
       ≡ arrivals with-id last (parents-in (unders-in decisions) (entries (lists .additions))) added
 
--- The base's 7 to 9 were passed, so this is 10 to 18.
+-- The base's 7 to 9 were passed, so this is 10 to 18, and 22.
 pub record Settles (l : Trees) (lists : Lists) (last : ℕ) (r : Decided) (decisions : List (List ℕ)) : Type 0 where
   pub accepted : (base added : Forest Field) → readable l lists ≡ ok (both-trees base added) → (consumed : ℕ) → r ≡ decided.Last consumed
       → Settled l lists last base added decisions consumed

@@ -42,7 +42,7 @@ unfoldable pub numbered : (under last k slot records : ℕ) → Spotted
 numbered under last k slot records =
     cond (ltb highest (last + records)) (spotted.Refused (refusal-of 18 3 k)) (spotted.At (record { under = under; start = turned (suc last); last = last + records; next = slot + records }))
 
--- One step of the paper's `placed-all`: 13, 14, 15 to 17, 18.
+-- One step of the paper's `placed-all`: 13, 14, then 15, 16, 22, 17, then 18.
 unfoldable pub one-placed : Forest Field → List ℕ → (last k : ℕ) → Option (List ℕ) → Field → Forest Field → Answer (Option ℕ)
 one-placed t dropped last k p f m = do
   dotless k (among 46 (f .name))

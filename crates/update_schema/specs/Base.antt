@@ -10,12 +10,14 @@ use Rattle.paper.specs.Bytes.{kids-at, ok-bytes, in-pool}
 use Rattle.paper.specs.Decode.{fields}
 use Rattle.paper.specs.Layout.{Part, roots}
 use Rattle.paper.specs.Lists.{path-in}
+use Rattle.paper.specs.Sound.{ids}
+use Rattle.laws.proofs.Basics.{Distinct}
 use Rattle.record.specs.Trees.{Trees}
 use Rattle.plan.specs.Plan.{plan-fields, Plan}
 use Rattle.plan.specs.Table.{sources, numbers, members}
 use Rattle.update_rebuild.specs.Planned.{gone-in, unders-in, firsts-in, starts-in}
 
--- The n records of the base, with their trees, are the plan.
+-- The n records of the base, with their trees, are the plan, and no id of it stands twice.
 pub record Based (l : Trees) (xs is ks : List ℕ) (n : ℕ) : Type 0 where
   pub plan : Plan l xs is ks n
   pub trees : Part
@@ -24,6 +26,7 @@ pub record Based (l : Trees) (xs is ks : List ℕ) (n : ℕ) : Type 0 where
   pub whole : n * 24 ≤ length (l .records)
   pub bytes : lowest (ok-bytes (l .records)) 0 n ≡ none
   pub named : lowest (in-pool (length (l .pool)) (l .records)) 0 n ≡ none
+  pub own : Distinct (ids (plan-fields l xs is ks n))
 
 -- So many entries, whose paths are in the request pool.
 pub record Entries (request entries : List ℕ) (total : ℕ) : Type 0 where

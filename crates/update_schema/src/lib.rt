@@ -64,7 +64,7 @@ pub struct Spot {
     pub next: usize,
 }
 
-// One addition: its spot, or one of the refusals 13 to 18.
+// One addition: its spot, or one of the refusals 13 to 16, 22, 17, 18.
 pub enum Spotted {
     At(Spot),
     Refused(Refusal),
@@ -108,7 +108,7 @@ fn drop_columns<'a>(
     Check::Fine
 }
 
-// Where the addition k goes, whose column is at a slot of the additions tree: refusals 15 to 17.
+// Where the addition k goes, whose column is at a slot of the additions tree: refusals 15, 16, 22, 17.
 fn find_place<'a>(
     trees: &Trees<'a>,
     additions: &[u8],
@@ -139,6 +139,7 @@ fn find_place<'a>(
             trees[RECORDS],
             trees[POOL],
             n,
+            index,
             name,
             k as u32,
             dropped,
@@ -264,7 +265,7 @@ fn place_columns<'a>(
     Decided::Last(last)
 }
 
-// Deletions one at a time, then additions one at a time: refusals 11 to 18, or all that the rebuild needs.
+// Deletions one at a time, then additions one at a time: refusals 11 to 18 and 22, or all that the rebuild needs.
 pub fn decide_changes<'a>(
     trees: &Trees<'a>,
     lists: &Lists<'a>,
