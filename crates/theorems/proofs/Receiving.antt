@@ -75,12 +75,12 @@ row-receives s (node f m n) r (inr h) v e =
 
 -- ---- what goes of a node
 
-pub gone-ids : (ds : List ℕ) (b : Bool) (f : Field) (m n : Forest Field)
+pub gone-node : (ds : List ℕ) (b : Bool) (f : Field) (m n : Forest Field)
     → map id-of (gone id-of kind-of ds b (node f m n))
     ≡ cond (dropped-member b ds (f .id)) (f .id ∷ ids m) (map id-of (gone id-of kind-of ds (is-struct (f .kind)) m))
     ++ map id-of (gone id-of kind-of ds b n)
 unfolding gone
-gone-ids ds b f m n = go (dropped-member b ds (f .id))
+gone-node ds b f m n = go (dropped-member b ds (f .id))
   where
     gm : List Field
     gm = gone id-of kind-of ds (is-struct (f .kind)) m

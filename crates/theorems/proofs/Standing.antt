@@ -23,7 +23,7 @@ use Rattle.theorems.specs.Standing.{Adds, AdditionsStand, ConsumedAreAdd
 use Rattle.theorems.proofs.Counting.{in-range, in-tally, once}
 use Rattle.theorems.proofs.Columns.{stands-id, column-of, then-left, then-right}
 use Rattle.theorems.proofs.Evolution.{update-consumes, update-follows}
-use Rattle.theorems.proofs.Receiving.{StructIn, struct-id, gone-ids, Stays, AllStay, all-stay}
+use Rattle.theorems.proofs.Receiving.{StructIn, struct-id, gone-node, Stays, AllStay, all-stay}
 
 -- ---- where an addition is received
 
@@ -55,7 +55,7 @@ module _ (ds : List ℕ) (adds : List (Addition Field)) where
   unfolding rebuilt
   stands-under x q b empty c h out k = absurd h
   stands-under x q b (node f m n) c h out k =
-      go (dropped-member b ds (f .id)) h (rw (gone-ids ds b f m n) at out)
+      go (dropped-member b ds (f .id)) h (rw (gone-node ds b f m n) at out)
       (λ i o. stands-under x (some (f .id)) (is-struct (f .kind)) m c i o k) (λ i o. stands-under x q b n c i o k)
     where
       gm : List ℕ

@@ -27,7 +27,7 @@ use Rattle.theorems.specs.Run.{given}
 use Rattle.theorems.specs.Standing.{NothingVanishes, GoneIsLeftOut}
 use Rattle.theorems.proofs.Counting.{tally-in, in-tally, tally-out, tally-distinct}
 use Rattle.theorems.proofs.Evolution.{update-consumes}
-use Rattle.theorems.proofs.Receiving.{StructIn, struct-id, gone-ids, Stays, AllStay, all-stay}
+use Rattle.theorems.proofs.Receiving.{StructIn, struct-id, gone-node, Stays, AllStay, all-stay}
 use Rattle.theorems.proofs.Standing.{accepted}
 
 -- ---- the rebuild comes once to what receives an addition
@@ -88,7 +88,7 @@ module _ (ds : List ℕ) (x load : ℕ) where
   unfolding ids
   brought-once q b empty h out u e = absurd h
   brought-once q b (node f m n) h out u e =
-      go (dropped-member b ds (f .id)) h (rw (gone-ids ds b f m n) at out)
+      go (dropped-member b ds (f .id)) h (rw (gone-node ds b f m n) at out)
       (λ i o. brought-once (some (f .id)) (is-struct (f .kind)) m i o (split .0) (other (inl (struct-id x m i))))
       (λ i o. brought-once q b n i o (split .1) e)
     where
@@ -185,7 +185,7 @@ module _ (w : ℕ → ℕ) where
     sum-gone q true empty = refl
     sum-gone q false empty = refl
     sum-gone q b (node f m n) =
-        rw (gone-ids ds b f m n)
+        rw (gone-node ds b f m n)
         (go (dropped-member b ds (f .id)) (sum-gone (some (f .id)) (is-struct (f .kind)) m) (sum-gone q b n))
       where
         m′ : Forest Field

@@ -17,7 +17,7 @@ use Rattle.record.specs.declared.Check.the-variants as check
 use Rattle.record.specs.declared.Found.{Found}
 use Rattle.record.specs.declared.Found.the-variants.{At, Nothing}
 use Rattle.record.specs.Says.{found-row, refusal-of, checked}
-use Rattle.update_gone.specs.Gone.{slot-id, gone-in}
+use Rattle.update_gone.specs.Gone.{slot-id, ids-gone}
 use Rattle.update_parents.specs.Target.{members-at}
 use Rattle.update_decide.specs.declared.Going.the-variants as going
 use Rattle.update_decide.specs.declared.Fresh.the-variants as fresh
@@ -93,7 +93,7 @@ module _ (pool s : List ℕ) (n slot : ℕ) (ds x : List ℕ) (i : ℕ) (b : Boo
 
 pub ruleset taking = (taken-nowhere, taken-there)
 
-module _ (pool s : List ℕ) (n slot : ℕ) (ds : List ℕ) (k : ℕ) (x : List ℕ) (b : Bool) (eb : b ≡ among (slot-id s slot) (gone-in s n ds)) where
+module _ (pool s : List ℕ) (n slot : ℕ) (ds : List ℕ) (k : ℕ) (x : List ℕ) (b : Bool) (eb : b ≡ among (slot-id s slot) (ids-gone s n ds)) where
   pub under-gone : b ≡ true → going.Refused (refusal-of 22 3 k) ≡ goes (under-place pool s n slot ds k x)
   unfolding under-place _>>=_ goes
   under-gone t = rw (← eb, t)

@@ -21,7 +21,7 @@ use Rattle.record.specs.declared.Found.{Found}
 use Rattle.record.specs.declared.Found.the-variants as found
 use Rattle.record.specs.Says.{refusal-of, found-row}
 use Rattle.tree.specs.Read.{Standing}
-use Rattle.update_gone.specs.Gone.{base-slots, slot-id, gone-in}
+use Rattle.update_gone.specs.Gone.{base-slots, slot-id, ids-gone}
 use Rattle.update_parents.specs.Target.{members-at, Stands}
 use Rattle.update_decide.specs.declared.Dropping.{Dropping}
 use Rattle.update_decide.specs.declared.Dropping.the-variants as dropping
@@ -44,7 +44,7 @@ dropped-id o identifiers k = do
   ok (r .field .id)
 
 unfoldable pub drops : Answer ℕ → Dropping
-drops (ok i) = dropping.Gone (record { 0 = turned i })
+drops (ok i) = dropping.Id (record { 0 = turned i })
 drops (refused n l p) = dropping.Refused (refusal-of n l p)
 
 pub record Deleted (f : Found) (identifiers : List ℕ) (k : ℕ) (r : Dropping) : Type 0 where
@@ -79,7 +79,7 @@ taken-at pool records n slot dropped x = not (among (slot-id records slot) dropp
 -- 22, then 17, under the struct at a slot
 unfoldable pub under-place : (pool records : List ℕ) (n slot : ℕ) (dropped : List ℕ) (k : ℕ) (x : List ℕ) → Answer (Option ℕ)
 under-place pool records n slot dropped k x = do
-  standing k (among (slot-id records slot) (gone-in records n dropped))
+  standing k (among (slot-id records slot) (ids-gone records n dropped))
   free-name k (taken-at pool records n slot dropped x)
   ok (some (slot-id records slot))
 

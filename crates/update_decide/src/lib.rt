@@ -31,7 +31,7 @@ ghost use Rattle.update_decide.specs.Entry.{Deleted, unbarred, goes, AtR
 
 // The id that a deletion drops, or refusal 11 or 12.
 pub enum Dropping {
-    Gone(FieldId),
+    Id(FieldId),
     Refused(Refusal),
 }
 
@@ -85,7 +85,7 @@ pub fn drop_one(found: Found, identifiers: &[u8], place: u32) -> Dropping
             place,
         });
     }
-    Dropping::Gone(id)
+    Dropping::Id(id)
 }
 
 // Refusals 13 and 14 of the added column at a slot: a dot in its own name; required, without initial default.

@@ -8,10 +8,10 @@ use Rattle.paper.specs.Decode.{fields}
 use Rattle.paper.specs.Field.{id-of, kind-of}
 use Rattle.paper.specs.Gone.{gone, gone-columns}
 use Rattle.laws.proofs.Going.{gone-mapped}
-use Rattle.update_gone.specs.Gone.{base-slots, slot-id, gone-in}
+use Rattle.update_gone.specs.Gone.{base-slots, slot-id, ids-gone}
 
-pub gone-fields : (pool records : List ℕ) (n : ℕ) (dropped : List ℕ) → gone-columns dropped (fields pool records (base-slots records n)) ≡ gone-in records n dropped
-unfolding fields gone-in field-at
+pub gone-fields : (pool records : List ℕ) (n : ℕ) (dropped : List ℕ) → gone-columns dropped (fields pool records (base-slots records n)) ≡ ids-gone records n dropped
+unfolding fields ids-gone field-at
 gone-fields pool records n dropped =
     ap (map id-of) (gone-mapped (field-at pool records) id-of kind-of dropped true (base-slots records n))
     ∙ map-map id-of (field-at pool records) (gone (slot-id records) (kind-at records) dropped true (base-slots records n))

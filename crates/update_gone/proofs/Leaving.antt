@@ -28,7 +28,7 @@ use Rattle.plan.specs.Walk.{trees-of}
 use Rattle.plan.proofs.Walks.{Numbered, all-numbered, all-there, roots-are}
 use Rattle.index_names.specs.Full.{ups}
 use Rattle.index_names.proofs.Telling.{ups-fall}
-use Rattle.update_gone.specs.Gone.{base-slots, slot-id, gone-in, open-under, Rises}
+use Rattle.update_gone.specs.Gone.{base-slots, slot-id, ids-gone, open-under, Rises}
 use Rattle.update_gone.proofs.Climbing.{Climbs, climbs-told, goes-at, steps, risen, levels-up, nothing-up, rising-left, rising-on}
 
 -- ---- who stands under a place
@@ -78,22 +78,22 @@ module _ {records : List ℕ} {n : ℕ} {us : List ℕ} (R : Rises records n us)
 -- Whether what stands at a place goes.
 abbrev pub gone-at : (records : List ℕ) (n : ℕ) (ds : List ℕ) (place : ℕ) → Bool
 gone-at records n ds zero = false
-gone-at records n ds (suc k) = among (slot-id records k) (gone-in records n ds)
+gone-at records n ds (suc k) = among (slot-id records k) (ids-gone records n ds)
 
 module _ {records : List ℕ} {n : ℕ} {us : List ℕ} (R : Rises records n us) (ds : List ℕ) where
   -- the slots that go
   abbrev going : List ℕ
   going = gone (slot-id records) (kind-at records) ds true (base-slots records n)
 
-  by-slot : (k : ℕ) → k < n → among (slot-id records k) (gone-in records n ds) ≡ among k going
-  unfolding gone-in
+  by-slot : (k : ℕ) → k < n → among (slot-id records k) (ids-gone records n ds) ≡ among k going
+  unfolding ids-gone
   by-slot k l = among-values (slot-id records) (preorder (base-slots records n)) (R .own) k going (there R k l) (gone-there (slot-id records) (kind-at records) ds true (base-slots records n))
 
   by-place : (u : ℕ) → u ≤ n → gone-at records n ds u ≡ goes-at going u
   by-place zero l = refl
   by-place (suc k) l = by-slot k l
 
-  a-level : (k : ℕ) → k < n → among (slot-id records k) (gone-in records n ds) ≡ (dropped-member (open-under records (getD us k 0)) ds (slot-id records k) || gone-at records n ds (getD us k 0))
+  a-level : (k : ℕ) → k < n → among (slot-id records k) (ids-gone records n ds) ≡ (dropped-member (open-under records (getD us k 0)) ds (slot-id records k) || gone-at records n ds (getD us k 0))
   a-level k l =
       by-slot k l
       ∙ steps us going records ds (base-slots records n) 0 true (climbs R) (distinct-values (slot-id records) (preorder (base-slots records n)) (R .own)) refl refl (λ i _. refl) k (there R k l)
@@ -103,7 +103,7 @@ module _ {records : List ℕ} {n : ℕ} {us : List ℕ} (R : Rises records n us)
 
 pub record Leaving (records : List ℕ) (n : ℕ) (us ds : List ℕ) (slot place left : ℕ) : Type 0 where
   pub within : place ≤ n
-  pub same : among (slot-id records slot) (gone-in records n ds) ≡ gone-at records n ds place
+  pub same : among (slot-id records slot) (ids-gone records n ds) ≡ gone-at records n ds place
   pub low : risen us left place ≡ 0
 
 module _ {records : List ℕ} {n : ℕ} {us ds : List ℕ} {slot place left : ℕ} (H : Leaving records n us ds slot place left) (l : 0 < place) where
@@ -119,7 +119,7 @@ module _ {records : List ℕ} {n : ℕ} {us : List ℕ} (R : Rises records n us)
   leave-starts ds slot l = rw (add-one slot) record { within = l; same = refl; low = up-ends R slot l }
 
   module _ {ds : List ℕ} {slot place left : ℕ} (H : Leaving records n us ds slot place left) where
-    pub leave-ends : place ≤ 0 → false ≡ among (slot-id records slot) (gone-in records n ds)
+    pub leave-ends : place ≤ 0 → false ≡ among (slot-id records slot) (ids-gone records n ds)
     leave-ends l = let e : place ≡ 0 = omega arith in sym (H .same ∙ rw e)
 
     module _ (l : 0 < place) (k : ℕ) (ek : k ≡ place - 1) where
@@ -140,10 +140,10 @@ module _ {records : List ℕ} {n : ℕ} {us : List ℕ} (R : Rises records n us)
         above-room = let w = there-still in let s = R .whole in let f = up-falls R k w in omega arith
 
         module _ (o b : Bool) (eo : o ≡ open-under records above) (eb : b ≡ dropped-member o ds (slot-id records k)) where
-          level : among (slot-id records slot) (gone-in records n ds) ≡ (b || gone-at records n ds above)
+          level : among (slot-id records slot) (ids-gone records n ds) ≡ (b || gone-at records n ds above)
           level = H .same ∙ ap (gone-at records n ds) is-next ∙ rw (eb, eo, ea) (a-level R ds k there-still)
 
-          pub leave-taken : b ≡ true → true ≡ among (slot-id records slot) (gone-in records n ds)
+          pub leave-taken : b ≡ true → true ≡ among (slot-id records slot) (ids-gone records n ds)
           leave-taken e = sym (level ∙ rw e)
 
           pub leave-goes : (left′ : ℕ) → b ≡ false → left′ ≡ left - 1 → Leaving records n us ds slot above left′

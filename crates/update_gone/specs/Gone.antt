@@ -21,8 +21,8 @@ abbrev pub slot-id : (records : List ℕ) (k : ℕ) → ℕ
 slot-id records k = turned (rec-at records k .id)
 
 -- The ids of the records that go.
-unfoldable pub gone-in : (records : List ℕ) (n : ℕ) (dropped : List ℕ) → List ℕ
-gone-in records n dropped =
+unfoldable pub ids-gone : (records : List ℕ) (n : ℕ) (dropped : List ℕ) → List ℕ
+ids-gone records n dropped =
     map (slot-id records) (gone (slot-id records) (kind-at records) dropped true (base-slots records n))
 
 -- Whether the siblings under a place are open to change: the root list is, and the members of a struct are.

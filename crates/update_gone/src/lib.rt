@@ -11,7 +11,7 @@ ghost use lib.ListN.{length};
 ghost use Rattle.paper.specs.Answer.{among};
 ghost use Rattle.index_ids.specs.Table.{ups-in};
 ghost use Rattle.update_dropped.specs.Set.{dropped-ids, set-of, Good};
-ghost use Rattle.update_gone.specs.Gone.{slot-id, gone-in, open-under, Rises};
+ghost use Rattle.update_gone.specs.Gone.{slot-id, ids-gone, open-under, Rises};
 
 // Whether the siblings under a place are open to change: those of the root list, and the members of a struct.
 fn open_under(recs: &[u8], above: usize) -> bool
@@ -36,7 +36,7 @@ pub fn is_gone(
 ) -> bool
     requires { ⌜ Rises (now recs) n (ups-in (now index)) × (slot < n)
         × Good (set-of (now dropped) drops) ⌝ }
-    ensures { λ r. ⌜ r ≡ among (slot-id (now (recs .entry)) slot) (gone-in (now (recs .entry)) n
+    ensures { λ r. ⌜ r ≡ among (slot-id (now (recs .entry)) slot) (ids-gone (now (recs .entry)) n
         (dropped-ids (set-of (now (dropped .entry)) drops))) ⌝ }
 {
     let mut place = slot + 1;

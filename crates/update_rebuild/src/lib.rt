@@ -56,7 +56,7 @@ pub struct Given {
 // additions tree, and the bits of its first id.
 pub type Decisions = [[u64; 64]; 4];
 
-pub const GONE: usize = 0;
+pub const DROPS: usize = 0;
 
 pub const UNDERS: usize = 1;
 

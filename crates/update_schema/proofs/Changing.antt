@@ -21,7 +21,7 @@ use Rattle.update_dropped.specs.Set.{dropped-ids}
 use Rattle.update_decide.specs.Entry.{parent-place}
 use Rattle.update_schema.specs.declared.Decided.{Decided}
 use Rattle.update_schema.specs.declared.Decided.the-variants as decided
-use Rattle.update_dropped.specs.Gathered.{gone-ids, Gathered}
+use Rattle.update_dropped.specs.Gathered.{row-ids, Gathered}
 use Rattle.update_schema.specs.Deletions.{DropsAll}
 use Rattle.update_schema.specs.Additions.{one-placed, all-placed, PlacesBy, PlacesAll}
 use Rattle.update_schema.specs.Changes.{changes, Decides}
@@ -74,8 +74,8 @@ module _ (t : Forest Field) (ds ds′ : List ℕ) (h : (x : ℕ) → among x ds 
       ∙ ap (λ (z : Answer Placed). one-placed t ds′ last k p f m >>= λ q. z >>= λ r. ok (joined q r)) (all-same (suc (last + size m)) (suc k) ps n)
       ∙ sym (placed-step t ds′ last k p ps f m n)
 
-module _ (t : Forest Field) (ids request deletions : List ℕ) (d : ℕ) (added additions : List ℕ) (total m last : ℕ) (c : Check) (gone : List ℕ) (dc : DropsAll t ids request deletions d c gone) where
-  pub changes-stop : (x : Refusal) (us fs st : List ℕ) → c ≡ check.Refused x → Decides t ids request deletions d added additions total m last (decided.Refused x) gone us fs st
+module _ (t : Forest Field) (ids request deletions : List ℕ) (d : ℕ) (added additions : List ℕ) (total m last : ℕ) (c : Check) (bits : List ℕ) (dc : DropsAll t ids request deletions d c bits) where
+  pub changes-stop : (x : Refusal) (us fs st : List ℕ) → c ≡ check.Refused x → Decides t ids request deletions d added additions total m last (decided.Refused x) bits us fs st
   unfolding changes
   changes-stop x us fs st q =
       let e = (rw q at dc) .by in
@@ -84,11 +84,11 @@ module _ (t : Forest Field) (ids request deletions : List ℕ) (d : ℕ) (added 
       differ : (i : ℕ) → decided.Refused x ≡ decided.Last i → ⊥
       differ i z = let y : _≡_ {A = ℕ} 0 1 = cc in omega arith
 
-  pub changes-go : (s : Dropped) (r : Decided) (kept us fs st : List ℕ) → c ≡ check.Fine → Gathered gone d s → PlacesAll t (dropped-ids s) request added additions total m last r us fs st → kept ≡ gone → Decides t ids request deletions d added additions total m last r kept us fs st
+  pub changes-go : (s : Dropped) (r : Decided) (kept us fs st : List ℕ) → c ≡ check.Fine → Gathered bits d s → PlacesAll t (dropped-ids s) request added additions total m last r us fs st → kept ≡ bits → Decides t ids request deletions d added additions total m last r kept us fs st
   unfolding changes all-placed
   changes-go s r kept us fs st q g p k =
       let e = (rw q at dc) .by in
       record {
-        by = subst (λ (z : Answer Placed). PlacesBy r z request added total m last us fs st) (all-same t (dropped-ids s) (gone-ids gone d) (g .holds) last 0 _ _ ∙ sym (bind-is _ _ (gone-ids gone d) e)) (p .by);
+        by = subst (λ (z : Answer Placed). PlacesBy r z request added total m last us fs st) (all-same t (dropped-ids s) (row-ids bits d) (g .holds) last 0 _ _ ∙ sym (bind-is _ _ (row-ids bits d) e)) (p .by);
         dropped = λ i z. rw k e;
       }

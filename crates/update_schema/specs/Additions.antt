@@ -25,7 +25,7 @@ use Rattle.update_dropped.specs.declared.Dropped.{Dropped}
 use Rattle.update_dropped.specs.Set.{dropped-ids}
 use Rattle.update_rebuild.specs.declared.Given.{Given}
 use Rattle.update_rebuild.specs.Sources.{parent, additions}
-use Rattle.update_rebuild.specs.Planned.{gone-in, unders-in, firsts-in, starts-in}
+use Rattle.update_rebuild.specs.Planned.{drops-in, unders-in, firsts-in, starts-in}
 use Rattle.update_schema.specs.declared.Decided.{Decided}
 use Rattle.update_schema.specs.declared.Decided.the-variants as decided
 use Rattle.update_schema.specs.Base.{Entries}
@@ -108,4 +108,4 @@ ColumnsIn l additions given = Columns (l .request-pool) (l .added-records) addit
 pub record PlacesIn (l : Trees) (additions : List ℕ) (given : Given) (plan : List (List ℕ)) (dropped : Dropped) (r : Decided) (old new : List (List ℕ)) : Type 0 where
   pub places : PlacesAll (fields-in l plan (given .base)) (dropped-ids dropped) (l .request-pool) (l .added-records) additions
       (given .additions) (given .added) (given .last) r (unders-in new) (firsts-in new) (starts-in new)
-  pub gone : gone-in new ≡ gone-in old
+  pub same-drops : drops-in new ≡ drops-in old

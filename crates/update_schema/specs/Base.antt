@@ -15,7 +15,7 @@ use Rattle.laws.proofs.Basics.{Distinct}
 use Rattle.record.specs.Trees.{Trees}
 use Rattle.plan.specs.Plan.{plan-fields, Plan}
 use Rattle.plan.specs.Table.{sources, numbers, members}
-use Rattle.update_rebuild.specs.Planned.{gone-in, unders-in, firsts-in, starts-in}
+use Rattle.update_rebuild.specs.Planned.{drops-in, unders-in, firsts-in, starts-in}
 
 -- The n records of the base, with their trees, are the plan, and no id of it stands twice.
 pub record Based (l : Trees) (xs is ks : List ℕ) (n : ℕ) : Type 0 where
@@ -52,7 +52,7 @@ AdditionIn l additions k slot = Addition (l .request-pool) (l .added-records) ad
 -- Four rows of 64 numbers.
 pub record DecisionsRoom (decisions : List (List ℕ)) : Type 0 where
   pub rows : length decisions ≡ 4
-  pub gone-room : length (gone-in decisions) ≡ 64
+  pub drops-room : length (drops-in decisions) ≡ 64
   pub unders-room : length (unders-in decisions) ≡ 64
   pub firsts-room : length (firsts-in decisions) ≡ 64
   pub starts-room : length (starts-in decisions) ≡ 64

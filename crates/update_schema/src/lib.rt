@@ -28,9 +28,9 @@ use update_decide::place_at_root;
 use update_decide::place_under;
 use update_dropped::Dropped;
 use update_dropped::gather;
+use update_rebuild::DROPS;
 use update_rebuild::Decisions;
 use update_rebuild::FIRSTS;
-use update_rebuild::GONE;
 use update_rebuild::Given;
 use update_rebuild::STARTS;
 use update_rebuild::UNDERS;
@@ -96,8 +96,8 @@ fn drop_columns<'a>(
         let path = path_at(trees[REQUEST_POOL], deletions, k);
         let found = look_name(trees, plan, given.base, index, path);
         match drop_one(found, lists[IDENTIFIERS], k as u32) {
-            Dropping::Gone(id) => {
-                decisions[GONE][k] = long(id.0);
+            Dropping::Id(id) => {
+                decisions[DROPS][k] = long(id.0);
             }
             Dropping::Refused(r) => {
                 return Check::Refused(r);
@@ -284,7 +284,7 @@ pub fn decide_changes<'a>(
         return Decided::Refused(r);
     }
     let mut dropped = Dropped { ids: [0; 64], n: 0 };
-    dropped.n = gather(&decisions[GONE], given.deletions, &mut dropped.ids);
+    dropped.n = gather(&decisions[DROPS], given.deletions, &mut dropped.ids);
     place_columns(
         trees,
         lists[ADDITIONS],

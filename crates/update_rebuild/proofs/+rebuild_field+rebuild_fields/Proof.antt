@@ -46,8 +46,8 @@ abbrev rebuild-fields-Inv-loop : rebuild-fields-lts.InvT-loop
 rebuild-fields-Inv-loop trees given under dropped drops decisions plan₀ at records levels left₀ here₀ plan left here =
     let l = trees-in trees in
     let adds = additions-in (l .added-records) given decisions in
-    let gone = dropped-ids (set-of dropped drops) in
-    Rebuilding (l .records) gone adds (given .base) levels (parent (under .q)) (under .opens) (RowPlanned (l .records) gone adds (given .base) levels left₀ (here₀ .next) (parent (under .q)) (under .opens) plan₀ at) left (here .next) (here .at) (here .count) plan
+    let ds = dropped-ids (set-of dropped drops) in
+    Rebuilding (l .records) ds adds (given .base) levels (parent (under .q)) (under .opens) (RowPlanned (l .records) ds adds (given .base) levels left₀ (here₀ .next) (parent (under .q)) (under .opens) plan₀ at) left (here .next) (here .at) (here .count) plan
 
 abbrev rebuild-fields-μ-loop : rebuild-fields-lts.MeasureT-loop
 rebuild-fields-μ-loop trees given under dropped drops decisions plan₀ at records levels left₀ here₀ plan left here = left
