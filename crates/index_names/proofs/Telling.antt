@@ -11,6 +11,7 @@ use lib.Seq.{sets, getD-append-add}
 use Rattle.paper.specs.Bytes.{from}
 use Rattle.paper.specs.Forest.{Forest, empty, node, size}
 use Rattle.paper.specs.Rows.{dotted}
+use Rattle.laws.proofs.Agreeing.{Agrees, agrees-first, agrees-left, agrees-right}
 use Rattle.laws.proofs.Runs.{getD-sets}
 use Rattle.tree.proofs.Filled.{lt-or-le}
 use Rattle.record.specs.Trees.{Trees}
@@ -73,23 +74,8 @@ module _ (G name : ℕ → List ℕ) where
         above = λ p z. let q : p ≡ k = omega arith in (omega arith, rw (q, e) (sym (append-assoc pre (name k) (46 ∷ []))));
       }
 
-  Agrees : ℕ → ℕ → List (List ℕ) → Type 0
-  Agrees k m xs = (i : ℕ) → i < m → G (k + i) ≡ getD xs i []
-
   Links : ℕ → ℕ → List ℕ → List (List ℕ) → Type 0
   Links k m us xs = (i : ℕ) → i < m → Link (k + i) (getD us i 0) (getD xs i [])
-
-  agrees-left : (k m m′ : ℕ) (x : List ℕ) (xs ys : List (List ℕ)) → length xs ≡ m → Agrees k (suc (m + m′)) (x ∷ (xs ++ ys)) → Agrees (suc k) m xs
-  unfolding Agrees
-  agrees-left k m m′ x xs ys e h i l =
-      let a : suc k + i ≡ k + suc i = omega arith in
-      rw a (h (suc i) (omega arith) ∙ List·getD-append xs ys [] i (omega arith))
-
-  agrees-right : (k m m′ : ℕ) (x : List ℕ) (xs ys : List (List ℕ)) → length xs ≡ m → Agrees k (suc (m + m′)) (x ∷ (xs ++ ys)) → Agrees (suc k + m) m′ ys
-  unfolding Agrees
-  agrees-right k m m′ x xs ys e h i l =
-      let a : suc k + m + i ≡ k + suc (length xs + i) = omega arith in
-      rw a (h (suc (length xs + i)) (omega arith) ∙ getD-append-add xs ys i [])
 
   links-both : (k m m′ u : ℕ) (x : List ℕ) (us vs : List ℕ) (xs ys : List (List ℕ)) → length us ≡ m → length xs ≡ m → Link k u x → Links (suc k) m us xs → Links (suc k + m) m′ vs ys → Links k (suc (m + m′)) (u ∷ (us ++ vs)) (x ∷ (xs ++ ys))
   unfolding Links
@@ -105,21 +91,20 @@ module _ (G name : ℕ → List ℕ) where
       rw (z, g, h) (c (i - m) (omega arith)))
       (lt-or-le i m)
 
-  links : (f : Forest ℕ) (k u : ℕ) (pre : List ℕ) → Numbered k f → Agrees k (size f) (fulls name pre f) → Base k u pre → Links k (size f) (ups u f) (fulls name pre f)
-  unfolding Agrees Links fulls ups size
+  links : (f : Forest ℕ) (k u : ℕ) (pre : List ℕ) → Numbered k f → Agrees G [] k (size f) (fulls name pre f) → Base k u pre → Links k (size f) (ups u f) (fulls name pre f)
+  unfolding Links fulls ups size
   links empty k u pre nd ag b = λ i l. absurd (omega arith)
   links (node j f g) k u pre nd ag b =
       let e : j ≡ k = nd .0 in
-      let first : G k ≡ pre ++ name k = rw (add-zero k) at (ag 0 (omega arith)) ∙ ap (λ t. pre ++ name t) e in
       let fs = fulls name (dotted pre (name k)) f in
       let gs = fulls name pre g in
-      let ag′ : Agrees k (suc (size f + size g)) ((pre ++ name k) ∷ (fs ++ gs)) = subst (λ t. Agrees k (size (node t f g)) (fulls name pre (node t f g))) e ag in
+      let ag′ : Agrees G [] k (suc (size f + size g)) ((pre ++ name k) ∷ (fs ++ gs)) = subst (λ t. Agrees G [] k (size (node t f g)) (fulls name pre (node t f g))) e ag in
       let lf = length-fulls name (dotted pre (name k)) f in
       subst (λ t. Links k (size (node t f g)) (ups u (node t f g)) (fulls name pre (node t f g))) (sym e)
       (links-both k (size f) (size g) u (pre ++ name k) (ups (suc k) f) (ups u g) fs gs (length-ups (suc k) f) lf
       (here k u pre b)
-      (links f (suc k) (suc k) (dotted pre (name k)) (nd .1 .0) (agrees-left k (size f) (size g) (pre ++ name k) fs gs lf ag′) (below k pre first))
-      (links g (suc k + size f) u pre (nd .1 .1) (agrees-right k (size f) (size g) (pre ++ name k) fs gs lf ag′) (later k (suc k + size f) u pre b (omega arith))))
+      (links f (suc k) (suc k) (dotted pre (name k)) (nd .1 .0) (agrees-left G [] k (size f) (size g) (pre ++ name k) fs gs ag′ lf) (below k pre (agrees-first G [] k (size f) (size g) (pre ++ name k) fs gs ag′)))
+      (links g (suc k + size f) u pre (nd .1 .1) (agrees-right G [] k (size f) (size g) (pre ++ name k) fs gs ag′ lf) (later k (suc k + size f) u pre b (omega arith))))
 
   all-links : (f : Forest ℕ) → Numbered 0 f → ((i : ℕ) → i < size f → G i ≡ getD (fulls name [] f) i []) → (i : ℕ) → i < size f → Link i (getD (ups 0 f) i 0) (getD (fulls name [] f) i [])
   unfolding Agrees Links

@@ -13,6 +13,8 @@ pub mod Whole
 pub mod Octets
 pub mod Natural
 pub mod Pointwise
+pub mod Agreeing
+pub mod Among
 pub mod Going
 pub mod Own
 pub mod Same

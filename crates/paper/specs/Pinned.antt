@@ -220,6 +220,7 @@ going =
     gives (1 ∷ 2 ∷ 3 ∷ 11 ∷ 4 ∷ 5 ∷ 12 ∷ []) with-last 12)
     ∷ (of tree-of struct-in-list ask drop ("l.element" ∷ []) add (("x" under "l.s") ∷ [])
     gives (1 ∷ 2 ∷ 3 ∷ 4 ∷ 11 ∷ []) with-last 11)
+    ∷ (of tree-of struct-in-list ask drop ("l.element" ∷ []) add (("a" under "l.s") ∷ []) gives refusal 17 list 3 place 0)  -- 37
     ∷ (of tree-of struct-in-list ask drop ("l.element" ∷ "l.s" ∷ []) add (("x" under "l.s") ∷ []) gives refusal 22 list 3 place 0)
     ∷ (of tree-of struct-in-list ask drop ("l.element" ∷ "l" ∷ []) add (("x" under "l.s") ∷ []) gives refusal 22 list 3 place 0)
     -- What is dropped beneath the receiving struct, or beside it, is no reason; at the root nothing is.

@@ -82,6 +82,19 @@ stands-then q (node f m n) u c (inr (inl h)) = inl (inr (inl h))
 stands-then q (node f m n) u c (inr (inr h)) =
     ⊎-elim (λ k. inl (inr (inr k))) (λ k. inr k) (stands-then q n u c h)
 
+module _ (q : Option ℕ) where
+  pub then-left : (t u : Forest Field) (c : Column) → Stands q t c → Stands q (t then u) c
+  unfolding _then_
+  then-left empty u c h = absurd h
+  then-left (node f m n) u c (inl e) = inl e
+  then-left (node f m n) u c (inr (inl h)) = inr (inl h)
+  then-left (node f m n) u c (inr (inr h)) = inr (inr (then-left n u c h))
+
+  pub then-right : (t u : Forest Field) (c : Column) → Stands q u c → Stands q (t then u) c
+  unfolding _then_
+  then-right empty u c h = h
+  then-right (node f m n) u c h = inr (inr (then-right n u c h))
+
 pub stands-cond : (q : Option ℕ) (b : Bool) (t u : Forest Field) (c : Column) → Stands q (cond b t u) c
     → Stands q t c ⊎ Stands q u c
 stands-cond q true t u c h = inl h

@@ -11,6 +11,7 @@ use lib.Dec.{eqb, leb}
 use borrow.Author.Tests.{eq-eqb, eqb-true, eqb-false, leb-true, leb-false}
 use Rattle.paper.specs.Answer.{any, repeated}
 use Rattle.laws.specs.Members.{_∈_}
+use Rattle.laws.proofs.Basics.{Distinct}
 use Rattle.theorems.specs.Numbers.{range, tally}
 
 -- ---- range
@@ -39,6 +40,30 @@ pub tally-in : (i : ℕ) (s : List ℕ) → i ∈ s → 1 ≤ tally i s
 tally-in i [] h = absurd h
 tally-in i (x ∷ s) (inl e) = rw (eq-eqb i x e) (omega arith)
 tally-in i (x ∷ s) (inr h) = let r = tally-in i s h in omega arith
+
+pub in-tally : (i : ℕ) (s : List ℕ) → 1 ≤ tally i s → i ∈ s
+in-tally i [] l = absurd (omega arith)
+in-tally i (x ∷ s) l = go (eqb i x) refl l (in-tally i s)
+  where
+    go : (b : Bool) → eqb i x ≡ b → 1 ≤ cond b 1 0 + tally i s → (1 ≤ tally i s → i ∈ s) → i ∈ (x ∷ s)
+    go true e l f = inl (eqb-true i x e)
+    go false e l f = inr (f (omega arith))
+
+pub tally-out : (i : ℕ) (s : List ℕ) → (i ∈ s → ⊥) → tally i s ≡ 0
+tally-out i [] out = refl
+tally-out i (x ∷ s) out = go (eqb i x) refl (tally-out i s (λ h. out (inr h)))
+  where
+    go : (b : Bool) → eqb i x ≡ b → tally i s ≡ 0 → cond b 1 0 + tally i s ≡ 0
+    go true e z = absurd (out (inl (eqb-true i x e)))
+    go false e z = omega arith
+
+pub tally-distinct : (i : ℕ) (s : List ℕ) → Distinct s → tally i s ≤ 1
+tally-distinct i [] d = omega arith
+tally-distinct i (x ∷ s) d = go (eqb i x) refl (tally-distinct i s (d .1))
+  where
+    go : (b : Bool) → eqb i x ≡ b → tally i s ≤ 1 → cond b 1 0 + tally i s ≤ 1
+    go true e l = let z = tally-out i s (rw (← (eqb-true i x e)) at (d .0)) in omega arith
+    go false e l = omega arith
 
 -- Each number of a range stands in it once, and no other does.
 pub record Once (i c n : ℕ) : Type 0 where

@@ -12,6 +12,9 @@ pub mod Pruned
 pub mod Opened
 pub mod Again
 pub mod Storing
+pub mod Receiving
+pub mod Standing
+pub mod Weighing
 pub mod Beginning
 pub mod Wrong
 pub mod One

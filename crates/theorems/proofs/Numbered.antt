@@ -43,4 +43,5 @@ one-number-each =
       of-19 = λ b. only-if 19 4 0 (not b);
       of-20 = λ k. told;
       of-21 = λ k. told;
+      of-22 = only-if 22 3;
     }

@@ -9,7 +9,7 @@ use lib.IntN.{pos, negsuc}
 use Rattle.paper.specs.Answer.{Answer, ok, refused}
 use Rattle.paper.specs.Forest.{Forest, size}
 use Rattle.paper.specs.Field.{Field}
-use Rattle.paper.specs.Update.{Request, Schema}
+use Rattle.paper.specs.Update.{Request, Schema, Plan, planned}
 use Rattle.paper.specs.Rebuild.{update}
 use Rattle.paper.specs.Rows.{Row, look-name}
 use Rattle.paper.specs.Folded.{look-folded}
@@ -31,6 +31,7 @@ use Rattle.paper.proofs.Pins.{Held, pins}
 use Rattle.laws.specs.Fit.{Bytes}
 use Rattle.theorems.specs.Run.{Column, Has, Begins, run, evolve, Lasting, LastingRun}
 use Rattle.theorems.specs.Stored.{schema-of, request-of, LendsBytes, run-stored, BeginsStored, LastingStored}
+use Rattle.theorems.specs.Standing.{AdditionsStand, ConsumedAreAdded, NothingVanishes, GoneIsLeftOut, OfStored}
 use Rattle.theorems.specs.Again.{ReadsAgain}
 use Rattle.theorems.specs.Changed.{Pruned, Renumbered}
 use Rattle.theorems.specs.One.{NoByteChanges, PromisedFound, Told, RefusalsTold}
@@ -38,12 +39,15 @@ use Rattle.theorems.specs.Numbered.{OneNumberEach}
 use Rattle.theorems.specs.Sites.{IdsAreNoSlots}
 use Rattle.theorems.specs.Folds.{Alone, Second, ByRows, Plain, CaseForgotten, FoldingMet}
 use Rattle.theorems.specs.Many.{Lendable, OneByOne, InSlots}
-use Rattle.theorems.specs.Wrong.{P4, P5, RightUpdate, P8, P9, RightPruner}
+use Rattle.theorems.specs.Wrong.{P4, two-added, RightUpdate, P8, P9, RightPruner}
 use Rattle.theorems.proofs.Signed.{signed-natural, signed-negative}
 use Rattle.theorems.proofs.Evolution.{evolved-stays, lasting, one-column}
-use Rattle.theorems.proofs.Storing.{lasting-stored}
+use Rattle.theorems.proofs.Storing.{lasting-stored, of-stored}
+use Rattle.theorems.proofs.Standing.{additions-stand, consumed-added}
+use Rattle.theorems.proofs.Weighing as Weighing
+use Rattle.theorems.proofs.Weighing.{gone-left-out}
 use Rattle.theorems.proofs.Beginning.{T-schema, T-stored, T-requests, T-begins, T-begins-stored}
-use Rattle.theorems.proofs.Beginning.{T-lends-bytes, accepted-twice}
+use Rattle.theorems.proofs.Beginning.{T-lends-bytes, accepted-in-a-row}
 use Rattle.theorems.proofs.Ends as Ends
 use Rattle.theorems.proofs.Again.{decoded-again, update-again, prune-again, renumber-again}
 use Rattle.theorems.proofs.Again.{prune-parts, renumber-numbers}
@@ -114,13 +118,66 @@ ids-keep-columns-stored stored begins requests bytes =
 pub runs-begin : Begins T-schema × BeginsStored T-stored × LendsBytes T-requests
 runs-begin = (T-begins, T-begins-stored, T-lends-bytes)
 
--- and two of them in a row are accepted. The first consumes 11
--- for a column that vanishes; the second is given 13.
+-- and three of them in a row are accepted. The first adds 11 and 12;
+-- the second drops 12, `floor`, and adds 13; `floor`, added again, is 14.
 pub runs-go-on : (update-reply (update-entry T-stored (T-requests 0))
-    ≡ (1 ∷ 4 ∷ 5 ∷ 3 ∷ 8 ∷ 9 ∷ 10 ∷ 12 ∷ []) with-last 12)
+    ≡ (1 ∷ 4 ∷ 5 ∷ 11 ∷ 3 ∷ 8 ∷ 9 ∷ 10 ∷ 12 ∷ []) with-last 12)
     × (update-reply (update-entry (run-stored T-stored T-requests 1) (T-requests 1))
-    ≡ (1 ∷ 4 ∷ 5 ∷ 3 ∷ 8 ∷ 9 ∷ 10 ∷ 12 ∷ 13 ∷ []) with-last 13)
-runs-go-on = accepted-twice
+    ≡ (1 ∷ 4 ∷ 5 ∷ 11 ∷ 3 ∷ 8 ∷ 9 ∷ 10 ∷ 13 ∷ []) with-last 13)
+    × (update-reply (update-entry (run-stored T-stored T-requests 2) (T-requests 2))
+    ≡ (1 ∷ 4 ∷ 5 ∷ 11 ∷ 3 ∷ 8 ∷ 9 ∷ 10 ∷ 13 ∷ 14 ∷ []) with-last 14)
+runs-go-on = accepted-in-a-row
+
+-- ---- one update
+
+-- Every addition stands: each record that an accepted update adds is in the answer, under the parent that it was
+-- added to;
+pub every-addition-stands : (schema : Schema) (request : Request) (plan : Plan) (updated : Schema)
+    → planned schema request ≡ ok plan → update schema request ≡ ok updated
+    → AdditionsStand schema request plan updated
+every-addition-stands = additions-stand
+
+-- and so over bytes.
+pub every-addition-stands-stored : (stored : Stored) (lent : Lent) (result : Result) → Bytes (stored .records)
+    → Bytes (lent .added-records) → update-entry stored lent ≡ ok result → OfStored AdditionsStand stored lent result
+every-addition-stands-stored stored lent result bytes added accepted =
+    of-stored stored lent result bytes added accepted _ every-addition-stands
+
+-- So the ids that it consumes are exactly those that it adds.
+pub consumed-are-added : (schema : Schema) (request : Request) (plan : Plan) (updated : Schema)
+    → planned schema request ≡ ok plan → update schema request ≡ ok updated
+    → ConsumedAreAdded schema request plan updated
+consumed-are-added = consumed-added
+
+pub consumed-are-added-stored : (stored : Stored) (lent : Lent) (result : Result) → Bytes (stored .records)
+    → Bytes (lent .added-records) → update-entry stored lent ≡ ok result → OfStored ConsumedAreAdded stored lent result
+consumed-are-added-stored stored lent result bytes added accepted =
+    of-stored stored lent result bytes added accepted _ consumed-are-added
+
+-- Nothing vanishes: the records of the answer and those that go are those of the base and those added.
+pub nothing-vanishes : (schema : Schema) (request : Request) (plan : Plan) (updated : Schema)
+    → planned schema request ≡ ok plan → update schema request ≡ ok updated
+    → NothingVanishes schema request plan updated
+nothing-vanishes = Weighing.nothing-vanishes
+
+pub nothing-vanishes-stored : (stored : Stored) (lent : Lent) (result : Result) → Bytes (stored .records)
+    → Bytes (lent .added-records) → update-entry stored lent ≡ ok result → OfStored NothingVanishes stored lent result
+nothing-vanishes-stored stored lent result bytes added accepted =
+    of-stored stored lent result bytes added accepted _ nothing-vanishes
+
+-- What goes, and so refuses additions (22), is what the rebuild leaves out: a column of the base goes exactly where
+-- its id is missing in the answer.
+pub gone-is-left-out : (schema : Schema) (request : Request) (plan : Plan) (updated : Schema)
+    → planned schema request ≡ ok plan → update schema request ≡ ok updated
+    → GoneIsLeftOut schema request plan updated
+gone-is-left-out = gone-left-out
+
+pub gone-is-left-out-stored : (stored : Stored) (lent : Lent) (result : Result) → Bytes (stored .records)
+    → Bytes (lent .added-records) → update-entry stored lent ≡ ok result → OfStored GoneIsLeftOut stored lent result
+gone-is-left-out-stored stored lent result bytes added accepted =
+    of-stored stored lent result bytes added accepted _ gone-is-left-out
+
+-- ---- runs end
 
 -- A renumbering ends a run: no run lasts in which T is followed by T renumbered from 4, whatever was asked.
 pub renumbering-ends : (at : ℕ → Schema) (requests : ℕ → Request) (result : Result)
@@ -274,10 +331,10 @@ slots-are-in-order = in-slots
 
 -- ---- wrong programs
 
--- An update that answers P4 and P5 as the definition does is not one that turns all down, no no-op, not
+-- An update that answers P4 and two additions as the definition does is not one that turns all down, no no-op, not
 -- one that applies the first entry alone, and makes up no record count, name bytes or last id.
-pub no-wrong-update : (update : AnUpdate) → P4 update ≡ P4 update-entry → P5 update ≡ P5 update-entry
-    → RightUpdate update
+pub no-wrong-update : (update : AnUpdate) → P4 update ≡ P4 update-entry
+    → two-added update ≡ two-added update-entry → RightUpdate update
 no-wrong-update = right-update
 
 -- A pruner that answers P8 and P9 as the definition does hands back no constant tree.

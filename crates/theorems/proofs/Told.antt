@@ -22,6 +22,7 @@ use Rattle.paper.specs.Folded.{only, look-folded}
 use Rattle.paper.specs.Sound.{misnamed, names, ids, sound, within}
 use Rattle.paper.specs.Prune.{kept, pruned, tested, is-chosen, prune}
 use Rattle.paper.specs.Renumber.{renumber}
+use Rattle.paper.specs.Gone.{gone-columns}
 use Rattle.paper.specs.Update.{Request, Schema, Plan, receiver, root-taken, member-taken}
 use Rattle.paper.specs.Update.{deleted, placed, placed-all, planned}
 use Rattle.paper.specs.Rebuild.{rebuilt, added, carried-out, update}
@@ -151,6 +152,7 @@ placed-told t ds k x (some p) =
     told-bind (asked 15 3 (omega arith, omega arith, omega arith) k (look-name t p)) λ r.
     let to = receiver (r .field) (r .inside) (r .field .kind) in
     told-bind (asked 16 3 (omega arith, omega arith, omega arith) k to) λ s.
+    told-bind (test 22 3 (omega arith, omega arith, omega arith) k (among (s .id) (gone-columns ds t))) λ _.
     let taken = not (among (s .id) ds) && member-taken (s .members) x ds in
     told-bind (test 17 3 (omega arith, omega arith, omega arith) k taken) λ _. accepted
 

@@ -1,5 +1,5 @@
 -- The wrong programs of 01 are ruled out: the right answers to
--- P4, P5, P8 and P9 compute, and are none of theirs.
+-- P4, two additions, P8 and P9 compute, and are none of theirs.
 use Prim.Native.Nat.{ℕ, _+_}
 use mathlib.Core.Path.{_≡_, refl, sym, ap, _∙_}
 use mathlib.Core.List.{List, []}
@@ -11,6 +11,7 @@ use Rattle.paper.specs.Field.{Field}
 use Rattle.paper.specs.Rows.{rows, entered, look-name}
 use Rattle.paper.specs.Sound.{fitting, misnamed, names, ids, sound, name-bytes, within}
 use Rattle.paper.specs.Prune.{prune}
+use Rattle.paper.specs.Gone.{gone}
 use Rattle.paper.specs.Update.{deleted, member-taken, placed, placed-all, planned}
 use Rattle.paper.specs.Rebuild.{fresh, arrivals, arriving, rebuilt, carried-out, update}
 use Rattle.paper.specs.Bytes.{word16, word32, turned, ok-bytes, in-pool, kind-from, name-of, field-at, from}
@@ -25,7 +26,8 @@ use Rattle.paper.specs.Entries.{Result, update-entry, prune-entry}
 use Rattle.paper.specs.Outcome.{Changed, changed}
 use Rattle.paper.specs.Sample.{T}
 use Rattle.paper.specs.Asked.{AnUpdate, APruner}
-use Rattle.theorems.specs.Wrong.{counted, P4, P5, P4-first, P5-first, RightUpdate, P8, P9, RightPruner}
+use Rattle.theorems.specs.Wrong.{counted, P4, two-added, P4-first, two-added-first, RightUpdate}
+use Rattle.theorems.specs.Wrong.{P8, P9, RightPruner}
 
 -- The ids of an accepted answer; the third of a list.
 abbrev ids-of : Answer Result → List ℕ
@@ -37,18 +39,18 @@ third l = getD l 2 0
 
 record Computed : Type 0 where
   P4-counts : changed (P4 update-entry) ≡ counted 10 48 11
-  P5-counts : changed (P5 update-entry) ≡ counted 8 37 12
+  two-added-counts : changed (two-added update-entry) ≡ counted 9 42 12
   P4-third : third (ids-of (P4 update-entry)) ≡ 2_147_483_648 + 11
   T-third : third (ids T) ≡ 2_147_483_648 + 5
   P4-first-counts : changed (P4-first update-entry) ≡ counted 9 44 10
-  P5-first-counts : changed (P5-first update-entry) ≡ counted 7 32 11
+  two-added-first-counts : changed (two-added-first update-entry) ≡ counted 8 37 11
   P8-many : length (ids-of (P8 prune-entry)) ≡ 3
   P9-many : length (ids-of (P9 prune-entry)) ≡ 1
 
 answers : Computed
 unfolding update-entry prune-entry changed _>>=_ lowest size siblings levels preorder counts mapped _then_
     rows entered look-name fitting misnamed names ids sound name-bytes within prune
-    deleted member-taken placed placed-all planned fresh arrivals arriving rebuilt carried-out update
+    gone deleted member-taken placed placed-all planned fresh arrivals arriving rebuilt carried-out update
     word16 word32 turned ok-bytes in-pool kind-from name-of field-at from
     ok-deletion ok-addition path-in entries-ok path-of parent-path deletion-paths addition-paths id-list
     deep row-with row roots fields decode row24 encode-records encode-names pool-bytes
@@ -56,11 +58,11 @@ unfolding update-entry prune-entry changed _>>=_ lowest size siblings levels pre
 answers =
     record {
       P4-counts = refl;
-      P5-counts = refl;
+      two-added-counts = refl;
       P4-third = refl;
       T-third = refl;
       P4-first-counts = refl;
-      P5-first-counts = refl;
+      two-added-first-counts = refl;
       P8-many = refl;
       P9-many = refl;
     }
@@ -74,9 +76,9 @@ counts-differ a b e e′ q = ap (λ (c : Changed). c .records) (sym e ∙ ap cha
 many-ids : (a b : Answer Result) → a ≡ b → length (ids-of a) ≡ length (ids-of b)
 many-ids a b q = ap (λ (x : Answer Result). length (ids-of x)) q
 
-pub right-update : (f : AnUpdate) → P4 f ≡ P4 update-entry → P5 f ≡ P5 update-entry → RightUpdate f
+pub right-update : (f : AnUpdate) → P4 f ≡ P4 update-entry → two-added f ≡ two-added update-entry → RightUpdate f
 unfolding changed
-right-update f p4 p5 =
+right-update f p4 two =
     record {
       not-all-down = λ n l p e.
           let down : changed (P4 update-entry) ≡ changed (refused n l p) = ap changed (sym p4 ∙ e) in
@@ -93,11 +95,12 @@ right-update f p4 p5 =
             let z = counts-differ (P4 update-entry) _ (answers .P4-counts) (answers .P4-first-counts) (sym p4 ∙ e) in
             omega arith,
         λ e.
-            let z = counts-differ (P5 update-entry) _ (answers .P5-counts) (answers .P5-first-counts) (sym p5 ∙ e) in
+            let first = answers .two-added-first-counts in
+            let z = counts-differ (two-added update-entry) _ (answers .two-added-counts) first (sym two ∙ e) in
             omega arith,
       );
       P4-counts = ap changed p4 ∙ answers .P4-counts;
-      P5-counts = ap changed p5 ∙ answers .P5-counts;
+      two-added-counts = ap changed two ∙ answers .two-added-counts;
     }
 
 pub right-pruner : (f : APruner) → P8 f ≡ P8 prune-entry → P9 f ≡ P9 prune-entry → RightPruner f

@@ -8,7 +8,7 @@ use mathlib.Core.Option.{Option, none, some}
 use Rattle.paper.specs.Answer.{Answer, ok, refused}
 use Rattle.paper.specs.Refusals.{last-refusal, roomy, limited, unbroken, pooled, misshapen, named, own-ids, own-names}
 use Rattle.paper.specs.Refusals.{identified, matched, found-column, no-identifier, dotless, fillable, found-parent}
-use Rattle.paper.specs.Refusals.{found-struct, free-name, ids-left, rebuilt-within, chosen-directly, ambiguous}
+use Rattle.paper.specs.Refusals.{found-struct, free-name, ids-left, rebuilt-within, chosen-directly, ambiguous, standing}
 use Rattle.theorems.specs.Numbers.{range}
 
 -- No refusal, or one of this number.
@@ -30,7 +30,7 @@ numbers-given =
     ∷ number-of (found-column 0 absent) ∷ number-of (no-identifier 0 true) ∷ number-of (dotless 0 true)
     ∷ number-of (fillable 0 true) ∷ number-of (found-parent 0 absent) ∷ number-of (found-struct 0 absent)
     ∷ number-of (free-name 0 true) ∷ number-of (ids-left 0 0 true) ∷ number-of (rebuilt-within false)
-    ∷ number-of {A = ℕ} (chosen-directly 0) ∷ number-of {A = ℕ} (ambiguous 0) ∷ []
+    ∷ number-of {A = ℕ} (chosen-directly 0) ∷ number-of {A = ℕ} (ambiguous 0) ∷ number-of (standing 0 true) ∷ []
 
 pub record OneNumberEach : Type 1 where
   -- From 1 to the last, each once;
@@ -57,3 +57,4 @@ pub record OneNumberEach : Type 1 where
   pub of-19 : (within : Bool) → Only 19 (rebuilt-within within)
   pub of-20 : {A : Type 0} (slot : ℕ) → Only {A = A} 20 (chosen-directly slot)
   pub of-21 : {A : Type 0} (second : ℕ) → Only {A = A} 21 (ambiguous second)
+  pub of-22 : (place : ℕ) (gone : Bool) → Only 22 (standing place gone)

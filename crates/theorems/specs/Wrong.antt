@@ -1,4 +1,4 @@
--- The wrong programs of 01, told from the right ones by P4, P5, P8 and P9.
+-- The wrong programs of 01, told from the right ones by P4, two additions, P8 and P9.
 use Prim.Native.Nat.{ℕ}
 use mathlib.Core.Path.{_≡_}
 use mathlib.Core.Bool.{false}
@@ -14,29 +14,30 @@ use Rattle.paper.specs.Asked.{AnUpdate, APruner, asked-update, asked-prune, at-
 abbrev pub P4 : AnUpdate → Answer Result
 P4 update = asked-update update ("node.cost" ∷ []) (("cost" under "node") ∷ [])
 
-abbrev pub P5 : AnUpdate → Answer Result
-P5 update = asked-update update ("visits" ∷ []) (("fault" under "visits") ∷ at-root "floor" ∷ [])
+-- A deletion and two additions, one under a struct, one at the root. 01's P5 served before 02, 3/13: it is 22 now.
+abbrev pub two-added : AnUpdate → Answer Result
+two-added update = asked-update update ("visits" ∷ []) (("fault" under "node") ∷ at-root "floor" ∷ [])
 
--- P4 with its first entry alone, the deletion; P5 with the first entry of each list alone.
+-- P4 with its first entry alone, the deletion; the other with the first entry of each list alone.
 abbrev pub P4-first : AnUpdate → Answer Result
 P4-first update = asked-update update ("node.cost" ∷ []) []
 
-abbrev pub P5-first : AnUpdate → Answer Result
-P5-first update = asked-update update ("visits" ∷ []) (("fault" under "visits") ∷ [])
+abbrev pub two-added-first : AnUpdate → Answer Result
+two-added-first update = asked-update update ("visits" ∷ []) (("fault" under "node") ∷ [])
 
 -- What an accepted answer says.
 abbrev pub counted : (records names last-id : ℕ) → Changed
 counted records names last-id =
     record { refusal = 0; list = 0; place = 0; records = records; names = names; last-id = last-id }
 
--- What an update can't be that answers P4 and P5 as the paper does.
+-- What an update can't be that answers P4 and the two additions as the paper does.
 pub record RightUpdate (update : AnUpdate) : Type 0 where
   pub not-all-down : (n l p : ℕ) → P4 update ≡ refused n l p → ⊥
   pub not-no-op : (result : Result) → P4 update ≡ ok result → result .tree ≡ T → ⊥
-  pub not-first-alone : (P4 update ≡ P4-first update-entry → ⊥) × (P5 update ≡ P5-first update-entry → ⊥)
+  pub not-first-alone : (P4 update ≡ P4-first update-entry → ⊥) × (two-added update ≡ two-added-first update-entry → ⊥)
   -- Record count, name bytes and last id are these, so no made-up ones.
   pub P4-counts : changed (P4 update) ≡ counted 10 48 11
-  pub P5-counts : changed (P5 update) ≡ counted 8 37 12
+  pub two-added-counts : changed (two-added update) ≡ counted 9 42 12
 
 -- ---- pruners
 

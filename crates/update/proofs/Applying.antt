@@ -35,7 +35,7 @@ use Rattle.plan.specs.Table.{Roomy}
 use Rattle.index_ids.specs.Table.{Rooms}
 use Rattle.index.specs.Index.{Readable, BaseIndexed}
 use Rattle.update_rebuild.specs.declared.Given.{Given}
-use Rattle.update_rebuild.specs.Planned.{gone-in, unders-in}
+use Rattle.update_rebuild.specs.Planned.{drops-in, unders-in}
 use Rattle.update_request.specs.declared.Opened.{Opened}
 use Rattle.update_request.specs.declared.Opened.the-variants as it
 use Rattle.update_request.specs.Opened.{Forests, both-trees, readable, opening, opened, Opens}
@@ -43,7 +43,7 @@ use Rattle.update_request.proofs.Opening.{open-refused}
 use Rattle.update_schema.specs.declared.Decided.{Decided}
 use Rattle.update_schema.specs.declared.Decided.the-variants as decided
 use Rattle.update_schema.specs.Base.{DecisionsRoom}
-use Rattle.update_dropped.specs.Gathered.{gone-ids}
+use Rattle.update_dropped.specs.Gathered.{row-ids}
 use Rattle.update_schema.specs.Additions.{parents-in}
 use Rattle.update_write.specs.Ending.{sounded, limited-sounded, Rebuildable, rebuilt-tree, Ends}
 use Rattle.update.specs.Updating.{given-in, Passed, Decidable, Settled, Settles}
@@ -205,7 +205,7 @@ module _ (l : Trees) (lists : Lists) (last : ℕ) (out text : List ℕ) where
                     added-count = refl;
                     root-count = opened-as .root-count;
                     few = identifiers-most _ _ true (sym (opened-as .passed .limits 0 0 0)) refl;
-                    few-gone = omega arith;
+                    few-drops = omega arith;
                     resolved = the-plan .resolved;
                     plan-room = b .roomy;
                     index-room = b .rooms;
@@ -215,7 +215,7 @@ module _ (l : Trees) (lists : Lists) (last : ℕ) (out text : List ℕ) where
 
               abbrev paper-tree : Forest Field
               paper-tree =
-                  rebuilt id-of kind-of (gone-ids (gone-in decisions′) (entries (lists .deletions)))
+                  rebuilt id-of kind-of (row-ids (drops-in decisions′) (entries (lists .deletions)))
                   (arrivals with-id g (parents-in (unders-in decisions′) (entries (lists .additions))) added) none true base
 
               tree-is : rebuilt-tree l (given-in l lists consumed) decisions′ base ≡ paper-tree
@@ -237,4 +237,4 @@ module _ (l : Trees) (lists : Lists) (last : ℕ) (out text : List ℕ) where
 pub fresh-decisions : DecisionsRoom (replicate 4 (replicate 64 0))
 fresh-decisions =
     let wide : length (replicate {A = ℕ} 64 0) ≡ 64 = length-replicate {A = ℕ} 64 0 in
-    record { rows = refl; gone-room = wide; unders-room = wide; firsts-room = wide; starts-room = wide }
+    record { rows = refl; drops-room = wide; unders-room = wide; firsts-room = wide; starts-room = wide }

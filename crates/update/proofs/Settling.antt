@@ -21,6 +21,7 @@ use Rattle.record.specs.declared.Refusal.{Refusal}
 use Rattle.record.specs.Says.{refusal-of}
 use Rattle.record.specs.Trees.{Trees, Lists, stored-in, lent-in}
 use Rattle.laws.proofs.Basics.{unbind, ok-is, fault-ok}
+use Rattle.laws.proofs.Own.{sound-distinct}
 use Rattle.laws.proofs.Fitting.{sized-slots}
 use Rattle.laws.proofs.Preorder.{siblings-mapped}
 use Rattle.laws.proofs.Runs.{length-from}
@@ -30,12 +31,12 @@ use Rattle.tree.proofs.Roots.{roots-row}
 use Rattle.tree.proofs.Steps.{part-is, reads-is}
 use Rattle.plan.specs.Table.{fields-in}
 use Rattle.update_rebuild.specs.declared.Given.{Given}
-use Rattle.update_rebuild.specs.Planned.{gone-in, unders-in, firsts-in, starts-in}
+use Rattle.update_rebuild.specs.Planned.{drops-in, unders-in, firsts-in, starts-in}
 use Rattle.update_request.specs.Opened.{Forests, both-trees, readable}
 use Rattle.update_schema.specs.declared.Decided.{Decided}
 use Rattle.update_schema.specs.declared.Decided.the-variants as decided
 use Rattle.update_schema.specs.Base.{BasedIn, Entries, DecisionsRoom}
-use Rattle.update_dropped.specs.Gathered.{gone-ids}
+use Rattle.update_dropped.specs.Gathered.{row-ids}
 use Rattle.update_schema.specs.Additions.{ColumnsIn, parents-in, all-placed, Placings}
 use Rattle.update_schema.specs.Changes.{changes, Asked, Decides, DecidesIn}
 use Rattle.update.specs.Updating.{given-in, Decidable, planned-in, Settled, Settles}
@@ -146,7 +147,7 @@ module _ (l : Trees) (lists : Lists) (last columns : ℕ) (plan index decisions 
       the-base : BasedIn l plan n
       the-base =
           let p = decode-parts 0 (l .records) (l .pool) (fields-in l plan n) (h .tree) in
-          record { plan = h .is-plan; trees = p .trees; read = p .read; tree = sym (p .tree); whole = omega arith; bytes = p .bytes; named = p .named }
+          record { plan = h .is-plan; trees = p .trees; read = p .read; tree = sym (p .tree); whole = omega arith; bytes = p .bytes; named = p .named; own = sound-distinct 0 _ _ (h .is-sound) }
 
       added-few : m ≤ 1024
       added-few = sized-slots (l .added-records) (l .request-pool) (added-sized _ _ true (sym limits) refl) .0
@@ -212,7 +213,7 @@ module _ (l : Trees) (lists : Lists) (last columns : ℕ) (plan index decisions 
       module _ (y : Decided) (decisions′ : List (List ℕ)) (v : DecidesIn l lists g plan y decisions′) where
         at-tree : (base : Forest Field) → decode 0 (l .records) (l .pool) ≡ ok base
             → Decides base (id-list (lists .identifiers)) (l .request-pool) (lists .deletions) d (l .added-records) (lists .additions) a m last y
-            (gone-in decisions′) (unders-in decisions′) (firsts-in decisions′) (starts-in decisions′)
+            (drops-in decisions′) (unders-in decisions′) (firsts-in decisions′) (starts-in decisions′)
         at-tree base e = rw (base-is base e) at (rw eg at v)
 
         settled : (base added : Forest Field) → readable l lists ≡ ok (both-trees base added) → (j : ℕ) → y ≡ decided.Last j → Settled l lists last base added decisions′ j
@@ -225,7 +226,7 @@ module _ (l : Trees) (lists : Lists) (last columns : ℕ) (plan index decisions 
             record {
               is = planned-is base added e
                   ∙ chain-ok (deleted base (id-list (lists .identifiers)) 0 (from (path-of (l .request-pool) (lists .deletions)) 0 d)) (λ ds. all-placed base ds (l .request-pool) (l .added-records) (lists .additions) a m last) plan-from
-                  (gone-ids (gone-in decisions′) d) (record { parents = parents-in (unders-in decisions′) a; last = j }) (u .dropped j z) (p .is);
+                  (row-ids (drops-in decisions′) d) (record { parents = parents-in (unders-in decisions′) a; last = j }) (u .dropped j z) (p .is);
               most = p .most;
               resolved = record { whole = omega arith; small = added-few; few = few-entries; under = p .under; first = p .first; tree = p .tree };
               arrive = rw (row-is base added e .1) at (p .arrive (l .pool) (l .records));

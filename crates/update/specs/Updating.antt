@@ -21,12 +21,12 @@ use Rattle.plan.specs.Plan.{planned-field}
 use Rattle.plan.specs.Table.{PlanIn, fields-in}
 use Rattle.index.specs.Index.{Index}
 use Rattle.update_rebuild.specs.declared.Given.{Given}
-use Rattle.update_rebuild.specs.Planned.{gone-in, unders-in, ResolvedIn, additions-in}
+use Rattle.update_rebuild.specs.Planned.{drops-in, unders-in, ResolvedIn, additions-in}
 use Rattle.update_request.specs.Opened.{both-trees, readable}
 use Rattle.update_schema.specs.declared.Decided.{Decided}
 use Rattle.update_schema.specs.declared.Decided.the-variants as decided
 use Rattle.update_schema.specs.Base.{DecisionsRoom}
-use Rattle.update_dropped.specs.Gathered.{gone-ids}
+use Rattle.update_dropped.specs.Gathered.{row-ids}
 use Rattle.update_schema.specs.Additions.{parents-in}
 
 -- How much is lent, and the last id.
@@ -67,7 +67,7 @@ planned-in l lists last base added = planned (schema base last) (request-in (len
 pub record Settled (l : Trees) (lists : Lists) (last : ℕ) (base added : Forest Field) (decisions : List (List ℕ)) (consumed : ℕ) : Type 0 where
   pub is : planned-in l lists last base added
       ≡ ok (record {
-        dropped = gone-ids (gone-in decisions) (entries (lists .deletions));
+        dropped = row-ids (drops-in decisions) (entries (lists .deletions));
         parents = parents-in (unders-in decisions) (entries (lists .additions));
         last = consumed;
       })
@@ -76,7 +76,7 @@ pub record Settled (l : Trees) (lists : Lists) (last : ℕ) (base added : Forest
   pub arrive : mapped-all (planned-field l) (additions-in (l .added-records) (given-in l lists last) decisions)
       ≡ arrivals with-id last (parents-in (unders-in decisions) (entries (lists .additions))) added
 
--- The base's 7 to 9 were passed, so this is 10 to 18.
+-- The base's 7 to 9 were passed, so this is 10 to 18, and 22.
 pub record Settles (l : Trees) (lists : Lists) (last : ℕ) (r : Decided) (decisions : List (List ℕ)) : Type 0 where
   pub accepted : (base added : Forest Field) → readable l lists ≡ ok (both-trees base added) → (consumed : ℕ) → r ≡ decided.Last consumed
       → Settled l lists last base added decisions consumed

@@ -53,7 +53,7 @@ fn given_of<'a>(trees: &Trees<'a>, lists: &Lists<'a>, last: u64) -> Given
     }
 }
 
-// Decides all changes of a request that passed 1 to 9: refusal 10, then 11 to 18, or what the rebuild needs.
+// Decides all changes of a request that passed 1 to 9: refusal 10, then 11 to 18 and 22, or what the rebuild needs.
 fn decide<'a>(
     trees: &Trees<'a>,
     lists: &Lists<'a>,

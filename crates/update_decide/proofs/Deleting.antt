@@ -90,11 +90,11 @@ module _ (f : Found) (ids : List ℕ) (k : ℕ) (x : FieldId) (p : Slot) (b : Bo
       go none h q = absurd (at-none x p (sym e ∙ q))
       go (some r) h q = rw (asked r h q, t)
 
-  pub drop-goes : b ≡ false → Deleted f ids k (dropping.Gone x)
+  pub drop-goes : b ≡ false → Deleted f ids k (dropping.Id x)
   unfolding dropped-id _>>=_ drops
   drop-goes t = record { says = λ o. go o }
     where
-      go : (o : Option Row) → Known o → f ≡ found-row o → dropping.Gone x ≡ drops (dropped-id o ids k)
+      go : (o : Option Row) → Known o → f ≡ found-row o → dropping.Id x ≡ drops (dropped-id o ids k)
       go none h q = absurd (at-none x p (sym e ∙ q))
       go (some r) h q = rw (asked r h q, t, ← (found-is x p r (sym e ∙ q)))
 

@@ -15,6 +15,8 @@ use Rattle.record.specs.declared.Slot.{Slot}
 use Rattle.record.specs.declared.Found.{Found}
 use Rattle.record.specs.declared.Found.the-variants.{At, Nothing}
 use Rattle.record.specs.Says.{found-row, refusal-of}
+use Rattle.update_gone.specs.Gone.{base-slots}
+use Rattle.update_gone.proofs.Fields.{gone-fields}
 use Rattle.update_parents.specs.declared.Target.{Target}
 use Rattle.update_parents.specs.declared.Target.the-variants as target
 use Rattle.tree.specs.Read.{Standing}
@@ -22,14 +24,14 @@ use Rattle.update_parents.specs.Target.{receiving, targeted, receiver-at, Stand
 use Rattle.update_parents.proofs.Receiving.{receiver-is, receiving-stands}
 use Rattle.update_decide.specs.declared.Going.{Going}
 use Rattle.update_decide.specs.declared.Going.the-variants as going
-use Rattle.update_decide.specs.Entry.{goes, under-place, parent-place, Sited, FoundSited, UnderParent}
+use Rattle.update_decide.specs.Entry.{goes, taken-at, under-place, parent-place, Sited, FoundSited, UnderParent}
 use Rattle.update_decide.proofs.Deleting.{at-none, nothing-some}
 
 pub parent-nothing : (f : Found) (pool s : List ℕ) (n : ℕ) (ds : List ℕ) (k : ℕ) (x : List ℕ) → f ≡ Nothing → UnderParent f pool s n ds k x (going.Refused (refusal-of 15 3 k))
 unfolding parent-place _>>=_ goes
 parent-nothing f pool s n ds k x e = record { says = λ o. go o }
   where
-    go : (o : Option Row) → ((row : Row) → o ≡ some row → Stands pool s n row) → f ≡ found-row o → going.Refused (refusal-of 15 3 k) ≡ goes (parent-place o ds k x)
+    go : (o : Option Row) → ((row : Row) → o ≡ some row → Stands pool s n row) → f ≡ found-row o → going.Refused (refusal-of 15 3 k) ≡ goes (parent-place (fields pool s (base-slots s n)) o ds k x)
     go none h q = refl
     go (some r) h q = absurd (nothing-some r (sym e ∙ q))
 
@@ -72,14 +74,14 @@ module _ (f : Found) (pool s : List ℕ) (n : ℕ) (ds : List ℕ) (k : ℕ) (x 
     unfolding parent-place _>>=_ goes
     parent-shut q = record { says = λ o. go o }
       where
-        go : (o : Option Row) → ((row : Row) → o ≡ some row → Stands pool s n row) → f ≡ found-row o → going.Refused (refusal-of 16 3 k) ≡ goes (parent-place o ds k x)
+        go : (o : Option Row) → ((row : Row) → o ≡ some row → Stands pool s n row) → f ≡ found-row o → going.Refused (refusal-of 16 3 k) ≡ goes (parent-place (fields pool s (base-slots s n)) o ds k x)
         go none st a = absurd (at-none i p (sym e ∙ a))
         go (some r) st a = rw (received r (st r refl) a, to-none (receiving s n (p .0)) t et q)
 
     pub parent-joins : (j : Slot) (g : Going) → t ≡ target.Struct j → g ≡ goes (under-place pool s n (j .0) ds k x) → UnderParent f pool s n ds k x g
-    unfolding parent-place under-place _>>=_ goes
+    unfolding parent-place under-place taken-at _>>=_ goes
     parent-joins j g q eg = record { says = λ o. go o }
       where
-        go : (o : Option Row) → ((row : Row) → o ≡ some row → Stands pool s n row) → f ≡ found-row o → g ≡ goes (parent-place o ds k x)
+        go : (o : Option Row) → ((row : Row) → o ≡ some row → Stands pool s n row) → f ≡ found-row o → g ≡ goes (parent-place (fields pool s (base-slots s n)) o ds k x)
         go none st a = absurd (at-none i p (sym e ∙ a))
-        go (some r) st a = rw (received r (st r refl) a, to-some (receiving s n (p .0)) t j et q) eg
+        go (some r) st a = rw (received r (st r refl) a, to-some (receiving s n (p .0)) t j et q, gone-fields pool s n ds) eg

@@ -17,10 +17,11 @@ use Rattle.record.specs.declared.Check.the-variants as check
 use Rattle.record.specs.declared.Found.{Found}
 use Rattle.record.specs.declared.Found.the-variants.{At, Nothing}
 use Rattle.record.specs.Says.{found-row, refusal-of, checked}
+use Rattle.update_gone.specs.Gone.{slot-id, ids-gone}
 use Rattle.update_parents.specs.Target.{members-at}
 use Rattle.update_decide.specs.declared.Going.the-variants as going
 use Rattle.update_decide.specs.declared.Fresh.the-variants as fresh
-use Rattle.update_decide.specs.Entry.{Known, unbarred, goes, root-place, AtRoot, under-place, freshly}
+use Rattle.update_decide.specs.Entry.{Known, unbarred, goes, root-place, AtRoot, taken-at, under-place, freshly}
 use Rattle.update_decide.proofs.Deleting.{at-none, nothing-some, id-back}
 
 -- ---- 13 and 14
@@ -78,27 +79,35 @@ pub ruleset rooting = (root-free, root-dropped, root-stands)
 
 -- ---- under a struct
 
-module _ (pool s : List ℕ) (n slot : ℕ) (ds : List ℕ) (k : ℕ) (x : List ℕ) (i : ℕ) (b : Bool) (ei : i ≡ rec-at s slot .id) (hi : i < 4294967296) (eb : b ≡ among (turned i) ds) where
-  back : turned (turned (rec-at s slot .id)) ≡ i
-  back = rw (← ei) (turned-twice i hi)
-
+module _ (pool s : List ℕ) (n slot : ℕ) (ds x : List ℕ) (i : ℕ) (b : Bool) (ei : i ≡ rec-at s slot .id) (eb : b ≡ among (turned i) ds) where
   dropped-is : among (turned (rec-at s slot .id)) ds ≡ b
   dropped-is = rw (← ei) (sym eb)
 
-  pub under-dropped : (u : ℕ) → b ≡ true → u ≡ i + 1 → going.Under u ≡ goes (under-place pool s n slot ds k x)
-  unfolding under-place _>>=_ goes
-  under-dropped u t e = rw (dropped-is, t, back, e, add-one i)
+  pub taken-nowhere : b ≡ true → false ≡ taken-at pool s n slot ds x
+  unfolding taken-at
+  taken-nowhere t = rw (dropped-is, t)
 
-  module _ (t : b ≡ false) (g : Bool) (eg : g ≡ member-taken (members-at pool s n slot) x ds) where
+  pub taken-there : (r : Bool) → b ≡ false → r ≡ member-taken (members-at pool s n slot) x ds → r ≡ taken-at pool s n slot ds x
+  unfolding taken-at
+  taken-there r t e = rw (dropped-is, t) e
+
+pub ruleset taking = (taken-nowhere, taken-there)
+
+module _ (pool s : List ℕ) (n slot : ℕ) (ds : List ℕ) (k : ℕ) (x : List ℕ) (b : Bool) (eb : b ≡ among (slot-id s slot) (ids-gone s n ds)) where
+  pub under-gone : b ≡ true → going.Refused (refusal-of 22 3 k) ≡ goes (under-place pool s n slot ds k x)
+  unfolding under-place _>>=_ goes
+  under-gone t = rw (← eb, t)
+
+  module _ (t : b ≡ false) (g : Bool) (eg : g ≡ taken-at pool s n slot ds x) where
     pub under-taken : g ≡ true → going.Refused (refusal-of 17 3 k) ≡ goes (under-place pool s n slot ds k x)
     unfolding under-place _>>=_ goes
-    under-taken q = rw (dropped-is, t, ← eg, q)
+    under-taken q = rw (← eb, t, ← eg, q)
 
-    pub under-free : (u : ℕ) → g ≡ false → u ≡ i + 1 → going.Under u ≡ goes (under-place pool s n slot ds k x)
+    pub under-free : (i u : ℕ) → g ≡ false → i ≡ rec-at s slot .id → i < 4294967296 → u ≡ i + 1 → going.Under u ≡ goes (under-place pool s n slot ds k x)
     unfolding under-place _>>=_ goes
-    under-free u q e = rw (dropped-is, t, ← eg, q, back, e, add-one i)
+    under-free i u q ei hi e = rw (← eb, t, ← eg, q, ← ei, turned-twice i hi, e, add-one i)
 
-pub ruleset joining = (under-dropped, under-taken, under-free)
+pub ruleset joining = (under-gone, under-taken, under-free)
 
 -- ---- 18
 

@@ -1,4 +1,5 @@
-// One deletion, one addition: what a look-up's answer decides. Refusals 11 to 18.
+// One deletion, one addition: what a look-up's answer decides. Refusals 11 to 18, and 22.
+use index_ids::IndexRows;
 use record::Check;
 use record::FieldId;
 use record::Found;
@@ -11,6 +12,7 @@ use record::turn_back;
 use record::under_of;
 use record_entries::id_at;
 use update_dropped::holds;
+use update_gone::is_gone;
 use update_parents::Target;
 use update_parents::name_taken;
 use update_parents::resolve_parent_target;
@@ -19,19 +21,21 @@ ghost use mathlib.Core.Bool.{true};
 ghost use Prim.Native.Nat.{_+_, _*_, _≤_, _<_};
 ghost use lib.ListN.{length};
 ghost use Rattle.update_dropped.specs.Set.{dropped-ids, set-of, Good};
+ghost use Rattle.index_ids.specs.Table.{ups-in};
+ghost use Rattle.update_gone.specs.Gone.{Rises};
 ghost use Rattle.paper.specs.Answer.{among};
 ghost use Rattle.paper.specs.Bytes.{turned, in-pool};
 ghost use Rattle.paper.specs.Lists.{id-list};
 ghost use Rattle.record.specs.Says.{checked};
-ghost use Rattle.update_decide.specs.Entry.{Deleted, unbarred, goes, AtRoot, under-place, Sited, FoundSited, UnderParent, freshly};
+ghost use Rattle.update_decide.specs.Entry.{Deleted, unbarred, goes, AtRoot, taken-at, under-place, Sited, FoundSited, UnderParent, freshly};
 
 // The id that a deletion drops, or refusal 11 or 12.
 pub enum Dropping {
-    Gone(FieldId),
+    Id(FieldId),
     Refused(Refusal),
 }
 
-// Where an addition goes: 0 is the root list, 1 + x the struct whose id has the bits x; or refusal 15, 16 or 17.
+// Where an addition goes: 0 is the root list, 1 + x the struct whose id has the bits x; or refusal 15, 16, 22 or 17.
 pub enum Going {
     Under(u64),
     Refused(Refusal),
@@ -81,7 +85,7 @@ pub fn drop_one(found: Found, identifiers: &[u8], place: u32) -> Dropping
             place,
         });
     }
-    Dropping::Gone(id)
+    Dropping::Id(id)
 }
 
 // Refusals 13 and 14 of the added column at a slot: a dot in its own name; required, without initial default.
@@ -128,26 +132,52 @@ pub fn place_at_root(found: Found, place: u32, dropped: &[u32; 64], drops: usize
     })
 }
 
-// The struct at a slot takes an addition unless a member that stays has its name; in a dropped struct every name is free.
+// Whether the name is taken in the struct at a slot: a member that stays has it. In a dropped struct every name is free.
+fn is_taken(
+    recs: &[u8],
+    pool: &[u8],
+    n: usize,
+    slot: usize,
+    name: &[u8],
+    dropped: &[u32; 64],
+    drops: usize,
+) -> bool
+    requires { ⌜ Sited (now pool) (now recs) n slot × Good (set-of (now dropped) drops) ⌝ }
+    ensures { λ r. ⌜ r ≡ taken-at (now (pool .entry)) (now (recs .entry)) n slot
+        (dropped-ids (set-of (now (dropped .entry)) drops)) (now (name .entry)) ⌝ }
+{
+    if holds(dropped, drops, FieldId(id_bits_at(recs, slot))) {
+        return false;
+    }
+    name_taken(recs, pool, n, slot, name, dropped, drops)
+}
+
+// The struct at a slot takes an addition unless it goes, or the name is taken in it.
 fn join(
     recs: &[u8],
     pool: &[u8],
     n: usize,
+    index: &IndexRows,
     slot: usize,
     name: &[u8],
     place: u32,
     dropped: &[u32; 64],
     drops: usize,
 ) -> Going
-    requires { ⌜ Sited (now pool) (now recs) n slot × Good (set-of (now dropped) drops) ⌝ }
+    requires { ⌜ Sited (now pool) (now recs) n slot × Rises (now recs) n (ups-in (now index))
+        × Good (set-of (now dropped) drops) ⌝ }
     ensures { λ r. ⌜ r ≡ goes (under-place (now (pool .entry)) (now (recs .entry)) n slot
         (dropped-ids (set-of (now (dropped .entry)) drops)) place (now (name .entry))) ⌝ }
 {
-    let id = id_bits_at(recs, slot);
-    if holds(dropped, drops, FieldId(id)) {
-        return Going::Under(under_of(id));
+    if is_gone(recs, n, index, slot, dropped, drops) {
+        // refusal 22
+        return Going::Refused(Refusal {
+            number: 22,
+            list: 3,
+            place,
+        });
     }
-    if name_taken(recs, pool, n, slot, name, dropped, drops) {
+    if is_taken(recs, pool, n, slot, name, dropped, drops) {
         // refusal 17
         return Going::Refused(Refusal {
             number: 17,
@@ -155,7 +185,7 @@ fn join(
             place,
         });
     }
-    Going::Under(under_of(id))
+    Going::Under(under_of(id_bits_at(recs, slot)))
 }
 
 // An addition under a parent: the struct that its path leads to by one step receives it.
@@ -164,12 +194,13 @@ pub fn place_under(
     recs: &[u8],
     pool: &[u8],
     n: usize,
+    index: &IndexRows,
     name: &[u8],
     place: u32,
     dropped: &[u32; 64],
     drops: usize,
 ) -> Going
-    requires { ⌜ FoundSited (now pool) (now recs) n found
+    requires { ⌜ FoundSited (now pool) (now recs) n found × Rises (now recs) n (ups-in (now index))
         × Good (set-of (now dropped) drops) ⌝ }
     ensures { λ r. ⌜ UnderParent found (now (pool .entry)) (now (recs .entry)) n
         (dropped-ids (set-of (now (dropped .entry)) drops)) place (now (name .entry)) r ⌝ }
@@ -191,7 +222,7 @@ pub fn place_under(
             place,
         });
     };
-    join(recs, pool, n, slot.0, name, place, dropped, drops)
+    join(recs, pool, n, index, slot.0, name, place, dropped, drops)
 }
 
 // The ids of an addition, in preorder after the last one that was consumed.

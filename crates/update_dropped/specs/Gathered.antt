@@ -9,9 +9,9 @@ use Rattle.update_dropped.specs.declared.Dropped.{Dropped}
 use Rattle.update_dropped.specs.Set.{dropped-ids, Good}
 
 -- The first ids of a row, as the paper has them.
-unfoldable pub gone-ids : List ℕ → ℕ → List ℕ
-gone-ids gone total = from (λ j. turned (getD gone j 0)) 0 total
+unfoldable pub row-ids : List ℕ → ℕ → List ℕ
+row-ids row total = from (λ j. turned (getD row j 0)) 0 total
 
-pub record Gathered (gone : List ℕ) (total : ℕ) (r : Dropped) : Type 0 where
+pub record Gathered (row : List ℕ) (total : ℕ) (r : Dropped) : Type 0 where
   pub good : Good r
-  pub holds : (x : ℕ) → among x (dropped-ids r) ≡ among x (gone-ids gone total)
+  pub holds : (x : ℕ) → among x (dropped-ids r) ≡ among x (row-ids row total)

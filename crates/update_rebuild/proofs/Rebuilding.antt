@@ -8,11 +8,11 @@ use native.Mathlib.Omega.{arith}
 use lib.Dec.{eqb}
 use lib.ListN.{length}
 use borrow.Author.Tests.{eqb-true}
-use Rattle.paper.specs.Answer.{among}
 use Rattle.paper.specs.Forest.{Forest, empty, node, size, siblings, levels, mapped, _then_}
 use Rattle.paper.specs.Field.{is-struct}
 use Rattle.paper.specs.Bytes.{turned, rec-at, kind-at, kids-at}
 use Rattle.paper.specs.Layout.{Part, before}
+use Rattle.paper.specs.Gone.{dropped-member}
 use Rattle.paper.specs.Rebuild.{Addition, arriving, rebuilt}
 use Rattle.tree.specs.Read.{part, Standing}
 use Rattle.tree.proofs.Steps.{part-none, part-in, no-deep, no-past, reads-inner, reads-rest, next-in}
@@ -26,11 +26,6 @@ use Rattle.update_rebuild.specs.declared.Step.the-variants.{Went, Full}
 use Rattle.update_rebuild.specs.Sources.{base-source, parent, rebuilt-row, rebuilt-one}
 use Rattle.update_rebuild.specs.Planned.{Readable, Inside, Planned, HeadOf, closing, RowPlanned, OnePlanned}
 use Rattle.update_rebuild.proofs.Onward.{went-whole, full-over, planned-none, Onward, onward-same, onward-goes, onward-stops}
-
--- ---- whether a record goes
-
-pub gone-asked : (records dropped : List ℕ) (k x : ℕ) (b g : Bool) → b ≡ true → x ≡ rec-at records k .id → g ≡ among (turned x) dropped → g ≡ (b && among (turned (rec-at records k .id)) dropped)
-gone-asked records dropped k x b g eb ex eg = rw (eb, ← ex) eg
 
 -- ---- the end of a row
 
@@ -103,11 +98,11 @@ module _ (records dropped : List ℕ) (adds : List (Addition Source)) (n lv k : 
 -- ---- the loop
 
 module _ (records dropped : List ℕ) (adds : List (Addition Source)) (q : Option ℕ) (b : Bool) where
-  row-gone : (k : ℕ) (m n : Forest ℕ) → (b && among (turned (rec-at records k .id)) dropped) ≡ true → rebuilt-row records dropped adds q b (node k m n) ≡ rebuilt-row records dropped adds q b n
+  row-gone : (k : ℕ) (m n : Forest ℕ) → dropped-member b dropped (turned (rec-at records k .id)) ≡ true → rebuilt-row records dropped adds q b (node k m n) ≡ rebuilt-row records dropped adds q b n
   unfolding rebuilt-row mapped rebuilt
   row-gone k m n e = rw e
 
-  row-kept : (k : ℕ) (m n : Forest ℕ) → (b && among (turned (rec-at records k .id)) dropped) ≡ false
+  row-kept : (k : ℕ) (m n : Forest ℕ) → dropped-member b dropped (turned (rec-at records k .id)) ≡ false
       → rebuilt-row records dropped adds q b (node k m n) ≡ node (base-source records k) (rebuilt-row records dropped adds (some (turned (rec-at records k .id))) (is-struct (kind-at records k)) m) empty then rebuilt-row records dropped adds q b n
   unfolding rebuilt-row mapped rebuilt _then_
   row-kept k m n e = rw e
@@ -166,7 +161,7 @@ module _ {records dropped : List ℕ} {adds : List (Addition Source)} {n lv : �
       the-row : part 0 (kids-at records) n lv c k ≡ before k held (behind j)
       the-row = rw ej (part-in 0 (kids-at records) n lv c k (H .read .read) (kids-at records k) (λ z. omega arith) refl)
 
-      pub rebuild-skips : {g : Bool} → g ≡ (b && among (turned (rec-at records k .id)) dropped) → g ≡ true → Rebuilding records dropped adds n lv q b G (c - 1) j i d plan
+      pub rebuild-skips : {g : Bool} → g ≡ dropped-member b dropped (turned (rec-at records k .id)) → g ≡ true → Rebuilding records dropped adds n lv q b G (c - 1) j i d plan
       rebuild-skips eg et =
           record {
             read = rest-reads;
@@ -175,7 +170,7 @@ module _ {records dropped : List ℕ} {adds : List (Addition Source)} {n lv : �
                 (ap (λ (z : Part). z .next) the-row);
           }
 
-    module _ {g : Bool} (eg : g ≡ (b && among (turned (rec-at records k .id)) dropped)) (ef : g ≡ false) where
+    module _ {g : Bool} (eg : g ≡ dropped-member b dropped (turned (rec-at records k .id))) (ef : g ≡ false) where
       kept : (j : ℕ) → j ≡ held .next → rebuilt-trees (part 0 (kids-at records) n lv c k .trees) ≡ rebuilt-one records dropped adds n lv k then rebuilt-trees (behind j .trees)
       unfolding rebuilt-one
       kept j ej = ap (λ (z : Part). rebuilt-trees (z .trees)) (the-row j ej) ∙ row-kept records dropped adds q b k (held .trees) (behind j .trees) (sym eg ∙ ef)

@@ -51,8 +51,8 @@ pub record Resolved (added : List ℕ) (n : ℕ) (unders firsts : List ℕ) (tot
   pub tree : (j : ℕ) → j < total → reads 1 (kids-at added) n 16 1 (getD firsts j 0) ≡ true
 
 -- The rows of what was decided.
-abbrev pub gone-in : List (List ℕ) → List ℕ
-gone-in decisions = getD decisions 0 []
+abbrev pub drops-in : List (List ℕ) → List ℕ
+drops-in decisions = getD decisions 0 []
 
 abbrev pub unders-in : List (List ℕ) → List ℕ
 unders-in decisions = getD decisions 1 []

@@ -3,7 +3,6 @@ use paper::is_struct;
 use plan::PlanRows;
 use plan::put_planned;
 use record::ADDED_RECORDS;
-use record::FieldId;
 use record::RECORDS;
 use record::Siblings;
 use record::Trees;
@@ -16,15 +15,14 @@ use record::under_of;
 use tree::Walked;
 use tree::row_end;
 use tree::tree_end;
-use update_dropped::holds;
+use update_dropped::dropped_member;
 ghost use mathlib.Core.Path.{_≡_};
 ghost use mathlib.Core.Bool.{true, not, _&&_};
 ghost use Prim.Native.Nat.{_+_, _-_, _*_, _≤_, _<_};
 ghost use lib.Dec.{eqb};
 ghost use lib.ListN.{length};
 ghost use Rattle.update_dropped.specs.Set.{dropped-ids, set-of, Good};
-ghost use Rattle.paper.specs.Answer.{among};
-ghost use Rattle.paper.specs.Bytes.{turned, rec-at, kids-at, kind-at};
+ghost use Rattle.paper.specs.Bytes.{turned, kids-at, kind-at};
 ghost use Rattle.paper.specs.Field.{is-struct};
 ghost use Rattle.paper.specs.Rebuild.{arriving};
 ghost use Rattle.tree.specs.Read.{reads};
@@ -58,7 +56,7 @@ pub struct Given {
 // additions tree, and the bits of its first id.
 pub type Decisions = [[u64; 64]; 4];
 
-pub const GONE: usize = 0;
+pub const DROPS: usize = 0;
 
 pub const UNDERS: usize = 1;
 
@@ -234,18 +232,6 @@ fn close(
     Step::Went(place)
 }
 
-// Whether a record goes: a member of the root list or of a struct, and one of the first `drops` ids of `dropped`.
-fn goes(records: &[u8], slot: usize, opens: bool, dropped: &[u32; 64], drops: usize) -> bool
-    requires { ⌜ (slot * 24 + 24 ≤ length (now records)) × Good (set-of (now dropped) drops) ⌝ }
-    ensures { λ r. ⌜ r ≡ (opens && among (turned (rec-at (now (records .entry)) slot .id))
-        (dropped-ids (set-of (now (dropped .entry)) drops))) ⌝ }
-{
-    if opens {
-        return holds(dropped, drops, FieldId(id_bits_at(records, slot)));
-    }
-    false
-}
-
 // A record that stays, and its inside rebuilt. Its place in the plan is filled once its members are counted.
 pub fn rebuild_field<'a>(
     trees: &Trees<'a>,
@@ -340,7 +326,7 @@ pub fn rebuild_fields<'a>(
     };
     while 0 < left {
         let k = here.next;
-        if goes(records, k, under.opens, dropped, drops) {
+        if dropped_member(records, k, under.opens, dropped, drops) {
             here.next = tree_end(records, given.base, k, levels - 1, 0);
             left -= 1;
             continue;

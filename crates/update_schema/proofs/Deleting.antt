@@ -28,7 +28,7 @@ use Rattle.update_decide.specs.declared.Dropping.{Dropping}
 use Rattle.update_decide.specs.declared.Dropping.the-variants as dropping
 use Rattle.update_decide.specs.Entry.{Known, dropped-id, drops, Deleted}
 use Rattle.update_schema.specs.Base.{Entries}
-use Rattle.update_dropped.specs.Gathered.{gone-ids}
+use Rattle.update_dropped.specs.Gathered.{row-ids}
 use Rattle.update_schema.specs.Deletions.{DropsAll}
 
 -- ---- chains and answers
@@ -38,23 +38,23 @@ unfolding drops
 of-refused (ok i) f e = cc
 of-refused (refused n l p) f e = let z : f ≡ refusal-of n l p = cc in rw z
 
-gone-refused : (x : FieldId) (n l p : ℕ) → dropping.Gone x ≡ drops (refused n l p) → ⊥
+id-refused : (x : FieldId) (n l p : ℕ) → dropping.Id x ≡ drops (refused n l p) → ⊥
 unfolding drops
-gone-refused x n l p e = let y : _≡_ {A = ℕ} 0 1 = cc in omega arith
+id-refused x n l p e = let y : _≡_ {A = ℕ} 0 1 = cc in omega arith
 
-gone-id : (x : FieldId) (i : ℕ) → dropping.Gone x ≡ drops (ok i) → x .0 ≡ turned i
+id-told : (x : FieldId) (i : ℕ) → dropping.Id x ≡ drops (ok i) → x .0 ≡ turned i
 unfolding drops
-gone-id x i e = let z : x ≡ record { 0 = turned i } = cc in rw z
+id-told x i e = let z : x ≡ record { 0 = turned i } = cc in rw z
 
 -- ---- the row
 
-gone-more : (gone : List ℕ) (k v : ℕ) → k < length gone → gone-ids (set gone k v) (k + 1) ≡ gone-ids gone k ++ (turned v ∷ [])
-unfolding gone-ids from
-gone-more gone k v l =
-    from-append (λ j. turned (getD (set gone k v) j 0)) 0 k 1
+ids-more : (bits : List ℕ) (k v : ℕ) → k < length bits → row-ids (set bits k v) (k + 1) ≡ row-ids bits k ++ (turned v ∷ [])
+unfolding row-ids from
+ids-more bits k v l =
+    from-append (λ j. turned (getD (set bits k v) j 0)) 0 k 1
     ∙ ap₂ (λ (a b : List ℕ). a ++ b)
-    (from-same (λ j. turned (getD (set gone k v) j 0)) (λ j. turned (getD gone j 0)) 0 k (λ j h. ap turned (getD-set-other gone k j v 0 (λ e. omega arith))))
-    (let z : 0 + k ≡ k = omega arith in rw z (ap (λ (y : ℕ). turned y ∷ []) (getD-set-same gone k v 0 l)))
+    (from-same (λ j. turned (getD (set bits k v) j 0)) (λ j. turned (getD bits j 0)) 0 k (λ j h. ap turned (getD-set-other bits k j v 0 (λ e. omega arith))))
+    (let z : 0 + k ≡ k = omega arith in rw z (ap (λ (y : ℕ). turned y ∷ []) (getD-set-same bits k v 0 l)))
 
 -- ---- one deletion of the paper
 
@@ -72,14 +72,14 @@ deleted-step t ids k p ps = go (look-name t p)
     go (some r) = tested (among (r .field .id) ids) (r .field .id) (deleted t ids (suc k) ps)
 
 -- what the answer of one deletion says of the paper's
-one-gone : (P : Type 0) (o : Option Row) (ids : List ℕ) (k : ℕ) (x : FieldId) → Known o → dropping.Gone x ≡ drops (dropped-id o ids k) → ((i : ℕ) → dropped-id o ids k ≡ ok i → turned (x .0) ≡ i → P) → P
+one-dropped : (P : Type 0) (o : Option Row) (ids : List ℕ) (k : ℕ) (x : FieldId) → Known o → dropping.Id x ≡ drops (dropped-id o ids k) → ((i : ℕ) → dropped-id o ids k ≡ ok i → turned (x .0) ≡ i → P) → P
 unfolding dropped-id _>>=_ Known
-one-gone P none ids k x h e f = absurd (gone-refused x _ _ _ e)
-one-gone P (some r) ids k x h e f = go (among (r .field .id) ids) refl e f
+one-dropped P none ids k x h e f = absurd (id-refused x _ _ _ e)
+one-dropped P (some r) ids k x h e f = go (among (r .field .id) ids) refl e f
   where
-    go : (b : Bool) → among (r .field .id) ids ≡ b → dropping.Gone x ≡ drops (fault-if 12 2 k b >>= λ _. ok (r .field .id)) → ((i : ℕ) → (fault-if 12 2 k b >>= λ _. ok (r .field .id)) ≡ ok i → turned (x .0) ≡ i → P) → P
-    go true q a g = absurd (gone-refused x _ _ _ a)
-    go false q a g = g (r .field .id) refl (ap turned (gone-id x (r .field .id) a) ∙ turned-twice (r .field .id) h)
+    go : (b : Bool) → among (r .field .id) ids ≡ b → dropping.Id x ≡ drops (fault-if 12 2 k b >>= λ _. ok (r .field .id)) → ((i : ℕ) → (fault-if 12 2 k b >>= λ _. ok (r .field .id)) ≡ ok i → turned (x .0) ≡ i → P) → P
+    go true q a g = absurd (id-refused x _ _ _ a)
+    go false q a g = g (r .field .id) refl (ap turned (id-told x (r .field .id) a) ∙ turned-twice (r .field .id) h)
 
 -- ---- the loop
 
@@ -89,14 +89,14 @@ entry-here request entries total k h l = let w = h .whole in (omega arith, lowes
 abbrev rest : (t : Forest Field) (ids request deletions : List ℕ) (total k : ℕ) → Answer (List ℕ)
 rest t ids request deletions total k = deleted t ids k (from (path-of request deletions) k (total - k))
 
-pub record Deleting (t : Forest Field) (ids request deletions : List ℕ) (total k : ℕ) (gone : List ℕ) : Type 0 where
+pub record Deleting (t : Forest Field) (ids request deletions : List ℕ) (total k : ℕ) (bits : List ℕ) : Type 0 where
   pub within : k ≤ total
-  pub goes : (ds : List ℕ) → rest t ids request deletions total k ≡ ok ds → deleted t ids 0 (from (path-of request deletions) 0 total) ≡ ok (gone-ids gone k ++ ds)
+  pub goes : (ds : List ℕ) → rest t ids request deletions total k ≡ ok ds → deleted t ids 0 (from (path-of request deletions) 0 total) ≡ ok (row-ids bits k ++ ds)
   pub stops : (n l p : ℕ) → rest t ids request deletions total k ≡ refused n l p → deleted t ids 0 (from (path-of request deletions) 0 total) ≡ refused n l p
 
-pub delete-starts : (t : Forest Field) (ids request deletions : List ℕ) (total : ℕ) (gone : List ℕ) → Deleting t ids request deletions total 0 gone
-unfolding gone-ids from
-delete-starts t ids request deletions total gone =
+pub delete-starts : (t : Forest Field) (ids request deletions : List ℕ) (total : ℕ) (bits : List ℕ) → Deleting t ids request deletions total 0 bits
+unfolding row-ids from
+delete-starts t ids request deletions total bits =
     let e = from-all (path-of request deletions) total in
     record { within = omega arith; goes = λ ds h. sym (ap (λ (z : List (List ℕ)). deleted t ids 0 z) e) ∙ h; stops = λ n l p h. sym (ap (λ (z : List (List ℕ)). deleted t ids 0 z) e) ∙ h }
 
@@ -104,13 +104,13 @@ none-left : (t : Forest Field) (ids : List ℕ) (k : ℕ) → deleted t ids k []
 unfolding deleted
 none-left t ids k = refl
 
-module _ (t : Forest Field) (ids request deletions : List ℕ) (total k : ℕ) (gone : List ℕ) (H : Deleting t ids request deletions total k gone) where
-  pub delete-ends : total ≤ k → DropsAll t ids request deletions total check.Fine gone
+module _ (t : Forest Field) (ids request deletions : List ℕ) (total k : ℕ) (bits : List ℕ) (H : Deleting t ids request deletions total k bits) where
+  pub delete-ends : total ≤ k → DropsAll t ids request deletions total check.Fine bits
   delete-ends l =
       let w = H .within in
       let e : k ≡ total = omega arith in
       let z = H .goes [] (ap (λ (y : List (List ℕ)). deleted t ids k y) (from-done (path-of request deletions) k total l) ∙ none-left t ids k) in
-      record { by = z ∙ rw (append-nil (gone-ids gone k), e) }
+      record { by = z ∙ rw (append-nil (row-ids bits k), e) }
 
   module _ (l : k < total) (f : Found) (r : Dropping) (p : List ℕ) (ep : p ≡ path-of request deletions k) (h : Known (look-name t p)) (ef : f ≡ found-row (look-name t p)) (d : Deleted f ids k r) where
     here : rest t ids request deletions total k ≡ (dropped-id (look-name t p) ids k >>= λ i. rest t ids request deletions total (k + 1) >>= λ ds. ok (i ∷ ds))
@@ -121,9 +121,9 @@ module _ (t : Forest Field) (ids request deletions : List ℕ) (total k : ℕ) (
         let e = of-refused (dropped-id (look-name t p) ids k) x (sym q ∙ d .says (look-name t p) h ef) in
         record { by = H .stops (x .number) (x .list) (x .place) (here ∙ bind-not (dropped-id (look-name t p) ids k) _ (x .number) (x .list) (x .place) e) }
 
-    pub delete-goes : (x : FieldId) (v : ℕ) → r ≡ dropping.Gone x → v ≡ x .0 → k < length gone → Deleting t ids request deletions total (k + 1) (set gone k v)
+    pub delete-goes : (x : FieldId) (v : ℕ) → r ≡ dropping.Id x → v ≡ x .0 → k < length bits → Deleting t ids request deletions total (k + 1) (set bits k v)
     delete-goes x v q ev b =
-        one-gone _ (look-name t p) ids k x h (sym q ∙ d .says (look-name t p) h ef) λ i ei ex.
+        one-dropped _ (look-name t p) ids k x h (sym q ∙ d .says (look-name t p) h ef) λ i ei ex.
         let step : (u : Answer (List ℕ)) → rest t ids request deletions total (k + 1) ≡ u → rest t ids request deletions total k ≡ (u >>= λ ds. ok (i ∷ ds))
         = λ u e. here ∙ bind-is (dropped-id (look-name t p) ids k) _ i ei ∙ ap (λ (z : Answer (List ℕ)). z >>= λ ds. ok (i ∷ ds)) e in
         record {
@@ -132,5 +132,5 @@ module _ (t : Forest Field) (ids request deletions : List ℕ) (total k : ℕ) (
           stops = λ n j s e. H .stops n j s (step (refused n j s) e ∙ bind-not (refused n j s) _ n j s refl);
         }
       where
-        joined : (i : ℕ) (ds : List ℕ) → turned v ≡ i → gone-ids gone k ++ (i ∷ ds) ≡ gone-ids (set gone k v) (k + 1) ++ ds
-        joined i ds e = sym (ap (λ (z : List ℕ). z ++ ds) (gone-more gone k v b) ∙ append-assoc (gone-ids gone k) (turned v ∷ []) ds ∙ rw e)
+        joined : (i : ℕ) (ds : List ℕ) → turned v ≡ i → row-ids bits k ++ (i ∷ ds) ≡ row-ids (set bits k v) (k + 1) ++ ds
+        joined i ds e = sym (ap (λ (z : List ℕ). z ++ ds) (ids-more bits k v b) ∙ append-assoc (row-ids bits k) (turned v ∷ []) ds ∙ rw e)

@@ -27,6 +27,7 @@ use Rattle.update_decide.specs.Entry.{Known, goes, root-place, AtRoot, parent-p
 use Rattle.update_decide.proofs.Deleting.{at-none}
 use Rattle.update_decide.proofs.Leading.{slot-is}
 use Rattle.update_schema.specs.Base.{Based}
+use Rattle.update_schema.proofs.Rising.{base-tree}
 
 module _ (l : Trees) (xs is ks : List ℕ) (n : ℕ) (b : Based l xs is ks n) where
   pub found-there : (x : List ℕ) (r : Row) → look-name (plan-fields l xs is ks n) x ≡ some r → Stands (l .pool) (l .records) n r
@@ -72,7 +73,7 @@ module _ (l : Trees) (xs is ks : List ℕ) (n : ℕ) (b : Based l xs is ks n) wh
     unfolding parent-path placed parent-place
     goes-under p f r q ep ef h =
         let z : eqb (entry-at additions k .has-path) 1 ≡ true = sym ec ∙ q in
-        rw (z, ← ep, ← ey) (h .says (look-name (plan-fields l xs is ks n) p) (λ row e. found-there p row e) ef)
+        rw (z, ← ep, ← ey) (rw (← (base-tree l xs is ks n b)) at (h .says (look-name (plan-fields l xs is ks n) p) (λ row e. found-there p row e) ef))
 
     pub goes-root : (f : Found) (r : Going) → c ≡ false → f ≡ found-row (look-name (plan-fields l xs is ks n) y) → AtRoot f ds k r
         → r ≡ goes (placed (plan-fields l xs is ks n) ds k x (parent-path request additions k))

@@ -1,4 +1,5 @@
 pub mod Rows
+pub mod Rising
 pub mod Found
 pub mod Deleting
 pub mod Numbering

@@ -7,13 +7,14 @@ use mathlib.Core.Option.{Option, none, some}
 use native.Mathlib.Omega.{arith}
 use lib.Dec.{eqb, ltb}
 use borrow.Author.Tests.{ltb-false}
-use Rattle.paper.specs.Answer.{Answer, ok, refused, _>>=_, among, fault-if, demand}
+use Rattle.paper.specs.Answer.{Answer, ok, refused, _>>=_, among, fault-if}
 use Rattle.paper.specs.Forest.{Forest, size}
 use Rattle.paper.specs.Field.{Field, highest}
 use Rattle.paper.specs.Rows.{Row, look-name}
 use Rattle.paper.specs.Bytes.{turned, rec-at, kids-at, field-at, name-of}
 use Rattle.paper.specs.Decode.{fields}
 use Rattle.paper.specs.Lists.{parent-path}
+use Rattle.paper.specs.Gone.{gone-columns}
 use Rattle.paper.specs.Update.{receiver, root-taken, member-taken, placed}
 use Rattle.laws.proofs.Words.{turned-twice, turned-below}
 use Rattle.laws.proofs.Fitting.{size-mapped}
@@ -29,7 +30,7 @@ use Rattle.update_rebuild.specs.Sources.{parent}
 use Rattle.update_parents.specs.Target.{receiving, receiver-at, members-at}
 use Rattle.update_decide.specs.declared.Going.{Going}
 use Rattle.update_decide.specs.declared.Going.the-variants as going
-use Rattle.update_decide.specs.Entry.{unbarred, goes}
+use Rattle.update_decide.specs.Entry.{unbarred, goes, parent-place}
 use Rattle.update_schema.specs.declared.Spotted.{Spotted}
 use Rattle.update_schema.specs.declared.Spotted.the-variants as spotted
 use Rattle.update_schema.specs.Base.{Based}
@@ -57,7 +58,7 @@ under-not (refused n l p) f e = let z : f ≡ refusal-of n l p = cc in rw z
 
 module _ (l : Trees) (xs is ks : List ℕ) (n : ℕ) (b : Based l xs is ks n) (ds : List ℕ) (k : ℕ) (x : List ℕ) where
   small-place : (p : Option (List ℕ)) → Small (placed (plan-fields l xs is ks n) ds k x p)
-  unfolding placed _>>=_ Small
+  unfolding placed parent-place _>>=_ Small
   small-place none = go (root-taken (look-name (plan-fields l xs is ks n) x) ds)
     where
       go : (c : Bool) → Small (fault-if 17 3 k c >>= λ _. ok none)
@@ -65,17 +66,17 @@ module _ (l : Trees) (xs is ks : List ℕ) (n : ℕ) (b : Based l xs is ks n) (d
       go false = tt
   small-place (some p) = go (look-name (plan-fields l xs is ks n) p) refl
     where
-      joined : (c : Bool) (i : ℕ) → i < 4294967296 → Small (fault-if 17 3 k c >>= λ _. ok (some i))
-      joined true i h = tt
-      joined false i h = h
+      joined : (c d : Bool) (i : ℕ) → i < 4294967296 → Small (fault-if 22 3 k c >>= λ _. fault-if 17 3 k d >>= λ _. ok (some i))
+      joined true d i h = tt
+      joined false true i h = tt
+      joined false false i h = h
 
       met : (o : Option ℕ) (r : Row) → receiver (r .field) (r .inside) (r .field .kind) ≡ receiver-at (l .pool) (l .records) n o
-          → Small (demand 16 3 k (receiver (r .field) (r .inside) (r .field .kind)) >>= λ s. fault-if 17 3 k (not (among (s .id) ds) && member-taken (s .members) x ds) >>= λ _. ok (some (s .id)))
+          → Small (parent-place (plan-fields l xs is ks n) (some r) ds k x)
       met none r e = rw e tt
-      met (some j) r e = rw e (joined (not (among (turned (rec-at (l .records) j .id)) ds) && member-taken (members-at (l .pool) (l .records) n j) x ds) (turned (rec-at (l .records) j .id)) (turned-below (rec-at (l .records) j .id)))
+      met (some j) r e = rw e (joined (among (turned (rec-at (l .records) j .id)) (gone-columns ds (plan-fields l xs is ks n))) (not (among (turned (rec-at (l .records) j .id)) ds) && member-taken (members-at (l .pool) (l .records) n j) x ds) (turned (rec-at (l .records) j .id)) (turned-below (rec-at (l .records) j .id)))
 
-      go : (o : Option Row) → look-name (plan-fields l xs is ks n) p ≡ o
-          → Small (demand 15 3 k o >>= λ r. demand 16 3 k (receiver (r .field) (r .inside) (r .field .kind)) >>= λ s. fault-if 17 3 k (not (among (s .id) ds) && member-taken (s .members) x ds) >>= λ _. ok (some (s .id)))
+      go : (o : Option Row) → look-name (plan-fields l xs is ks n) p ≡ o → Small (parent-place (plan-fields l xs is ks n) o ds k x)
       go none e = tt
       go (some r) e = met (receiving (l .records) n (r .slot)) r (row-stands l xs is ks n b p r e)
 

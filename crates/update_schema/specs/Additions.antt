@@ -25,7 +25,7 @@ use Rattle.update_dropped.specs.declared.Dropped.{Dropped}
 use Rattle.update_dropped.specs.Set.{dropped-ids}
 use Rattle.update_rebuild.specs.declared.Given.{Given}
 use Rattle.update_rebuild.specs.Sources.{parent, additions}
-use Rattle.update_rebuild.specs.Planned.{gone-in, unders-in, firsts-in, starts-in}
+use Rattle.update_rebuild.specs.Planned.{drops-in, unders-in, firsts-in, starts-in}
 use Rattle.update_schema.specs.declared.Decided.{Decided}
 use Rattle.update_schema.specs.declared.Decided.the-variants as decided
 use Rattle.update_schema.specs.Base.{Entries}
@@ -42,7 +42,7 @@ unfoldable pub numbered : (under last k slot records : ℕ) → Spotted
 numbered under last k slot records =
     cond (ltb highest (last + records)) (spotted.Refused (refusal-of 18 3 k)) (spotted.At (record { under = under; start = turned (suc last); last = last + records; next = slot + records }))
 
--- One step of the paper's `placed-all`: 13, 14, 15 to 17, 18.
+-- One step of the paper's `placed-all`: 13, 14, then 15, 16, 22, 17, then 18.
 unfoldable pub one-placed : Forest Field → List ℕ → (last k : ℕ) → Option (List ℕ) → Field → Forest Field → Answer (Option ℕ)
 one-placed t dropped last k p f m = do
   dotless k (among 46 (f .name))
@@ -108,4 +108,4 @@ ColumnsIn l additions given = Columns (l .request-pool) (l .added-records) addit
 pub record PlacesIn (l : Trees) (additions : List ℕ) (given : Given) (plan : List (List ℕ)) (dropped : Dropped) (r : Decided) (old new : List (List ℕ)) : Type 0 where
   pub places : PlacesAll (fields-in l plan (given .base)) (dropped-ids dropped) (l .request-pool) (l .added-records) additions
       (given .additions) (given .added) (given .last) r (unders-in new) (firsts-in new) (starts-in new)
-  pub gone : gone-in new ≡ gone-in old
+  pub same-drops : drops-in new ≡ drops-in old

@@ -10,12 +10,14 @@ use Rattle.paper.specs.Bytes.{kids-at, ok-bytes, in-pool}
 use Rattle.paper.specs.Decode.{fields}
 use Rattle.paper.specs.Layout.{Part, roots}
 use Rattle.paper.specs.Lists.{path-in}
+use Rattle.paper.specs.Sound.{ids}
+use Rattle.laws.proofs.Basics.{Distinct}
 use Rattle.record.specs.Trees.{Trees}
 use Rattle.plan.specs.Plan.{plan-fields, Plan}
 use Rattle.plan.specs.Table.{sources, numbers, members}
-use Rattle.update_rebuild.specs.Planned.{gone-in, unders-in, firsts-in, starts-in}
+use Rattle.update_rebuild.specs.Planned.{drops-in, unders-in, firsts-in, starts-in}
 
--- The n records of the base, with their trees, are the plan.
+-- The n records of the base, with their trees, are the plan, and no id of it stands twice.
 pub record Based (l : Trees) (xs is ks : List ℕ) (n : ℕ) : Type 0 where
   pub plan : Plan l xs is ks n
   pub trees : Part
@@ -24,6 +26,7 @@ pub record Based (l : Trees) (xs is ks : List ℕ) (n : ℕ) : Type 0 where
   pub whole : n * 24 ≤ length (l .records)
   pub bytes : lowest (ok-bytes (l .records)) 0 n ≡ none
   pub named : lowest (in-pool (length (l .pool)) (l .records)) 0 n ≡ none
+  pub own : Distinct (ids (plan-fields l xs is ks n))
 
 -- So many entries, whose paths are in the request pool.
 pub record Entries (request entries : List ℕ) (total : ℕ) : Type 0 where
@@ -49,7 +52,7 @@ AdditionIn l additions k slot = Addition (l .request-pool) (l .added-records) ad
 -- Four rows of 64 numbers.
 pub record DecisionsRoom (decisions : List (List ℕ)) : Type 0 where
   pub rows : length decisions ≡ 4
-  pub gone-room : length (gone-in decisions) ≡ 64
+  pub drops-room : length (drops-in decisions) ≡ 64
   pub unders-room : length (unders-in decisions) ≡ 64
   pub firsts-room : length (firsts-in decisions) ≡ 64
   pub starts-room : length (starts-in decisions) ≡ 64

@@ -11,22 +11,22 @@ use Rattle.paper.specs.Lists.{path-of, id-list}
 use Rattle.paper.specs.Update.{deleted, Placed}
 use Rattle.update_schema.specs.declared.Decided.{Decided}
 use Rattle.update_schema.specs.declared.Decided.the-variants as decided
-use Rattle.update_dropped.specs.Gathered.{gone-ids}
+use Rattle.update_dropped.specs.Gathered.{row-ids}
 use Rattle.record.specs.Trees.{Trees, Lists}
 use Rattle.plan.specs.Table.{fields-in}
 use Rattle.index.specs.Index.{Index}
 use Rattle.update_rebuild.specs.declared.Given.{Given}
-use Rattle.update_rebuild.specs.Planned.{gone-in, unders-in, firsts-in, starts-in}
+use Rattle.update_rebuild.specs.Planned.{drops-in, unders-in, firsts-in, starts-in}
 use Rattle.update_schema.specs.Base.{BasedIn, Entries}
 use Rattle.update_schema.specs.Additions.{all-placed, PlacesBy, ColumnsIn}
 
-unfoldable pub changes : Forest Field → (identifiers request deletions : List ℕ) (gone : ℕ) (added additions : List ℕ) (total m last : ℕ) → Answer Placed
+unfoldable pub changes : Forest Field → (identifiers request deletions : List ℕ) (drops : ℕ) (added additions : List ℕ) (total m last : ℕ) → Answer Placed
 changes t identifiers request deletions d added additions total m last = deleted t identifiers 0 (from (path-of request deletions) 0 d) >>= λ dropped. all-placed t dropped request added additions total m last
 
 -- The additions as `PlacesBy` has them, behind the deletions; where all is accepted, the dropped ids are in their row.
-pub record Decides (t : Forest Field) (identifiers request deletions : List ℕ) (d : ℕ) (added additions : List ℕ) (total m last : ℕ) (r : Decided) (gone unders firsts starts : List ℕ) : Type 0 where
+pub record Decides (t : Forest Field) (identifiers request deletions : List ℕ) (d : ℕ) (added additions : List ℕ) (total m last : ℕ) (r : Decided) (bits unders firsts starts : List ℕ) : Type 0 where
   pub by : PlacesBy r (changes t identifiers request deletions d added additions total m last) request added total m last unders firsts starts
-  pub dropped : (e : ℕ) → r ≡ decided.Last e → deleted t identifiers 0 (from (path-of request deletions) 0 d) ≡ ok (gone-ids gone d)
+  pub dropped : (e : ℕ) → r ≡ decided.Last e → deleted t identifiers 0 (from (path-of request deletions) 0 d) ≡ ok (row-ids bits d)
 
 -- All that was tested before anything is decided: the base as a plan of itself with its index, and the lists.
 pub record Asked (l : Trees) (lists : Lists) (given : Given) (plan index : List (List ℕ)) : Type 0 where
@@ -42,4 +42,4 @@ abbrev pub DecidesIn : Trees → Lists → Given → (plan : List (List ℕ)) (r
 DecidesIn l lists given plan r decisions =
     Decides (fields-in l plan (given .base)) (id-list (lists .identifiers)) (l .request-pool) (lists .deletions)
     (given .deletions) (l .added-records) (lists .additions) (given .additions) (given .added) (given .last) r
-    (gone-in decisions) (unders-in decisions) (firsts-in decisions) (starts-in decisions)
+    (drops-in decisions) (unders-in decisions) (firsts-in decisions) (starts-in decisions)

@@ -28,9 +28,9 @@ use update_decide::place_at_root;
 use update_decide::place_under;
 use update_dropped::Dropped;
 use update_dropped::gather;
+use update_rebuild::DROPS;
 use update_rebuild::Decisions;
 use update_rebuild::FIRSTS;
-use update_rebuild::GONE;
 use update_rebuild::Given;
 use update_rebuild::STARTS;
 use update_rebuild::UNDERS;
@@ -64,7 +64,7 @@ pub struct Spot {
     pub next: usize,
 }
 
-// One addition: its spot, or one of the refusals 13 to 18.
+// One addition: its spot, or one of the refusals 13 to 16, 22, 17, 18.
 pub enum Spotted {
     At(Spot),
     Refused(Refusal),
@@ -96,8 +96,8 @@ fn drop_columns<'a>(
         let path = path_at(trees[REQUEST_POOL], deletions, k);
         let found = look_name(trees, plan, given.base, index, path);
         match drop_one(found, lists[IDENTIFIERS], k as u32) {
-            Dropping::Gone(id) => {
-                decisions[GONE][k] = long(id.0);
+            Dropping::Id(id) => {
+                decisions[DROPS][k] = long(id.0);
             }
             Dropping::Refused(r) => {
                 return Check::Refused(r);
@@ -108,7 +108,7 @@ fn drop_columns<'a>(
     Check::Fine
 }
 
-// Where the addition k goes, whose column is at a slot of the additions tree: refusals 15 to 17.
+// Where the addition k goes, whose column is at a slot of the additions tree: refusals 15, 16, 22, 17.
 fn find_place<'a>(
     trees: &Trees<'a>,
     additions: &[u8],
@@ -139,6 +139,7 @@ fn find_place<'a>(
             trees[RECORDS],
             trees[POOL],
             n,
+            index,
             name,
             k as u32,
             dropped,
@@ -264,7 +265,7 @@ fn place_columns<'a>(
     Decided::Last(last)
 }
 
-// Deletions one at a time, then additions one at a time: refusals 11 to 18, or all that the rebuild needs.
+// Deletions one at a time, then additions one at a time: refusals 11 to 18 and 22, or all that the rebuild needs.
 pub fn decide_changes<'a>(
     trees: &Trees<'a>,
     lists: &Lists<'a>,
@@ -283,7 +284,7 @@ pub fn decide_changes<'a>(
         return Decided::Refused(r);
     }
     let mut dropped = Dropped { ids: [0; 64], n: 0 };
-    dropped.n = gather(&decisions[GONE], given.deletions, &mut dropped.ids);
+    dropped.n = gather(&decisions[DROPS], given.deletions, &mut dropped.ids);
     place_columns(
         trees,
         lists[ADDITIONS],

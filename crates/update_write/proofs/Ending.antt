@@ -55,10 +55,10 @@ use Rattle.update_rebuild.specs.declared.Place.{Place}
 use Rattle.update_rebuild.specs.declared.Step.{Step}
 use Rattle.update_rebuild.specs.declared.Step.the-variants.{Went, Full}
 use Rattle.update_rebuild.specs.Sources.{base-source, added-source, source-id, source-kind, added-tree, addition-at, additions, rebuilt-row, rebuilt-base}
-use Rattle.update_rebuild.specs.Planned.{unders-in, firsts-in, starts-in, gone-in, ResolvedIn, additions-in, Based, fits, verdict, Rebuilds}
+use Rattle.update_rebuild.specs.Planned.{unders-in, firsts-in, starts-in, drops-in, ResolvedIn, additions-in, Based, fits, verdict, Rebuilds}
 use Rattle.update_rebuild.proofs.Paper.{rebuilt-fields}
 use Rattle.update_rebuild.proofs.Whole.{of-fits}
-use Rattle.update_dropped.specs.Gathered.{gone-ids, Gathered}
+use Rattle.update_dropped.specs.Gathered.{row-ids, Gathered}
 use Rattle.update_write.specs.Ending.{sounded, limited-sounded, Rebuildable, rebuilt-tree, Ends}
 
 -- ---- sources
@@ -144,25 +144,25 @@ module _ (l : Trees) (i : List ℕ) (given : Given) (c : ℕ) (decisions plan in
   all-seated ds j zero q = tt
   all-seated ds j (suc k) q = (tree-seated j (omega arith), all-seated ds (suc j) k (omega arith))
 
-  module _ (gone : Dropped) (g : Gathered (gone-in decisions) (given .deletions) gone) where
+  module _ (held : Dropped) (g : Gathered (drops-in decisions) (given .deletions) held) where
     abbrev t : Forest Source
-    t = rebuilt-base (l .records) (given .base) (dropped-ids gone) (additions-in (l .added-records) given decisions)
+    t = rebuilt-base (l .records) (given .base) (dropped-ids held) (additions-in (l .added-records) given decisions)
 
     drawn : Drawn l t
     unfolding rebuilt-base rebuilt-row additions
     drawn =
         drawn-each l t
-        (each-rebuilt (Seated l) source-id (source-kind (l .records)) (dropped-ids gone) _ (all-seated (dropped-ids gone) 0 (given .additions) (omega arith)) none true
+        (each-rebuilt (Seated l) source-id (source-kind (l .records)) (dropped-ids held) _ (all-seated (dropped-ids held) 0 (given .additions) (omega arith)) none true
         (mapped (base-source (l .records)) (got (roots 0 (kids-at (l .records)) (given .base) (given .base) 0) .trees)) base-seated)
 
-    pub rebuild-asks : Based (l .records) (given .base) c × Good gone × ResolvedIn (l .added-records) given decisions × (length plan ≡ 3)
+    pub rebuild-asks : Based (l .records) (given .base) c × Good held × ResolvedIn (l .added-records) given decisions × (length plan ≡ 3)
     rebuild-asks = (based, g .good, h .resolved, h .plan-room .rows)
 
     -- the planned tree is the paper's
     tree-is : (base : Forest Field) → decode 0 (l .records) (l .pool) ≡ ok base → mapped (planned-field l) t ≡ rebuilt-tree l given decisions base
     unfolding rebuilt-tree
     tree-is base e =
-        read _ λ u r q. rebuilt-fields l (given .base) u (dropped-ids gone) (gone-ids (gone-in decisions) (given .deletions)) (additions-in (l .added-records) given decisions) few r (g .holds)
+        read _ λ u r q. rebuilt-fields l (given .base) u (dropped-ids held) (row-ids (drops-in decisions) (given .deletions)) (additions-in (l .added-records) given decisions) few r (g .holds)
         ∙ rw (q ∙ ok-is (sym (h .base-read) ∙ e))
 
     over : within (mapped (planned-field l) t) ≡ false → Ending (changed.Refused (refusal-of 19 4 0)) out text

@@ -25,8 +25,8 @@ use Rattle.plan.specs.Plan.{planned-field}
 use Rattle.plan.specs.Table.{Roomy}
 use Rattle.index_ids.specs.Table.{Rooms}
 use Rattle.update_rebuild.specs.declared.Given.{Given}
-use Rattle.update_rebuild.specs.Planned.{gone-in, ResolvedIn, additions-in}
-use Rattle.update_dropped.specs.Gathered.{gone-ids}
+use Rattle.update_rebuild.specs.Planned.{drops-in, ResolvedIn, additions-in}
+use Rattle.update_dropped.specs.Gathered.{row-ids}
 
 -- 7 to 9 of a rebuilt tree, then the answer with the bits of the last id.
 unfoldable pub sounded : Forest Field → (identifiers : List ℕ) → (last : ℕ) → Answer Result
@@ -51,7 +51,7 @@ pub record Rebuildable (l : Trees) (identifiers : List ℕ) (given : Given) (roo
   pub added-count : given .added ≡ slots (l .added-records)
   pub root-count : roots ≡ siblings base
   pub few : length identifiers ≤ 256
-  pub few-gone : given .deletions ≤ 64
+  pub few-drops : given .deletions ≤ 64
   pub resolved : ResolvedIn (l .added-records) given decisions
   pub plan-room : Roomy plan
   pub index-room : Rooms index
@@ -61,7 +61,7 @@ pub record Rebuildable (l : Trees) (identifiers : List ℕ) (given : Given) (roo
 -- The base rebuilt by what was decided.
 unfoldable pub rebuilt-tree : Trees → Given → (decisions : List (List ℕ)) → (base : Forest Field) → Forest Field
 rebuilt-tree l given decisions base =
-    rebuilt id-of kind-of (gone-ids (gone-in decisions) (given .deletions))
+    rebuilt id-of kind-of (row-ids (drops-in decisions) (given .deletions))
     (mapped-all (planned-field l) (additions-in (l .added-records) given decisions)) none true base
 
 -- It is what is answered and written.

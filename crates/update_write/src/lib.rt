@@ -12,8 +12,8 @@ use record::Trees;
 use record::turn_back;
 use update_dropped::Dropped;
 use update_dropped::gather;
+use update_rebuild::DROPS;
 use update_rebuild::Decisions;
-use update_rebuild::GONE;
 use update_rebuild::Given;
 use update_rebuild::Step;
 use update_rebuild::rebuild;
@@ -41,7 +41,7 @@ pub fn write_rebuilt<'a>(
 {
     // plan
     let mut dropped = Dropped { ids: [0; 64], n: 0 };
-    dropped.n = gather(&decisions[GONE], given.deletions, &mut dropped.ids);
+    dropped.n = gather(&decisions[DROPS], given.deletions, &mut dropped.ids);
     let step = rebuild(
         trees,
         given,

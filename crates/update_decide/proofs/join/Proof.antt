@@ -1,4 +1,4 @@
--- A dropped struct asks no name.
+-- A struct that goes takes nothing, and one that stays no name twice.
 use Rattle.update_decide.proofs.Placing.{joining}
 use borrow.Author.Needs.{needs}
 use Rattle.update_decide.proofs.join.Statement.{statement}
@@ -8,12 +8,11 @@ pub join-spec : {M : Type 1} → statement M
 join-spec =
     tie.close
     (tie.spec
-    (λ c κs. search needs)  -- id-bits-at-requires
-    (λ c κs. search needs)  -- holds-requires
-    (λ c κs. search needs)  -- under-of-requires
+    (λ c κs. search needs)  -- is-gone-requires
     (λ c. search (joining, needs))  -- returns
-    (λ c κs. search needs)  -- name-taken-requires
+    (λ c κs. search needs)  -- is-taken-requires
     (λ c. search (joining, needs))  -- returns-2
-    (λ c κs. search needs)  -- under-of-requires-2
+    (λ c κs. search needs)  -- id-bits-at-requires
+    (λ c κs. search needs)  -- under-of-requires
     (λ c. search (joining, needs))  -- returns-3
     )

@@ -15,6 +15,6 @@ place-under-spec =
     (λ c. search needs)  -- enum-known-target
     (λ c. search needs)  -- enum-told-2
     (λ c. parent-shut _ _ _ _ _ _ _ _ _ (c .before .before .before .before .found .given .1) (c .before .before .before .before .before .before .before .before .before .pre .0) _ (c .before .before .resolve-parent-target .ensures) (c .enum-told2 .given .1))  -- returns-2
-    (λ c κs. (target-sited _ _ _ _ _ _ _ _ (c .before .before .before .before .before .found .given .1) (c .before .before .before .before .before .before .before .before .before .before .pre .0) (c .before .before .before .resolve-parent-target .ensures) (c .before .target .given .1), c .before .before .before .before .before .before .before .before .before .before .pre .1))  -- join-requires
+    (λ c κs. (target-sited _ _ _ _ _ _ _ _ (c .before .before .before .before .before .found .given .1) (c .before .before .before .before .before .before .before .before .before .before .pre .0) (c .before .before .before .resolve-parent-target .ensures) (c .before .target .given .1), c .before .before .before .before .before .before .before .before .before .before .pre .1, c .before .before .before .before .before .before .before .before .before .before .pre .2))  -- join-requires
     (λ c. parent-joins _ _ _ _ _ _ _ _ _ (c .before .before .before .before .before .before .found .given .1) (c .before .before .before .before .before .before .before .before .before .before .before .pre .0) _ (c .before .before .before .before .resolve-parent-target .ensures) _ _ (c .before .before .target .given .1) (c .join .ensures))  -- returns-3
     )

@@ -18,7 +18,7 @@ use Rattle.update_rebuild.proofs.+rebuild_field+rebuild_fields.Lts-rebu
 use Rattle.plan.proofs.put_planned.Reads as put-planned-reads
 use Rattle.tree.proofs.tree_end.Reads as tree-end-reads
 use Rattle.update_rebuild.proofs.close.Reads as close-reads
-use Rattle.update_rebuild.proofs.goes.Reads as goes-reads
+use Rattle.update_dropped.proofs.dropped_member.Reads as dropped-member-reads
 use Rattle.update_rebuild.proofs.head_at.Reads as head-at-reads
 use Rattle.update_rebuild.proofs.is_leaf.Reads as is-leaf-reads
 use Rattle.update_rebuild.proofs.+rebuild_field+rebuild_fields.{statement}
@@ -46,8 +46,8 @@ abbrev rebuild-fields-Inv-loop : rebuild-fields-lts.InvT-loop
 rebuild-fields-Inv-loop trees given under dropped drops decisions plan₀ at records levels left₀ here₀ plan left here =
     let l = trees-in trees in
     let adds = additions-in (l .added-records) given decisions in
-    let gone = dropped-ids (set-of dropped drops) in
-    Rebuilding (l .records) gone adds (given .base) levels (parent (under .q)) (under .opens) (RowPlanned (l .records) gone adds (given .base) levels left₀ (here₀ .next) (parent (under .q)) (under .opens) plan₀ at) left (here .next) (here .at) (here .count) plan
+    let ds = dropped-ids (set-of dropped drops) in
+    Rebuilding (l .records) ds adds (given .base) levels (parent (under .q)) (under .opens) (RowPlanned (l .records) ds adds (given .base) levels left₀ (here₀ .next) (parent (under .q)) (under .opens) plan₀ at) left (here .next) (here .at) (here .count) plan
 
 abbrev rebuild-fields-μ-loop : rebuild-fields-lts.MeasureT-loop
 rebuild-fields-μ-loop trees given under dropped drops decisions plan₀ at records levels left₀ here₀ plan left here = left
@@ -89,8 +89,8 @@ pub +rebuild-field+rebuild-fields-spec : {M : Type 1} → statement M
     (λ c. search (one-goes, needs))  -- rebuild-field-returns-4
     )
     λ t. rebuild-fields-lts.spec (
-      goes-reads.Asked,
-      goes-reads.Learnt,
+      dropped-member-reads.Asked,
+      dropped-member-reads.Learnt,
       tree-end-reads.Asked,
       tree-end-reads.Learnt,
       rebuild-field-below t,
@@ -104,7 +104,7 @@ pub +rebuild-field+rebuild-fields-spec : {M : Type 1} → statement M
     rebuild-fields-μ-loop
     (λ c. search needs)  -- rebuild-fields-element-copy-out-records
     (λ c. record { read = search needs; on = onward-starts (search needs) (search needs) (search needs) })  -- rebuild-fields-loop-holds
-    (λ c κs. search (next-room, needs))  -- rebuild-fields-goes-requires
+    (λ c κs. search (next-room, needs))  -- rebuild-fields-dropped-member-requires
     (λ c. search (next-low, needs))  -- rebuild-fields-sub-tree-end
     (λ c κs. search (inside-stands, inside-reads, needs))  -- rebuild-fields-tree-end-requires
     (λ c. search needs)  -- rebuild-fields-sub-left
@@ -113,7 +113,7 @@ pub +rebuild-field+rebuild-fields-spec : {M : Type 1} → statement M
     (λ c κs. search (inside-reads, needs))  -- rebuild-fields-rebuild-field-requires
     (λ c. search needs)  -- rebuild-fields-enum-known-step
     (λ c. search needs)  -- rebuild-fields-enum-told
-    (λ c. rebuild-stops (c .before .before .before .before .before .before .before .loop .inv) (search needs) (c .before .before .before .before .before .goes .ensures) (search needs) (c .before .before .rebuild-field .ensures) (search needs))  -- rebuild-fields-returns
+    (λ c. rebuild-stops (c .before .before .before .before .before .before .before .loop .inv) (search needs) (c .before .before .before .before .before .dropped-member .ensures) (search needs) (c .before .before .rebuild-field .ensures) (search needs))  -- rebuild-fields-returns
     (λ c. search needs)  -- rebuild-fields-sub-left-2
     (λ c. search needs)  -- rebuild-fields-loop-less-2
     (λ c. search (rebuild-goes, needs))  -- rebuild-fields-loop-again-2

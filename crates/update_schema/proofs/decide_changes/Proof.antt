@@ -16,5 +16,5 @@ decide-changes-spec =
     (λ c κs. search needs)  -- gather-requires
     (λ c. search needs)  -- element-copy-out-place-columns
     (λ c κs. search needs)  -- place-columns-requires
-    (λ c. changes-go _ _ _ _ _ _ _ _ _ _ _ _ (c .before .before .before .before .before .before .before .before .before .before .drop-columns .ensures .drops) _ _ _ _ _ _ (c .before .before .before .before .before .before .before .before .enum-told .given .1) (c .before .before .before .before .before .gather .ensures) (c .place-columns .ensures .places) (c .place-columns .ensures .gone))  -- returns-2
+    (λ c. changes-go _ _ _ _ _ _ _ _ _ _ _ _ (c .before .before .before .before .before .before .before .before .before .before .drop-columns .ensures .drops) _ _ _ _ _ _ (c .before .before .before .before .before .before .before .before .enum-told .given .1) (c .before .before .before .before .before .gather .ensures) (c .place-columns .ensures .places) (c .place-columns .ensures .same-drops))  -- returns-2
     )

@@ -3,9 +3,9 @@ use Prim.Native.Nat.{_-_}
 use Rattle.paper.specs.Lists.{id-list}
 use Rattle.record.specs.Trees.{trees-in, lists-in}
 use Rattle.plan.specs.Table.{fields-in}
-use Rattle.update_rebuild.specs.Planned.{gone-in}
+use Rattle.update_rebuild.specs.Planned.{drops-in}
 use Rattle.update_schema.specs.Base.{DecisionsRoom}
-use Rattle.update_schema.proofs.Rows.{gone-stored}
+use Rattle.update_schema.proofs.Rows.{drops-stored}
 use Rattle.update_schema.proofs.Found.{found-known}
 use Rattle.update_schema.proofs.Deleting.{entry-here, Deleting, delete-starts, delete-stops, delete-goes, delete-ends}
 use native.Mathlib.Omega.{arith}
@@ -15,7 +15,7 @@ use Rattle.update_schema.proofs.drop_columns.Tie as tie
 
 abbrev Inv-loop : tie.InvT-loop
 Inv-loop trees lists given plan index decisions₀ deletions k₀ decisions k =
-    Deleting (fields-in (trees-in trees) plan (given .base)) (id-list (lists-in lists .identifiers)) (trees-in trees .request-pool) (lists-in lists .deletions) (given .deletions) k (gone-in decisions) × DecisionsRoom decisions
+    Deleting (fields-in (trees-in trees) plan (given .base)) (id-list (lists-in lists .identifiers)) (trees-in trees .request-pool) (lists-in lists .deletions) (given .deletions) k (drops-in decisions) × DecisionsRoom decisions
 
 abbrev μ-loop : tie.MeasureT-loop
 μ-loop trees lists given plan index decisions₀ deletions k₀ decisions k = given .deletions - k
@@ -43,6 +43,6 @@ drop-columns-spec =
     (λ c. record { drops = delete-stops _ _ _ _ _ _ _ (c .before .before .before .before .before .before .before .before .before .before .loop .inv .0) (c .before .before .before .before .before .before .before .before .if1 .taken) _ _ _ (c .before .before .before .before .before .before .path-at .ensures .0) (found-known _ _ _ _ _ (c .before .before .before .before .before .before .before .before .before .before .before .before .pre .0 .based) _) (c .before .before .before .before .before .look-name .ensures) (c .before .before .before .drop-one .ensures) _ _ (c .before .r .given .1); room = c .before .before .before .before .before .before .before .before .before .before .loop .inv .1 })  -- returns
     (λ c. search needs)  -- add-k
     (λ c. search needs)  -- loop-less
-    (λ c. let v = c .before .before .before .before .before .before .before .before .before .before .before .loop .inv in gone-stored (Deleting _ _ _ _ _ _) _ _ _ (v .1) (delete-goes _ _ _ _ _ _ _ (v .0) (c .before .before .before .before .before .before .before .before .before .if1 .taken) _ _ _ (c .before .before .before .before .before .before .before .path-at .ensures .0) (found-known _ _ _ _ _ (c .before .before .before .before .before .before .before .before .before .before .before .before .before .pre .0 .based) _) (c .before .before .before .before .before .before .look-name .ensures) (c .before .before .before .before .drop-one .ensures) _ _ (c .before .before .id .given .1) (c .long .ensures .0) (let e = c .before .before .before .before .before .before .before .before .before .before .before .before .before .pre .0 .deletions-there in omega (arith, v .1 .gone-room, e .few, c .before .before .before .before .before .before .before .before .before .if1 .taken))))  -- loop-again
+    (λ c. let v = c .before .before .before .before .before .before .before .before .before .before .before .loop .inv in drops-stored (Deleting _ _ _ _ _ _) _ _ _ (v .1) (delete-goes _ _ _ _ _ _ _ (v .0) (c .before .before .before .before .before .before .before .before .before .if1 .taken) _ _ _ (c .before .before .before .before .before .before .before .path-at .ensures .0) (found-known _ _ _ _ _ (c .before .before .before .before .before .before .before .before .before .before .before .before .before .pre .0 .based) _) (c .before .before .before .before .before .before .look-name .ensures) (c .before .before .before .before .drop-one .ensures) _ _ (c .before .before .id .given .1) (c .long .ensures .0) (let e = c .before .before .before .before .before .before .before .before .before .before .before .before .before .pre .0 .deletions-there in omega (arith, v .1 .drops-room, e .few, c .before .before .before .before .before .before .before .before .before .if1 .taken))))  -- loop-again
     (λ c. record { drops = delete-ends _ _ _ _ _ _ _ (c .before .before .loop .inv .0) (c .if1 .left); room = c .before .before .loop .inv .1 })  -- returns-2
     )

@@ -1,4 +1,5 @@
 -- With a path the parent is looked up, without one the name.
+use Rattle.update_schema.proofs.Rising.{rises}
 use Rattle.update_schema.proofs.Found.{found-sited, goes-under, goes-root}
 use borrow.Author.Needs.{needs}
 use Rattle.update_schema.proofs.find_place.Statement.{statement}
@@ -18,7 +19,7 @@ find-place-spec =
     (λ c. search needs)  -- element-copy-out-place-under
     (λ c. search needs)  -- element-copy-out-place-under-2
     (λ c. search needs)  -- cast-place-under
-    (λ c κs. let p = c .before .before .before .before .before .before .before .before .before .before .before .pre in (found-sited _ _ _ _ _ (p .0) _ _ (c .before .before .look-name .ensures), p .3))  -- place-under-requires
+    (λ c κs. let p = c .before .before .before .before .before .before .before .before .before .before .before .pre in (found-sited _ _ _ _ _ (p .0) _ _ (c .before .before .look-name .ensures), rises _ _ _ _ _ (p .0) _ (p .1 .raised), p .3))  -- place-under-requires
     (λ c. goes-under _ _ _ _ _ (c .before .before .before .before .before .before .before .before .before .before .before .before .pre .0) _ _ _ _ (c .before .before .before .before .before .before .before .before .name-at .ensures .0) _ _ _ (c .before .before .before .before .before .before .before .has-path .ensures) _ _ _ (search needs) (c .before .before .before .before .path-at .ensures .0) (c .before .before .before .look-name .ensures) (c .place-under .ensures))  -- returns
     (λ c κs. search needs)  -- look-name-requires-2
     (λ c. search needs)  -- cast-place-at-root

@@ -23,7 +23,7 @@ place-columns-spec =
     (tie.spec
     Inv-loop
     μ-loop
-    (λ c. let p = c .before .pre in record { holds = place-starts _ _ _ _ _ _ _ _ _ _ _ (p .2) (p .4); room = p .5; gone = refl })  -- loop-holds
+    (λ c. let p = c .before .pre in record { holds = place-starts _ _ _ _ _ _ _ _ _ _ _ (p .2) (p .4); room = p .5; same-drops = refl })  -- loop-holds
     (λ c κs. let p = c .before .before .before .before .pre in let v = c .before .before .loop .inv .holds in (p .0, p .1, addition-here _ _ _ _ _ _ _ _ _ _ _ _ _ _ v (c .if1 .taken) (p .2), p .3, column-here _ _ _ _ _ _ _ _ _ _ _ _ _ _ v (c .if1 .taken) (p .2), v .most))  -- place-one-requires
     (λ c. search needs)  -- enum-known-spot
     (λ c. search needs)  -- mul-decisions
@@ -37,9 +37,9 @@ place-columns-spec =
     (λ c. search needs)  -- index-1-decisions-3
     (λ c. search needs)  -- index-2-decisions-3
     (λ c. search needs)  -- enum-known-r
-    (λ c. record { places = place-stops _ _ _ _ _ _ _ _ _ _ _ _ _ _ (c .before .before .before .before .before .before .loop .inv .holds) (c .before .before .before .before .if1 .taken) _ _ _ _ _ (c .before .before .before .place-one .ensures) (c .before .r .given .1); gone = c .before .before .before .before .before .before .loop .inv .gone })  -- returns
+    (λ c. record { places = place-stops _ _ _ _ _ _ _ _ _ _ _ _ _ _ (c .before .before .before .before .before .before .loop .inv .holds) (c .before .before .before .before .if1 .taken) _ _ _ _ _ (c .before .before .before .place-one .ensures) (c .before .r .given .1); same-drops = c .before .before .before .before .before .before .loop .inv .same-drops })  -- returns
     (λ c. search needs)  -- add-k
     (λ c. search needs)  -- loop-less
-    (λ c. let o = c .before .before .before .before .before .before .before .loop in let v = o .inv in let r = v .room in let s = c .before .before .spot .given in place-stored (Placing _ _ _ _ _ _ _ _ _ _ _) _ (o .decisions) (o .k) (s .0 .0 .under) _ _ r (v .gone) (place-goes _ _ _ _ _ _ _ _ _ _ _ _ _ _ (v .holds) (c .before .before .before .before .before .if1 .taken) _ _ _ (r .unders-room, r .firsts-room, r .starts-room) (c .before .before .before .before .before .before .before .before .before .pre .2) (c .before .before .before .before .place-one .ensures) (s .1) (c .long .ensures .0)))  -- loop-again
-    (λ c. record { places = place-ends _ _ _ _ _ _ _ _ _ _ _ _ _ _ (c .before .before .loop .inv .holds) (c .if1 .left); gone = c .before .before .loop .inv .gone })  -- returns-2
+    (λ c. let o = c .before .before .before .before .before .before .before .loop in let v = o .inv in let r = v .room in let s = c .before .before .spot .given in place-stored (Placing _ _ _ _ _ _ _ _ _ _ _) _ (o .decisions) (o .k) (s .0 .0 .under) _ _ r (v .same-drops) (place-goes _ _ _ _ _ _ _ _ _ _ _ _ _ _ (v .holds) (c .before .before .before .before .before .if1 .taken) _ _ _ (r .unders-room, r .firsts-room, r .starts-room) (c .before .before .before .before .before .before .before .before .before .pre .2) (c .before .before .before .before .place-one .ensures) (s .1) (c .long .ensures .0)))  -- loop-again
+    (λ c. record { places = place-ends _ _ _ _ _ _ _ _ _ _ _ _ _ _ (c .before .before .loop .inv .holds) (c .if1 .left); same-drops = c .before .before .loop .inv .same-drops })  -- returns-2
     )
