@@ -48,7 +48,7 @@ fn smallest(all: &mut Cases) {
         all.put(title, case, refused(22, 3, 0));
     }
     let case = update(&struct_key(), 5, &["m"], &[under("m.key", "x")]);
-    all.put("3/13: the map of a struct key is dropped", case, refused(22, 3, 0));
+    all.put("reading 164: the map of a struct key is dropped", case, refused(22, 3, 0));
     let case = update(&t, 10, &["visits", "visits"], &[under("visits", "x")]);
     all.put("3/13: dropped twice", case, refused(22, 3, 0));
     let inner = s(0, "x", vec![p(0, "y"), l(0, "z", p(0, "element"))]);
@@ -66,12 +66,12 @@ fn each_distance(all: &mut Cases) {
     }
     let case = update(&[chain(16)], 16, &[&path(16)], &[under(&path(15), "x")]);
     let run: Vec<i32> = (1..16).chain([17]).collect();
-    all.put("3/13: what is dropped below is no reason", case, Expected::Last(run, 17));
+    all.put("reading 164: what is dropped below is no reason", case, Expected::Last(run, 17));
     let case = update(&[chain(16)], 16, &[&path(2)], &[under(&path(1), "x")]);
-    all.put("3/13: what is dropped below is no reason", case, last(&[1, 17], 17));
+    all.put("reading 164: what is dropped below is no reason", case, last(&[1, 17], 17));
     let beside = [s(1, "a", vec![s(2, "b", vec![]), s(3, "c", vec![])]), s(4, "d", vec![])];
     let case = update(&beside, 4, &["a.b", "d"], &[under("a.c", "x")]);
-    all.put("3/13: what is dropped beside is no reason", case, last(&[1, 3, 5], 5));
+    all.put("reading 164: what is dropped beside is no reason", case, last(&[1, 3, 5], 5));
 }
 
 fn through_lists_and_maps(all: &mut Cases) {
@@ -110,16 +110,16 @@ fn what_stays(all: &mut Cases) {
     all.put("3/13: nor is the value beside the key", case, last(&[1, 2, 3, 6, 4, 5], 6));
     let base = struct_in_list();
     let case = update(&base, 4, &["l.element"], &[under("l.s", "x")]);
-    all.put("3/13: a dropped element above is no reason", case, last(&[1, 2, 3, 4, 5], 5));
+    all.put("reading 164: a dropped element above is no reason", case, last(&[1, 2, 3, 4, 5], 5));
     for also in ["l", "l.s"] {
         let case = update(&base, 4, &["l.element", also], &[under("l.s", "x")]);
-        all.put("3/13: an element and a member", case, refused(22, 3, 0));
+        all.put("reading 164: an element and a member", case, refused(22, 3, 0));
     }
     let case = update(&base, 4, &["l.element", "l.s"], &[under("l", "x")]);
-    all.put("3/13: an element and a member below it", case, last(&[1, 2, 5], 5));
+    all.put("reading 164: an element and a member below it", case, last(&[1, 2, 5], 5));
     let key = s(2, "key", vec![s(3, "s", vec![])]);
     let base = [m(1, "m", key, s(4, "value", vec![s(5, "s", vec![])]))];
-    let title = "3/13: a dropped key or value above is no reason";
+    let title = "reading 164: a dropped key or value above is no reason";
     let case = update(&base, 5, &["m.key", "m.value"], &[under("m.key.s", "x")]);
     all.put(title, case, last(&[1, 2, 3, 6, 4, 5], 6));
     let case = update(&base, 5, &["m.key", "m.value"], &[under("m.s", "x")]);
@@ -179,7 +179,7 @@ fn several(all: &mut Cases) {
 fn at_the_root(all: &mut Cases) {
     let t = the_tree();
     let case = update(&t, 10, &["node", "visits", "parts"], &[(None, p(0, "x"))]);
-    all.put("3/13: nothing is above the root", case, last(&[11], 11));
+    all.put("reading 163: nothing is above the root", case, last(&[11], 11));
     let case = update(&t, 10, &["node"], &[(None, s(0, "node", vec![p(0, "cost")]))]);
     all.put("3/13: a new root in a dropped one's place", case, {
         last(&[2, 6, 7, 3, 8, 9, 10, 11, 12], 12)
@@ -202,7 +202,7 @@ fn order(all: &mut Cases) {
     all.put(title, one(10, "visits", p(0, "day")), refused(22, 3, 0));
     let base = struct_in_list();
     all.put(title, update(&base, 4, &["l"], &[under("l.s", "a")]), refused(22, 3, 0));
-    all.put("22 before 18", one(i32::MAX, "node", p(0, "a")), refused(22, 3, 0));
+    all.put("reading 161: 22 before 18", one(i32::MAX, "node", p(0, "a")), refused(22, 3, 0));
     all.put("22 before 17 and 18", one(i32::MAX, "visits", p(0, "day")), refused(22, 3, 0));
     let both = |added: &[(Option<&str>, Node)]| update(&t, 10, &["node"], added);
     let case = both(&[under("node", "a"), (None, p(0, "a.b"))]);
@@ -241,12 +241,12 @@ fn numbers(all: &mut Cases) {
 /// What a dropped member changed before, it changes still.
 fn as_before(all: &mut Cases) {
     let t = the_tree();
-    let title = "3/13: a dropped element or value frees its names, and 8 is met";
+    let title = "reading 162: what is dropped and stays frees its names";
     let case = update(&struct_key(), 5, &["m.key"], &[under("m.key", "k")]);
     all.put(title, case, refused(8, 4, 3));
     let case = update(&t, 10, &["parts.value"], &[under("parts", "price")]);
     all.put(title, case, refused(8, 4, 10));
-    let title = "3/13: a dropped element above frees no names";
+    let title = "reading 162: a dropped element above frees no names";
     let case = update(&struct_in_list(), 4, &["l.element"], &[under("l.s", "a")]);
     all.put(title, case, refused(17, 3, 0));
     let case = update(&t, 10, &["node.cost", "visits"], &[under("node", "cost")]);
