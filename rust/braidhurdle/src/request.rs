@@ -84,7 +84,19 @@ impl Request {
         Ok(self)
     }
 
-    /// Also adds this column under a struct, or under a list or map of structs.
+    /// Also adds this column under a struct, or under a list or map of structs. Where the same
+    /// request drops that struct, or what it stands in, the update is refused:
+    ///
+    /// ```
+    /// use braidhurdle::{Field, FieldId, RefusalKind, Request, Tree};
+    ///
+    /// let tree = Tree::build(&[Field::structure("node", []).id(FieldId(1))])?;
+    /// let floor = Field::primitive("floor", 2);
+    /// let request = Request::new(FieldId(1)).drop("node")?.add_under("node", floor)?;
+    /// let refusal = tree.update(&request).unwrap_err();
+    /// assert_eq!(refusal.kind(), Some(RefusalKind::DroppedParent));
+    /// # Ok::<(), Box<dyn std::error::Error>>(())
+    /// ```
     ///
     /// # Errors
     ///
