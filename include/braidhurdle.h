@@ -74,7 +74,7 @@
     X(19, REBUILT_PAST_LIMIT, "the rebuilt tree passes a limit on trees (records, levels or name sum)") \
     X(20, LIST_OR_MAP_CHOSEN, "pruning meets a list or map chosen directly, not in full mode") \
     X(21, AMBIGUOUS, "two columns match at the same level where case is forgotten") \
-    X(22, DROPPED_PARENT, "the receiving struct, or a record above it, is dropped as a member of a struct or of the root")
+    X(22, PARENT_GONE, "the receiving struct, or a record above it, is dropped as a member of a struct or of the root")
 
 /* Every list that a refusal may speak of: X(number, name, what it is). Later versions may have more of them. */
 #define BRAIDHURDLE_LISTS(X) \

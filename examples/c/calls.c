@@ -192,7 +192,7 @@ static void updates(void)
     a = braidhurdle_update(T, NOTHING, 10, drop_node, sizeof drop_node, under_node, sizeof under_node, cost, sizeof cost,
                            request_pool, 14, ROOM);
     held("update: cost under node, which is dropped, is refused with 22 at list 3, place 0",
-         refused(a, BRAIDHURDLE_DROPPED_PARENT, BRAIDHURDLE_LIST_ADDITIONS, 0));
+         refused(a, BRAIDHURDLE_PARENT_GONE, BRAIDHURDLE_LIST_ADDITIONS, 0));
 }
 
 static void prunings(void)

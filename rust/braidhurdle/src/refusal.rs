@@ -116,7 +116,7 @@ numbered! {
             sum)",
         ListOrMapChosen = 20: "pruning meets a list or map chosen directly, not in full mode",
         Ambiguous = 21: "two columns match at the same level where case is forgotten",
-        DroppedParent = 22: "the receiving struct, or a record above it, is dropped as a member \
+        ParentGone = 22: "the receiving struct, or a record above it, is dropped as a member \
             of a struct or of the root",
     }
 }

@@ -94,7 +94,7 @@ impl Request {
     /// let floor = Field::primitive("floor", 2);
     /// let request = Request::new(FieldId(1)).drop("node")?.add_under("node", floor)?;
     /// let refusal = tree.update(&request).unwrap_err();
-    /// assert_eq!(refusal.kind(), Some(RefusalKind::DroppedParent));
+    /// assert_eq!(refusal.kind(), Some(RefusalKind::ParentGone));
     /// # Ok::<(), Box<dyn std::error::Error>>(())
     /// ```
     ///
