@@ -79,6 +79,26 @@ fn one_byte_makes_two_ids_equal() {
     }
 }
 
+/// An addition beneath a dropped element, which stays, beside a dropped list: a byte can make its
+/// parent go.
+fn nearly_gone() -> Case {
+    let list =
+        |id, name| list_of(id, name, strukt(id + 1, "element", vec![strukt(id + 2, "c", vec![])]));
+    let added = [(None, prim(0, "x")), (Some("b.c"), prim(0, "x"))];
+    update_of(&[list(1, "a"), list(4, "b")], &[], 6, &["a", "b.element"], &added)
+}
+
+#[test]
+fn one_byte_makes_a_parent_go() {
+    // of the first deletion's path, and of the addition's
+    for (at, byte) in [(0, b'b'), (10, b'a')] {
+        let mut case = nearly_gone();
+        let Ask::Update { request_pool, .. } = &mut case.ask else { panic!("an update") };
+        request_pool[at] = byte;
+        assert_eq!(answer(&case).refusal().map(|r| (r.number, r.place)), Some((22, 1)));
+    }
+}
+
 /// Each byte of each list through all values, and each list cut after each byte.
 fn damaged_everywhere(case: &Case) {
     for at in 0..lists(&mut case.clone()).len() {
@@ -104,7 +124,7 @@ fn trees_damaged_in_every_byte_get_the_texts_answer_from_every_entry() {
         println!("T was not put to the port: {why}");
         return;
     }
-    let cases = [asked_of_t(), nearly_ambiguous(), nearly_equal()].concat();
+    let cases = [asked_of_t(), nearly_ambiguous(), nearly_equal(), vec![nearly_gone()]].concat();
     let next = AtomicUsize::new(0);
     let threads = std::thread::available_parallelism().map_or(1, usize::from);
     std::thread::scope(|scope| {
