@@ -157,7 +157,7 @@ fn lay_searched(searched: Searched) -> SearchedNumbers
 }
 
 // The version of these functions, in its name too: whoever is compiled against other declarations asks for another name, and finds
-// none here. A change of any declaration raises both.
+// none here. A change of any declaration raises both, and so does a number that was never told before.
 #[no_mangle]
 pub extern "C" fn braidhurdle_abi_5() -> u32
     ensures { λ r. ⌜ r ≡ 5 ⌝ }
