@@ -1,6 +1,6 @@
-//! Trees that are built to be bad for the index, or for a walk up from a record. A search by id goes by the id's bits, so ids that
-//! share many go deep. Chains of names are chosen by a hash, so names of one hash make long chains;
-//! names like these must be sought on purpose.
+//! Trees that are built to be bad for the index, or for a walk up from a record. A search by id
+//! goes by the id's bits, so ids that share many go deep. Chains of names are chosen by a hash, so
+//! names of one hash make long chains; names like these must be sought on purpose.
 
 use std::collections::HashMap;
 

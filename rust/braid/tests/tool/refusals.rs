@@ -348,8 +348,8 @@ fn an_addition_is_told_with_its_name_its_parent_and_what_is_in_the_way() {
 fn an_addition_to_what_is_dropped_is_told_with_the_deletion_that_takes_it() {
     let folder = Folder::with_t();
     let says = |asked: &str, place: u32, words: &str| {
-        let means = "the receiving struct, or a record above it, is dropped as a member of a struct \
-                     or of the root";
+        let means = "the receiving struct, or a record above it, is dropped as a member of a \
+                     struct or of the root";
         refused(
             &folder,
             &format!("update T {asked} --out U"),
