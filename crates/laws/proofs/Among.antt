@@ -34,6 +34,6 @@ module _ (g : ℕ → ℕ) (s : List ℕ) (d : Distinct (map g s)) where
       go true e = eq-eqb (g x) (g y) (ap g (eqb-true x y e))
       go false e = ne-eqb (g x) (g y) (λ z. eqb-false x y e (distinct-one g s d x y h (f y (inl refl)) z))
 
-pub distinct-values : (g : ℕ → ℕ) (s : List ℕ) → Distinct (map g s) → Distinct s
+pub distinct-values : {A B : Type 0} (g : A → B) (s : List A) → Distinct (map g s) → Distinct s
 distinct-values g [] d = tt
 distinct-values g (x ∷ s) d = (λ h. d .0 (in-map g x s h), distinct-values g s (d .1))

@@ -63,7 +63,7 @@ module _ {A : Type 0} (t : A → Bool) (f : ℕ → A) where
 
 -- ---- distinct values
 
-in-from : (f : ℕ → ℕ) (j m i : ℕ) → j ≤ i → i < j + m → f i ∈ from f j m
+pub in-from : (f : ℕ → ℕ) (j m i : ℕ) → j ≤ i → i < j + m → f i ∈ from f j m
 unfolding from
 in-from f j zero i l h = absurd (omega arith)
 in-from f j (suc m) i l h = ⊎-elim (λ w. inl (ap f w)) (λ w. inr (in-from f (suc j) m i w (omega arith))) (same-or-more j i l)

@@ -1,9 +1,9 @@
 -- What goes in an update: it is natural, asks of the dropped ids only which are among them, and is of the tree.
 use Prim.Native.Nat.{ℕ}
-use mathlib.Core.Path.{_≡_, refl, sym, ap, ap₂, _∙_}
+use mathlib.Core.Path.{_≡_, refl, sym, _∙_}
 use mathlib.Core.Logic.{inl, inr, ⊎-elim}
 use mathlib.Core.Bool.{Bool, true, false, cond}
-use mathlib.Core.List.{List, [], _∷_, _++_, map}
+use mathlib.Core.List.{List, _∷_, _++_, map}
 use Rattle.paper.specs.declared.Kind.{Kind}
 use Rattle.paper.specs.Answer.{among}
 use Rattle.paper.specs.Forest.{Forest, empty, node, preorder, mapped}

@@ -1,7 +1,7 @@
 -- In a tree that passed 7 no id stands twice.
 use Prim.Native.Nat.{ℕ}
-use mathlib.Core.Path.{_≡_, refl, _∙_}
-use mathlib.Core.List.{List, [], _∷_, _++_, map}
+use mathlib.Core.Path.{_≡_, refl}
+use mathlib.Core.List.{List, [], map}
 use lib.Dec.{eqb}
 use Rattle.paper.specs.Answer.{ok, repeated}
 use Rattle.paper.specs.Forest.{Forest, empty, node, preorder}

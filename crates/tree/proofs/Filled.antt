@@ -41,7 +41,7 @@ pub record Full (kids : ℕ → ℕ) (n c k : ℕ) (p : Part) : Type 0 where
   pub slots : preorder (p .trees) ≡ from itself k (size (p .trees))
   pub sizes : counts (p .trees) ≡ from kids k (size (p .trees))
 
-laid-slots : (kids : ℕ → ℕ) (n k : ℕ) (t : Forest ℕ) → Laid kids n k t → preorder t ≡ from itself k (size t)
+pub laid-slots : (kids : ℕ → ℕ) (n k : ℕ) (t : Forest ℕ) → Laid kids n k t → preorder t ≡ from itself k (size t)
 unfolding size preorder from
 laid-slots kids n k empty h = refl
 laid-slots kids n k (node j m u) h = rw (h .0, laid-slots kids n (suc k) m (h .3), laid-slots kids n (suc (k + size m)) u (h .4), from-append itself (suc k) (size m) (size u), suc-add k (size m))

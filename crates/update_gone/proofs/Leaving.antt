@@ -1,10 +1,9 @@
 -- The loop that goes up: the answer for the slot is that for the place at which it stands. `search leaving`.
 use Prim.Native.Nat.{ℕ, zero, suc, _+_, _-_, _*_, _<_, _≤_}
 use mathlib.Core.Path.{_≡_, refl, sym, ap, _∙_}
-use mathlib.Core.Logic.{_⊎_, inl, inr}
 use mathlib.Core.Bool.{Bool, true, false, _||_}
 use mathlib.Core.List.{List, []}
-use native.Mathlib.Nat.{zero-add, eq-or-lt-of-le}
+use native.Mathlib.Nat.{zero-add}
 use native.Mathlib.Numerals.{add-one, sub-one}
 use native.Mathlib.Omega.{arith}
 use lib.ListN.{length, getD}
@@ -12,17 +11,17 @@ use Rattle.paper.specs.declared.Kind.{Kind}
 use Rattle.paper.specs.Answer.{among}
 use Rattle.paper.specs.Bytes.{kids-at, kind-at}
 use Rattle.paper.specs.Field.{is-struct}
-use Rattle.paper.specs.Forest.{Forest, empty, node, size, levels, preorder}
+use Rattle.paper.specs.Forest.{Forest, size, levels, preorder}
 use Rattle.paper.specs.Gone.{dropped-member, gone}
 use Rattle.paper.specs.Layout.{roots}
 use Rattle.laws.specs.Members.{_∈_}
 use Rattle.laws.proofs.Agreeing.{Agrees}
 use Rattle.laws.proofs.Among.{among-values, distinct-values}
-use Rattle.laws.proofs.Basics.{in-left, in-right}
+use Rattle.laws.proofs.Finding.{in-from}
 use Rattle.laws.proofs.Going.{gone-there}
-use Rattle.laws.proofs.Taken.{roots-take}
-use Rattle.tree.specs.Read.{got}
-use Rattle.tree.proofs.Filled.{lt-or-le}
+use Rattle.laws.proofs.Taken.{Took, roots-take}
+use Rattle.tree.specs.Read.{got, itself}
+use Rattle.tree.proofs.Filled.{laid-slots}
 use Rattle.tree.proofs.Steps.{fine-got}
 use Rattle.plan.specs.Walk.{trees-of}
 use Rattle.plan.proofs.Walks.{Numbered, all-numbered, all-there, roots-are}
@@ -39,16 +38,6 @@ opens-under records (suc p) k b f ek eb = rw (eb, ek, sub-one (suc p))
 
 -- ---- the base
 
-numbered-in : (f : Forest ℕ) (k i : ℕ) → Numbered k f → k ≤ i → i < k + size f → i ∈ preorder f
-unfolding size preorder
-numbered-in empty k i nd a b = absurd (omega arith)
-numbered-in (node j m n) k i nd a b = go (eq-or-lt-of-le a) (lt-or-le i (suc k + size m)) (numbered-in m (suc k) i (nd .1 .0)) (numbered-in n (suc k + size m) i (nd .1 .1))
-  where
-    go : (k ≡ i) ⊎ (k < i) → (i < suc k + size m) ⊎ (suc k + size m ≤ i) → (suc k ≤ i → i < suc k + size m → i ∈ preorder m) → (suc k + size m ≤ i → i < suc k + size m + size n → i ∈ preorder n) → i ∈ preorder (node j m n)
-    go (inl e) q f g = inl (sym e ∙ sym (nd .0))
-    go (inr l) (inl q) f g = inr (in-left i (preorder m) (preorder n) (f l q))
-    go (inr l) (inr q) f g = inr (in-right i (preorder m) (preorder n) (g q (omega arith)))
-
 module _ {records : List ℕ} {n : ℕ} {us : List ℕ} (R : Rises records n us) where
   walked : base-slots records n ≡ trees-of (kids-at records) n
   walked = roots-are 0 (kids-at records) n (R .read)
@@ -59,15 +48,19 @@ module _ {records : List ℕ} {n : ℕ} {us : List ℕ} (R : Rises records n us)
   sized : size (base-slots records n) ≡ n
   sized = rw walked (all-there (kids-at records) n)
 
+  taken : Took (kids-at records) n 16 0 (got (roots 0 (kids-at records) n n 0))
+  taken = let x = roots 0 (kids-at records) n n 0 in roots-take 0 (kids-at records) n n 0 (got x) (fine-got x (R .read))
+
   few-levels : levels (base-slots records n) ≤ 16
-  few-levels = let x = roots 0 (kids-at records) n n 0 in roots-take 0 (kids-at records) n n 0 (got x) (fine-got x (R .read)) .depth
+  few-levels = taken .depth
 
   climbs : Climbs us 0 (base-slots records n)
   unfolding Agrees
   climbs = climbs-told us (base-slots records n) 0 0 numbered (λ i l. ap (λ j. getD us j 0) (zero-add i) ∙ R .above i (omega (arith, sized)))
 
   there : (k : ℕ) → k < n → k ∈ preorder (base-slots records n)
-  there k l = numbered-in (base-slots records n) 0 k numbered (omega arith) (omega (arith, sized))
+  there k l =
+      rw (laid-slots (kids-at records) n 0 (base-slots records n) (taken .laid), sized) (in-from itself 0 n k (omega arith) (omega arith))
 
   up-falls : (k : ℕ) → k < n → getD us k 0 ≤ k
   up-falls = ups-fall (λ _. []) (kids-at records) n us (λ k l. R .above k l ∙ ap (λ (f : Forest ℕ). getD (ups 0 f) k 0) walked)
