@@ -32,9 +32,9 @@ use Rattle.paper.specs.Outcome.{Changed, changed, Found, found, Searched
 use Rattle.paper.specs.Outcome.{leaves, out-records, out-names, out-identifiers, out-slots}
 use Rattle.paper.specs.Lister.{digits, decimal, signed, lines, listing, lister}
 use Rattle.paper.specs.Sample.{primitive, T-records, T-pool}
-use Rattle.paper.specs.Asked.{Lending, lending, T-lent, at-root, signed-id, answer-of, answer}
+use Rattle.paper.specs.Asked.{Lending, lending, lent, at-root, signed-id, answer-of, answer}
 use Rattle.paper.specs.Asked.{asked-update, asked-prune, put-prune, put-renumber}
-use Rattle.paper.specs.Pinned.{tree-of, longer, minus-one, number-told, met, pinned}
+use Rattle.paper.specs.Pinned.{tree-of, longer, minus-one, keyed, number-told, met, pinned}
 
 -- ---- what is asked
 
@@ -45,12 +45,12 @@ P7 = asked-update update-entry [] (at-root "floor" ∷ at-root "floor" ∷ [])
 abbrev dropped : Answer Result
 dropped = asked-update update-entry ("node" ∷ []) []
 
--- T, pruned; T with identifiers 7 and 4, numbered from 11.
+-- T, pruned; a tree with identifiers 2 and 5, numbered from 11.
 abbrev chosen : List ℕ → Answer Result
 chosen selected = asked-prune prune-entry selected false
 
 abbrev from-11 : Answer Result
-from-11 = put-renumber (T-lent (7 ∷ 4 ∷ []) 10) 11
+from-11 = put-renumber (lent keyed (2 ∷ 5 ∷ []) 10) 11
 
 -- `a` with its member `a`, which share their byte of the pool, and a root with no name.
 abbrev shared : Answer Result
@@ -92,7 +92,7 @@ pub record Held : Type 0 where
   pub each-met : map (λ e. number-told (e .given)) met ≡ from (λ i. i) 1 last-refusal
   -- The six numbers: refusal, list, place; then record count, name bytes, last id of an acceptance.
   pub changed-numbers : map changed (P7 ∷ dropped ∷ from-11 ∷ [])
-      ≡ numbers 8 4 11 0 0 0 ∷ numbers 0 0 0 7 34 10 ∷ numbers 0 0 0 10 48 0 ∷ []
+      ≡ numbers 8 4 11 0 0 0 ∷ numbers 0 0 0 7 34 10 ∷ numbers 0 0 0 4 18 0 ∷ []
   -- The six numbers of a look-up: refusal, list, place; then whether it is found, its id and its slot.
   pub found-numbers :
       found (find-name T-records T-pool (text "parts")) ∷ found (find-id T-records T-pool 9)
@@ -109,7 +109,7 @@ pub record Held : Type 0 where
       leaves out-names (chosen (1 ∷ [])) (text "a buffer") ∷ leaves out-identifiers from-11 (1 ∷ 1 ∷ 1 ∷ 1 ∷ 1 ∷ 1 ∷ 1 ∷ 1 ∷ 1 ∷ [])
       ∷ leaves out-records (chosen (2 ∷ [])) (text "a buffer") ∷ leaves out-names (chosen (2 ∷ [])) (text "a buffer")
       ∷ leaves out-identifiers (chosen (2 ∷ [])) (text "a buffer") ∷ leaves out-records (chosen []) (text "a buffer") ∷ []
-      ≡ text "nodeffer" ∷ (17 ∷ 0 ∷ 0 ∷ 0 ∷ 14 ∷ 0 ∷ 0 ∷ 0 ∷ 1 ∷ [])
+      ≡ text "nodeffer" ∷ (12 ∷ 0 ∷ 0 ∷ 0 ∷ 13 ∷ 0 ∷ 0 ∷ 0 ∷ 1 ∷ [])
       ∷ text "a buffer" ∷ text "a buffer"
       ∷ text "a buffer" ∷ text "a buffer" ∷ []
   -- Names are packed in record order, once for each record; an empty one has the running offset (48, 49).

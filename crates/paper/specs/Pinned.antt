@@ -7,13 +7,13 @@ use mathlib.Core.List.{List, [], _∷_, _++_, map}
 use mathlib.Core.Option.{none, some}
 use lib.IntN.{pos, negsuc}
 use lib.ListN.{take, set, replicate}
-use Rattle.paper.specs.declared.Kind.the-variants.{Primitive}
-use Rattle.paper.specs.Forest.{Forest, empty, _then_}
+use Rattle.paper.specs.declared.Kind.the-variants.{Primitive, Structure, Listing, Mapping}
+use Rattle.paper.specs.Forest.{Forest, empty, mapped, _then_}
 use Rattle.paper.specs.Field.{Field}
 use Rattle.paper.specs.Sound.{text}
 use Rattle.paper.specs.Bytes.{from}
 use Rattle.paper.specs.Encode.{row24, record-bytes, pool-bytes}
-use Rattle.paper.specs.Sample.{column, primitive, required, struct, listing, mapping, T-records}
+use Rattle.paper.specs.Sample.{column, with-code, primitive, required, struct, listing, mapping, T-records}
 use Rattle.paper.specs.Asked.{Lending, lending, lent, T-lent, New, new, at-root, _under_, Lists, entry}
 use Rattle.paper.specs.Asked.{Ask, renumber-from, identifiers-from, find, find-folding, find-number, find-above, find-numbers, find-each}
 use Rattle.paper.specs.Asked.{drop_add_, request}
@@ -228,10 +228,75 @@ going =
     ∷ (drop ("node" ∷ "visits" ∷ "parts" ∷ []) add (at-root "x" ∷ []) gives (11 ∷ []) with-last 11)
     ∷ []
 
+-- A required struct; one of a required column and an optional one, with a required column beside it.
+abbrev holder : String → ℕ → Forest Field → Forest Field
+holder = column Structure 1
+
+abbrev pub keyed : Forest Field
+keyed = holder "node" 1 (required "cost" 5 then primitive "button" 4) then required "site" 2
+
+-- So many required structs, one in the other, then what the innermost holds.
+abbrev held-by : ℕ → Forest Field → Forest Field
+held-by zero members = members
+held-by (suc n) members = holder "s" (suc n) (held-by n members)
+
+-- A primitive of a type code.
+abbrev of-type : (code flags : ℕ) → String → ℕ → Forest Field
+of-type code flags name id = mapped (with-code code) (column Primitive flags name id empty)
+
+-- A required list and a required map, whose insides are required too.
+abbrev key-list : Forest Field → Forest Field
+key-list = column Listing 1 "l" 31
+
+abbrev key-map : Forest Field
+key-map = column Mapping 1 "m" 31 (required "key" 32 then required "value" 33)
+
+-- 9 of the base, told by an update and by a renumbering.
+abbrev breaks-at : (at : ℕ) → Forest Field → (identifiers : List ℕ) → List Example
+breaks-at at given identifiers =
+    map (λ q. (of lent given identifiers 10 ask q) gives refusal 9 list 5 place at) ((drop [] add []) ∷ renumber-from 1 ∷ [])
+
+-- One column alone, and an update that changes nothing.
+abbrev accepts : Forest Field → Example
+accepts column = (of lent column (1 ∷ []) 10 ask drop [] add []) gives (1 ∷ []) with-last 10
+
+-- The identifier is dropped with the struct that holds it, and its id is given to another column.
+abbrev given-again : Forest Field → Ask
+given-again column =
+    of lent (holder "node" 1 (required "cost" 5) then primitive "z" 2) (5 ∷ []) 4
+    ask drop ("node" ∷ []) add (new column none ∷ [])
+
+-- 02, 4/13: the columns that can be identifiers.
+abbrev identifier-columns : List Example
+identifier-columns =
+    -- Each condition of the column, broken alone: it is in the tree, a primitive, required, neither float nor double.
+    breaks-at 0 keyed (99 ∷ []) ++ breaks-at 0 keyed (1 ∷ []) ++ breaks-at 0 (key-list (required "element" 32)) (31 ∷ [])
+    ++ breaks-at 0 key-map (31 ∷ []) ++ breaks-at 0 keyed (4 ∷ [])  -- 168
+    ++ breaks-at 0 (of-type 5 1 "a" 1) (1 ∷ []) ++ breaks-at 0 (of-type 6 1 "a" 1) (1 ∷ [])
+    -- No list or map above, near or far; no optional struct above, near or far.
+    ++ breaks-at 0 (key-list (required "element" 32)) (32 ∷ [])  -- 170
+    ++ breaks-at 0 key-map (32 ∷ []) ++ breaks-at 0 key-map (33 ∷ [])
+    ++ breaks-at 0 (held-by 1 (key-list (holder "element" 32 (holder "t" 33 (required "a" 34))))) (34 ∷ [])
+    ++ breaks-at 0 (struct "o" 31 (required "a" 32)) (32 ∷ [])
+    ++ breaks-at 0 (struct "o" 31 (held-by 1 (required "a" 32))) (32 ∷ [])
+    ++ breaks-at 0 (struct "o" 31 (held-by 14 (required "a" 32))) (32 ∷ [])
+    -- The first identifier that breaks one, whichever it breaks.
+    ++ breaks-at 1 keyed (5 ∷ 4 ∷ 99 ∷ []) ++ breaks-at 1 keyed (2 ∷ 99 ∷ 4 ∷ [])  -- 171
+    -- Any other type code, an initial default and required structs on all levels above are no reason; one may be given twice.
+    ++ map (λ code. accepts (of-type code 1 "a" 1)) (0 ∷ 4 ∷ 7 ∷ 10 ∷ 65541 ∷ [])  -- 169
+    ++ accepts (of-type 0 3 "a" 1)
+    ∷ (of lent (held-by 15 (required "a" 31)) (31 ∷ []) 10 ask identifiers-from 1 gives ids-are (16 ∷ []))
+    ∷ (of lent keyed (5 ∷ 2 ∷ 5 ∷ []) 10 ask drop ("node.button" ∷ []) add [] gives (1 ∷ 5 ∷ 2 ∷ []) with-last 10)
+    -- Of the rebuilt tree: an id that is given again is that of the new column.
+    ∷ (given-again (primitive "x" 0) gives refusal 9 list 5 place 0)  -- 29
+    ∷ (given-again (of-type 6 3 "x" 0) gives refusal 9 list 5 place 0)
+    ∷ (given-again (of-type 3 3 "x" 0) gives (2 ∷ 5 ∷ []) with-last 5)
+    ∷ []
+
 abbrev others : List Example
 others =
     -- Identifiers are mapped in the order given; a start below 0 is one like any other; an empty tree takes no number.
-    (of T-lent (7 ∷ 4 ∷ 7 ∷ []) 10 ask identifiers-from 11 gives ids-are (17 ∷ 14 ∷ 17 ∷ []))
+    (of lent keyed (2 ∷ 5 ∷ 2 ∷ []) 10 ask identifiers-from 11 gives ids-are (12 ∷ 13 ∷ 12 ∷ []))
     ∷ (of tree-of structs ask renumber-from 4_294_967_294  -- 42
     gives tree (negsuc 1 ∷ negsuc 0 ∷ pos 0 ∷ pos 1 ∷ pos 2 ∷ []))
     ∷ (of tree-of empty ask renumber-from 2_147_483_647 gives ids-are [])  -- 41
@@ -369,10 +434,10 @@ met =
     ∷ (of tree-of (mapping "m" 1 (required "key" 2 then primitive "worth" 3)) ask choose [] gives refusal 6 list 0 place 2)
     ∷ (of tree-of (primitive "a" 1 then primitive "b" 1) ask renumber-from 1 gives refusal 7 list 0 place 1)
     ∷ (of tree-of (primitive "a" 1 then primitive "a" 2) ask find-number 1 gives refusal 8 list 0 place 1)  -- 9
-    ∷ (of T-lent (1 ∷ 7 ∷ []) 10 ask drop ("visits" ∷ []) add [] gives refusal 9 list 5 place 1)  -- 28
+    ∷ (of lent keyed (2 ∷ 5 ∷ []) 10 ask drop ("node" ∷ []) add [] gives refusal 9 list 5 place 1)  -- 28
     ∷ (request no-tree gives refusal 10 list 3 place 0)
     ∷ (drop ("node" ∷ "floor" ∷ []) add [] gives refusal 11 list 2 place 1)
-    ∷ (of T-lent (5 ∷ []) 10 ask drop ("visits" ∷ "node.cost" ∷ []) add [] gives refusal 12 list 2 place 1)
+    ∷ (of lent keyed (5 ∷ []) 10 ask drop ("site" ∷ "node.cost" ∷ []) add [] gives refusal 12 list 2 place 1)
     ∷ (drop [] add and-then (at-root "a.b") gives refusal 13 list 3 place 1)
     ∷ (drop [] add and-then (new (required "a" 0) none) gives refusal 14 list 3 place 1)
     ∷ (drop [] add and-then ("a" under "day") gives refusal 15 list 3 place 1)
@@ -467,9 +532,9 @@ spent = T-lent [] 2_147_483_647
 abbrev decided-order : List Example
 decided-order =
     (lists-are (entry 0 0 1) (entry 0 0 0) (tree-of empty) gives refusal 10 list 3 place 0)  -- 31
-    ∷ (of T-lent (5 ∷ []) 10 ask drop ("node.cost" ∷ "floor" ∷ []) add [] gives refusal 12 list 2 place 0)  -- 32
-    ∷ (of T-lent (5 ∷ []) 10 ask drop ("floor" ∷ "node.cost" ∷ []) add [] gives refusal 11 list 2 place 0)
-    ∷ (of T-lent (5 ∷ []) 10 ask drop ("node.cost" ∷ []) add (at-root "a.b" ∷ []) gives refusal 12 list 2 place 0)
+    ∷ (of lent keyed (5 ∷ []) 10 ask drop ("node.cost" ∷ "floor" ∷ []) add [] gives refusal 12 list 2 place 0)  -- 32
+    ∷ (of lent keyed (5 ∷ []) 10 ask drop ("floor" ∷ "node.cost" ∷ []) add [] gives refusal 11 list 2 place 0)
+    ∷ (of lent keyed (5 ∷ []) 10 ask drop ("node.cost" ∷ []) add (at-root "a.b" ∷ []) gives refusal 12 list 2 place 0)
     ∷ (drop [] add (new (required "a.b" 0) none ∷ []) gives refusal 13 list 3 place 0)
     ∷ (drop [] add (new (required "a" 0) (some "day") ∷ []) gives refusal 14 list 3 place 0)
     ∷ (drop [] add (new (required "a" 0) (some "node.cost") ∷ []) gives refusal 14 list 3 place 0)
@@ -487,8 +552,8 @@ decided-order =
     ∷ (of lent (chain 16) [] 0 ask drop [] add (("x" under "a.a.a.a.a.a.a.a.a.a.a.a.a.a.a.a") ∷ [])
     gives refusal 19 list 4 place 0)
     ∷ (of T-lent [] 9 ask drop ("visits.element" ∷ []) add (("day" under "visits") ∷ []) gives refusal 7 list 4 place 10)
-    ∷ (of T-lent (5 ∷ []) 10 ask drop ("node" ∷ []) add and-then (at-root "floor") gives refusal 8 list 4 place 8)
+    ∷ (of lent keyed (5 ∷ []) 10 ask drop ("node" ∷ []) add and-then (at-root "floor") gives refusal 8 list 4 place 2)
     ∷ []
 
 abbrev pub pinned : List Example
-pinned = names ++ folded-names ++ many-ids ++ updates ++ going ++ others ++ byte-rules ++ met ++ base-order ++ own-order ++ lists-order ++ decided-order
+pinned = names ++ folded-names ++ many-ids ++ updates ++ going ++ identifier-columns ++ others ++ byte-rules ++ met ++ base-order ++ own-order ++ lists-order ++ decided-order

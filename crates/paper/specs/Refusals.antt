@@ -45,9 +45,9 @@ own-ids list again = fault 7 list again
 abbrev pub own-names : (list : ℕ) → (again : Option ℕ) → Answer (Unit {0})
 own-names list again = fault 8 list again
 
--- refusal 9: an identifier id is not in the tree
-abbrev pub identified : (absent : Option ℕ) → Answer (Unit {0})
-identified absent = fault 9 5 absent
+-- refusal 9: an identifier id is not in the tree; or (02, 4/13) its column, or what stands above that, breaks a condition
+abbrev pub identified : (broken : Option ℕ) → Answer (Unit {0})
+identified broken = fault 9 5 broken
 
 -- refusal 10: roots of the additions tree differ from additions
 abbrev pub matched : (equal : Bool) → Answer (Unit {0})
