@@ -12,10 +12,9 @@ use Rattle.paper.specs.Bytes.{field-at}
 use Rattle.paper.specs.Field.{Field}
 use Rattle.paper.specs.Sound.{identifying, holding}
 use Rattle.record.specs.Trees.{Trees}
-use Rattle.plan.specs.Plan.{kids-in, planned-field, source-field, Sits}
-use Rattle.plan.specs.Table.{sources, members, PlanIn}
+use Rattle.plan.specs.Plan.{kids-in, planned-field, source-field, Sits, Plan}
+use Rattle.plan.specs.Walk.{trees-of}
 use Rattle.plan.proofs.Standing.{field-in}
-use Rattle.index_ids.specs.Table.{ups-in}
 use Rattle.index_names.specs.Told.{Raised}
 use Rattle.index_names.proofs.Rising.{Climbs, climbs, risen, rising-left, rising-on, up-ends}
 use Rattle.index_names.proofs.Rows.{Line, at-top, under}
@@ -57,25 +56,25 @@ module _ (l : Trees) (xs us : List ℕ) where
   one-up (suc s) p q = rw (sub-one (suc s))
 
   -- the records above a row are those that the places above lead to
-  pub line-held : {is : List ℕ} {u : ℕ} {above : List Field} → Line (field-in l xs is) us u above → (s : ℕ) → risen us s u ≡ 0 → all holding above ≡ held-up l xs us s u
+  pub line-held : (is : List ℕ) {u : ℕ} {above : List Field} → Line (field-in l xs is) us u above → (s : ℕ) → risen us s u ≡ 0 → all holding above ≡ held-up l xs us s u
   unfolding held-up risen planned-field
-  line-held at-top zero e = refl
-  line-held at-top (suc s) e = refl
-  line-held (under h) zero e = absurd (omega arith)
-  line-held (under {p = p} h) (suc s) e = ap (λ (b : Bool). holding (source-field l (getD xs p 0)) && b) (line-held h s e)
+  line-held is at-top zero e = refl
+  line-held is at-top (suc s) e = refl
+  line-held is (under h) zero e = absurd (omega arith)
+  line-held is (under {p = p} h) (suc s) e = ap (λ (b : Bool). holding (source-field l (getD xs p 0)) && b) (line-held is h s e)
 
 -- ---- m planned slots
 
-module _ {l : Trees} {plan index : List (List ℕ)} {m : ℕ} (P : PlanIn l plan m) (R : Raised (members plan) m (ups-in index)) where
-  pub plan-climbs : Climbs (ups-in index) 0 _
-  plan-climbs = climbs (kids-in (members plan)) m (ups-in index) (R .above)
+module _ {l : Trees} {xs is ks us : List ℕ} {m : ℕ} (P : Plan l xs is ks m) (R : Raised ks m us) where
+  pub plan-climbs : Climbs us 0 (trees-of (kids-in ks) m)
+  plan-climbs = climbs (kids-in ks) m us (R .above)
 
-  falls : (k : ℕ) → k < m → getD (ups-in index) k 0 ≤ k
-  falls = ups-fall (λ _. []) (kids-in (members plan)) m (ups-in index) (R .above)
+  pub plan-falls : (k : ℕ) → k < m → getD us k 0 ≤ k
+  plan-falls = ups-fall (λ _. []) (kids-in ks) m us (R .above)
 
   -- 15 are above a slot
-  pub few-up : (k : ℕ) → k < m → risen (ups-in index) 15 (getD (ups-in index) k 0) ≡ 0
-  few-up k q = rising-on (ups-in index) 16 k (up-ends 4 (kids-in (members plan)) m (P .shaped) (ups-in index) plan-climbs k q)
+  pub few-up : (k : ℕ) → k < m → risen us 15 (getD us k 0) ≡ 0
+  few-up k q = rising-on us 16 k (up-ends 4 (kids-in ks) m (P .shaped) us plan-climbs k q)
 
 -- What holds at the loop's head: those from the place up decide, and `left` of them are at most there.
 pub record Up (l : Trees) (xs us : List ℕ) (m slot place left : ℕ) : Type 0 where
@@ -115,17 +114,14 @@ module _ {l : Trees} {xs us : List ℕ} {m slot place left : ℕ} (H : Up l xs u
             low = rw e (rising-on us left (place - 1) (rw (← is-next) (H .low)));
           }
 
-module _ {l : Trees} {plan index : List (List ℕ)} {m : ℕ} (P : PlanIn l plan m) (R : Raised (members plan) m (ups-in index)) where
-  pub plan-falls : (k : ℕ) → k < m → getD (ups-in index) k 0 ≤ k
-  plan-falls = falls P R
-
+module _ {l : Trees} {xs is ks us : List ℕ} {m : ℕ} (P : Plan l xs is ks m) (R : Raised ks m us) where
   pub slot-few : (k : ℕ) → k < m → k < 1024
   slot-few k q = let f = P .few in omega arith
 
-  pub slot-sits : (k : ℕ) → k < m → Sits l (getD (sources plan) k 0)
+  pub slot-sits : (k : ℕ) → k < m → Sits l (getD xs k 0)
   slot-sits k q = P .sits k q
 
-  pub up-starts : (slot place : ℕ) → slot < m → place ≡ getD (ups-in index) slot 0 → Up l (sources plan) (ups-in index) m slot place 15
-  up-starts slot place q e = rw e record { within = let z = falls P R slot q in omega arith; same = refl; low = few-up P R slot q }
+  pub up-starts : (slot place : ℕ) → slot < m → place ≡ getD us slot 0 → Up l xs us m slot place 15
+  up-starts slot place q e = rw e record { within = let z = plan-falls P R slot q in omega arith; same = refl; low = few-up P R slot q }
 
 pub ruleset holding-up = (plan-falls, slot-few, slot-sits, up-starts, up-ends-true, up-left, up-less, up-within, up-stops, up-goes)

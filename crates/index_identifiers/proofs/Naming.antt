@@ -22,12 +22,10 @@ use Rattle.record.specs.Says.{tested, refusal-of, slot-before}
 use Rattle.record.specs.Trees.{Trees}
 use Rattle.record.proofs.Lowest.{look-starts, look-goes, look-stops, look-ends}
 use Rattle.record.proofs.Slots.{no-slot, the-slot}
-use Rattle.plan.specs.Plan.{planned-field, source-field}
-use Rattle.plan.specs.Table.{sources, numbers, members, PlanIn, fields-in}
+use Rattle.plan.specs.Plan.{planned-field, source-field, plan-fields, Plan}
 use Rattle.plan.proofs.Standing.{field-in}
 use Rattle.index_ids.specs.Chain.{lowest-below}
 use Rattle.index_ids.specs.Ids.{is-id}
-use Rattle.index_ids.specs.Table.{ups-in}
 use Rattle.index_ids.proofs.Chains.{found-within}
 use Rattle.index_ids.proofs.Repeats.{slot-at, place-lowest}
 use Rattle.index_names.specs.Told.{Raised}
@@ -44,34 +42,37 @@ module _ (l : Trees) (xs is us : List ℕ) where
 
   slot-identifies : {O : Option Row} {k : ℕ} → risen us 15 (getD us k 0) ≡ 0 → Rel (field-in l xs is) us O (some k) → identifies O ≡ (identifying (source-field l (getD xs k 0)) && held-up l xs us 15 (getD us k 0))
   unfolding planned-field
-  slot-identifies {k = k} e (found-at h) = rw (h .field, line-held l xs us (h .above) 15 e)
+  slot-identifies {k = k} e (found-at h) = rw (h .field, line-held l xs us is (h .above) 15 e)
 
-module _ {l : Trees} {plan index : List (List ℕ)} {m : ℕ} (P : PlanIn l plan m) (R : Raised (members plan) m (ups-in index)) (i : ℕ) (w : FoundSlot) (ew : w ≡ slot-before (lowest-below (is-id (numbers plan) i) 0 m)) where
-  row-at : Rel (field-in l (sources plan) (numbers plan)) (ups-in index) (look-id (fields-in l plan m) i) (slot-at (lowest-below (is-id (numbers plan) i) 0 m))
-  row-at = id-row l (sources plan) (numbers plan) (members plan) m P (ups-in index) (plan-climbs P R) i
+module _ {l : Trees} {xs is ks us : List ℕ} {m : ℕ} (P : Plan l xs is ks m) (R : Raised ks m us) (i : ℕ) (w : FoundSlot) (ew : w ≡ slot-before (lowest-below (is-id is i) 0 m)) where
+  row-at : Rel (field-in l xs is) us (look-id (plan-fields l xs is ks m) i) (slot-at (lowest-below (is-id is i) 0 m))
+  row-at = id-row l xs is ks m P us (plan-climbs P R) i
 
-  pub finds-none : w ≡ Nothing → false ≡ identifies (look-id (fields-in l plan m) i)
+  pub finds-none : w ≡ Nothing → false ≡ identifies (look-id (plan-fields l xs is ks m) i)
   finds-none q =
-      sym (none-identifies l (sources plan) (numbers plan) (ups-in index) (subst (λ (at : ℕ). Rel (field-in l (sources plan) (numbers plan)) (ups-in index) (look-id (fields-in l plan m) i) (slot-at at)) (no-slot _ w ew q) row-at))
+      sym (none-identifies l xs is us (subst (λ (at : ℕ). Rel (field-in l xs is) us (look-id (plan-fields l xs is ks m) i) (slot-at at)) (no-slot _ w ew q) row-at))
 
   module _ (s : Slot) (q : w ≡ At s) where
     pub finds-slot : s .0 < m
-    finds-slot = found-within (is-id (numbers plan) i) m w ew s q
+    finds-slot = found-within (is-id is i) m w ew s q
 
-    module _ (b : Bool) (eb : b ≡ identifying (source-field l (getD (sources plan) (s .0) 0))) where
-      decided : identifies (look-id (fields-in l plan m) i) ≡ (b && held-up l (sources plan) (ups-in index) 15 (getD (ups-in index) (s .0) 0))
+    pub finds-small : s .0 < 1024
+    finds-small = let z = finds-slot in let f = P .few in omega arith
+
+    module _ (b : Bool) (eb : b ≡ identifying (source-field l (getD xs (s .0) 0))) where
+      decided : identifies (look-id (plan-fields l xs is ks m) i) ≡ (b && held-up l xs us 15 (getD us (s .0) 0))
       decided =
-          slot-identifies l (sources plan) (numbers plan) (ups-in index) (few-up P R (s .0) finds-slot)
-          (subst (λ (at : ℕ). Rel (field-in l (sources plan) (numbers plan)) (ups-in index) (look-id (fields-in l plan m) i) (slot-at at)) (the-slot _ w s ew q) row-at)
+          slot-identifies l xs is us (few-up P R (s .0) finds-slot)
+          (subst (λ (at : ℕ). Rel (field-in l xs is) us (look-id (plan-fields l xs is ks m) i) (slot-at at)) (the-slot _ w s ew q) row-at)
           ∙ rw (← eb)
 
-      pub finds-other : not b ≡ true → false ≡ identifies (look-id (fields-in l plan m) i)
+      pub finds-other : not b ≡ true → false ≡ identifies (look-id (plan-fields l xs is ks m) i)
       finds-other n = sym (decided ∙ rw (not-true b n))
 
-      pub finds-held : (r : Bool) → not b ≡ false → r ≡ held-up l (sources plan) (ups-in index) 15 (getD (ups-in index) (s .0) 0) → r ≡ identifies (look-id (fields-in l plan m) i)
+      pub finds-held : (r : Bool) → not b ≡ false → r ≡ held-up l xs us 15 (getD us (s .0) 0) → r ≡ identifies (look-id (plan-fields l xs is ks m) i)
       finds-held r n e = e ∙ sym (decided ∙ rw (not-false b n))
 
-pub ruleset finding = (finds-none, finds-slot, finds-other, finds-held)
+pub ruleset finding = (finds-none, finds-slot, finds-small, finds-other, finds-held)
 
 -- ---- all of them
 

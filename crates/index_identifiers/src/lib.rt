@@ -96,13 +96,7 @@ fn held<'a>(trees: &Trees<'a>, plan: &PlanRows, m: usize, index: &IndexRows, slo
 }
 
 // Whether an identifier finds a column that may identify.
-fn identifies<'a>(
-    trees: &Trees<'a>,
-    plan: &PlanRows,
-    m: usize,
-    index: &IndexRows,
-    id: u32,
-) -> bool
+fn identifies<'a>(trees: &Trees<'a>, plan: &PlanRows, m: usize, index: &IndexRows, id: u32) -> bool
     requires { ⌜ PlanIn (trees-in (now trees)) (now plan) m
         × IdsChained (numbers (now plan)) (now index) m
         × Raised (members (now plan)) m (ups-in (now index)) ⌝ }
