@@ -1,6 +1,7 @@
 -- What 9 lets through is found by its id, so it is one of the tree's ids.
 use Prim.Native.Nat.{ℕ, suc}
 use mathlib.Core.Path.{_≡_, refl, sym, ap, subst, _∙_}
+use mathlib.Core.Logic.{inl, inr}
 use mathlib.Core.Bool.{Bool, true, false, not, cond, true≢false}
 use mathlib.Core.List.{List, [], _∷_, map, map-id}
 use mathlib.Core.Option.{Option, none, some}
@@ -23,6 +24,11 @@ none-onto t u g h k [] e = refl
 none-onto t u g h k (x ∷ s) e =
     let c = cond-none (t x) k (place-of t (suc k) s) e in
     rw (h x (c .0), none-onto t u g h (suc k) s (c .1))
+
+pub holds-nowhere : {A : Type 0} (t : A → Bool) (k : ℕ) (s : List A) → place-of t k s ≡ none → (x : A) → x ∈ s → t x ≡ false
+holds-nowhere t k [] e x h = absurd h
+holds-nowhere t k (y ∷ s) e x (inl q) = rw q (cond-none (t y) k (place-of t (suc k) s) e .0)
+holds-nowhere t k (y ∷ s) e x (inr h) = holds-nowhere t (suc k) s (cond-none (t y) k (place-of t (suc k) s) e .1) x h
 
 -- What 9 asks of an identifier.
 abbrev pub breaks : Forest Field → ℕ → Bool

@@ -9,6 +9,7 @@ pub mod Numbering
 pub mod Renumbered
 pub mod Parts
 pub mod Pruned
+pub mod Identified
 pub mod Opened
 pub mod Again
 pub mod Storing

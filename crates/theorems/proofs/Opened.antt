@@ -3,11 +3,10 @@ use Prim.Native.Nat.{ℕ}
 use mathlib.Core.Path.{_≡_, refl, sym}
 use mathlib.Core.Bool.{Bool, true, _&&_}
 use mathlib.Core.List.{List, []}
-use lib.Dec.{eqb}
-use Rattle.paper.specs.Answer.{ok, same, repeated}
+use Rattle.paper.specs.Answer.{ok}
 use Rattle.paper.specs.Forest.{Forest}
 use Rattle.paper.specs.Field.{Field}
-use Rattle.paper.specs.Sound.{ids, names, sound}
+use Rattle.paper.specs.Sound.{sound}
 use Rattle.paper.specs.Prune.{prune}
 use Rattle.paper.specs.Renumber.{renumber}
 use Rattle.paper.specs.Update.{Schema, planned}
@@ -19,11 +18,12 @@ use Rattle.paper.specs.Limits.{whole, sized, sized-ids, sized-update}
 use Rattle.paper.specs.Lent.{Stored, Lent}
 use Rattle.paper.specs.Entries.{Result, schema-in, request-in, read, update-entry, prune-entry, renumber-entry}
 use Rattle.laws.specs.Fit.{Bytes, Fit}
-use Rattle.laws.proofs.Basics.{unbind, rebind, ok-is, fault-ok, no-fault, passed}
+use Rattle.laws.proofs.Basics.{unbind, rebind, ok-is, passed}
+use Rattle.laws.proofs.Identified.{sound-without}
 use Rattle.laws.proofs.RoundTrip.{both}
 use Rattle.laws.proofs.Fitting.{ids-sized, decode-fit}
 
--- ---- 2, 7 and 8
+-- ---- 2
 
 sized-trees : (s : Stored) (q : Lent) → sized-update s q ≡ true
     → (sized (s .records) (s .pool) ≡ true) × (sized (q .added-records) (q .request-pool) ≡ true)
@@ -32,16 +32,6 @@ sized-trees s q e =
     let entries = whole 8 64 (q .deletions) && whole 8 64 (q .additions) in
     let o = both (sized-ids 64 (s .records) (s .pool) (q .identifiers)) (entries && sized _ _) e in
     (ids-sized 64 _ _ (q .identifiers) (o .0), both entries (sized _ _) (o .1) .1)
-
--- 7 and 8 do not look at the identifiers or the number of the list.
-pub sound-any : (l : ℕ) (t : Forest Field) (identifiers : List ℕ) {x : Unit {0}}
-    → sound l t identifiers ≡ ok x
-    → sound 0 t [] ≡ ok tt
-unfolding sound
-sound-any l t identifiers e =
-    unbind _ _ e λ _ e₁ a₁. unbind _ _ a₁ λ _ e₂ _.
-    rebind _ _ (no-fault 7 0 (fault-ok 7 l (repeated eqb [] 0 (ids t)) e₁))
-    (rebind _ _ (no-fault 8 0 (fault-ok 8 l (repeated same [] 0 (names [] t)) e₂)) refl)
 
 -- ---- a tree that was read
 
@@ -100,7 +90,7 @@ open-renumber s p i start lr ln li r e =
     let z = ids-sized 64 s p i (passed 2 0 0 (sized-ids 64 s p i) e₂) in
     record {
       tree = t;
-      base = record { sizes = z; decodes = e₃; sound-tree = sound-any 0 t (id-list i) e₅ };
+      base = record { sizes = z; decodes = e₃; sound-tree = sound-without 0 t (id-list i) e₅ };
       renumbers = rw (← (ok-is a₄)) e₄;
     }
 
@@ -123,7 +113,7 @@ open-update s q r e =
     let z = sized-trees s q (passed 2 0 0 (sized-update s q) e₂) in
     record {
       tree = t;
-      base = record { sizes = z .0; decodes = e₃; sound-tree = sound-any 0 t (id-list (q .identifiers)) e₉ };
+      base = record { sizes = z .0; decodes = e₃; sound-tree = sound-without 0 t (id-list (q .identifiers)) e₉ };
       new = n;
       new-sizes = z .1;
       new-decodes = e₄;
