@@ -49,6 +49,11 @@ unfolding sound
 sound-identified l t identifiers e =
     unbind _ _ e λ _ _ a₁. unbind _ _ a₁ λ _ _ a₂. fault-ok 9 5 (place-of (breaks t) 0 identifiers) a₂
 
+pub sound-members : (l : ℕ) (t : Forest Field) (identifiers : List ℕ) {x : Unit {0}} → sound l t identifiers ≡ ok x
+    → (i : ℕ) → i ∈ identifiers → i ∈ ids t
+sound-members l t identifiers e i h =
+    identified-in t i (holds-nowhere (breaks t) 0 identifiers (sound-identified l t identifiers e) i h)
+
 pub sound-known : (l : ℕ) (t : Forest Field) (identifiers : List ℕ) {x : Unit {0}} → sound l t identifiers ≡ ok x
     → place-of (λ i. not (among i (ids t))) 0 identifiers ≡ none
 sound-known l t identifiers e =

@@ -12,6 +12,7 @@ pub mod Pruned
 pub mod Identified
 pub mod Opened
 pub mod Again
+pub mod Passing
 pub mod Storing
 pub mod Receiving
 pub mod Standing

@@ -25,13 +25,21 @@ use Rattle.laws.proofs.Fitting.{ids-sized, decode-fit}
 
 -- ---- 2
 
+ids-few : (most : ℕ) (s p i : List ℕ) → sized-ids most s p i ≡ true → whole 4 most i ≡ true
+unfolding sized-ids
+ids-few most s p i e = both (sized s p) (whole 4 most i) e .1
+
 sized-trees : (s : Stored) (q : Lent) → sized-update s q ≡ true
     → (sized (s .records) (s .pool) ≡ true) × (sized (q .added-records) (q .request-pool) ≡ true)
+    × (whole 4 64 (q .identifiers) ≡ true)
 unfolding sized-update
 sized-trees s q e =
     let entries = whole 8 64 (q .deletions) && whole 8 64 (q .additions) in
-    let o = both (sized-ids 64 (s .records) (s .pool) (q .identifiers)) (entries && sized _ _) e in
-    (ids-sized 64 _ _ (q .identifiers) (o .0), both entries (sized _ _) (o .1) .1)
+    let o = both (sized-ids 64 (s .records) (s .pool) (q .identifiers)) (entries && sized _ _) e in (
+      ids-sized 64 _ _ (q .identifiers) (o .0),
+      both entries (sized _ _) (o .1) .1,
+      ids-few 64 (s .records) (s .pool) (q .identifiers) (o .0),
+    )
 
 -- ---- a tree that was read
 
@@ -77,6 +85,7 @@ open-prune s p sel full lr ln r e =
 pub record OpenedRenumber (s p i : List ℕ) (start : ℕ) (r : Result) : Type 0 where
   pub tree : Forest Field
   pub base : Base s p tree
+  pub few : whole 4 64 i ≡ true
   pub renumbers : renumber tree (id-list i) (turned start)
       ≡ ok (record { tree = r .tree; identifiers = r .identifiers })
 
@@ -87,16 +96,19 @@ unfolding renumber-entry renumber
 open-renumber s p i start lr ln li r e =
     unbind _ _ e λ _ _ a₁. unbind _ _ a₁ λ _ e₂ a₂. unbind _ _ a₂ λ t e₃ a₃. unbind _ _ a₃ λ u e₄ a₄.
     unbind _ _ e₄ λ _ e₅ _.
-    let z = ids-sized 64 s p i (passed 2 0 0 (sized-ids 64 s p i) e₂) in
+    let sizes = passed 2 0 0 (sized-ids 64 s p i) e₂ in
+    let z = ids-sized 64 s p i sizes in
     record {
       tree = t;
       base = record { sizes = z; decodes = e₃; sound-tree = sound-without 0 t (id-list i) e₅ };
+      few = ids-few 64 s p i sizes;
       renumbers = rw (← (ok-is a₄)) e₄;
     }
 
 pub record OpenedUpdate (s : Stored) (q : Lent) (r : Result) : Type 0 where
   pub tree : Forest Field
   pub base : Base (s .records) (s .pool) tree
+  pub few : whole 4 64 (q .identifiers) ≡ true
   pub new : Forest Field
   pub new-sizes : sized (q .added-records) (q .request-pool) ≡ true
   pub new-decodes : decode 1 (q .added-records) (q .request-pool) ≡ ok new
@@ -114,6 +126,7 @@ open-update s q r e =
     record {
       tree = t;
       base = record { sizes = z .0; decodes = e₃; sound-tree = sound-without 0 t (id-list (q .identifiers)) e₉ };
+      few = z .2;
       new = n;
       new-sizes = z .1;
       new-decodes = e₄;
