@@ -10,16 +10,13 @@ use Rattle.paper.specs.Forest.{Forest}
 use Rattle.paper.specs.Field.{Field}
 use Rattle.paper.specs.Sound.{sound}
 use Rattle.paper.specs.Lists.{id-list}
-use Rattle.paper.specs.Encode.{record-bytes, pool-bytes}
 use Rattle.paper.specs.Limits.{room}
-use Rattle.paper.specs.Lent.{Stored, Lent}
+use Rattle.paper.specs.Lent.{Lent}
 use Rattle.paper.specs.Entries.{Result, update-entry}
 use Rattle.paper.specs.Outcome.{leaves, out-identifiers}
+use Rattle.theorems.specs.Stored.{bytes-of}
 
--- The bytes of a tree, and a request that asks for nothing.
-abbrev pub bytes-of : Forest Field → (last : ℕ) → Stored
-bytes-of tree last = record { records = record-bytes tree; pool = pool-bytes tree; last = last }
-
+-- A request that asks for nothing.
 abbrev pub nothing-with : (identifiers : List ℕ) (room-records room-names : ℕ) → Lent
 nothing-with identifiers room-records room-names =
     record {
