@@ -9,11 +9,11 @@ use mathlib.Core.List.{List, [], _∷_, _++_, map}
 use mathlib.Core.Option.{some}
 use native.Mathlib.Omega.{arith}
 use lib.Dec.{eqb}
-use borrow.Author.Tests.{eqb-true, ne-eqb, not-false}
+use borrow.Author.Tests.{ne-eqb, not-false}
 use Rattle.paper.specs.Answer.{ok, all, find}
 use Rattle.paper.specs.Forest.{Forest, empty, node, siblings, mapped}
 use Rattle.paper.specs.Field.{Field, kind-of, with-id}
-use Rattle.paper.specs.Rows.{Row, Start, top, row, below, beside, rows, look-id}
+use Rattle.paper.specs.Rows.{Row, Start, top, below, beside, rows, look-id}
 use Rattle.paper.specs.Sound.{ids, identifying, holding, identifies, sound}
 use Rattle.paper.specs.Renumber.{renamed, level, numbered, Renumbered, renumber}
 use Rattle.paper.specs.Update.{Request, Schema}

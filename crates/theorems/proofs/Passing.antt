@@ -1,29 +1,29 @@
 -- What was answered can be lent again with its identifiers: it passes 9 with them, and an update that asks for nothing
 -- rebuilds its base.
-use Prim.Native.Nat.{ℕ, zero, suc, _+_, _*_, _/_, _%_, _<_, _≤_}
-use mathlib.Core.Path.{_≡_, refl, sym, ap, ap₂, subst, _∙_}
+use Prim.Native.Nat.{ℕ, suc, _+_, _*_, _/_, _%_, _<_}
+use mathlib.Core.Path.{_≡_, refl, sym, ap, ap₂, _∙_}
 use mathlib.Core.Logic.{inl, inr, ⊎-elim}
 use mathlib.Core.Bool.{Bool, true, false, _&&_}
-use mathlib.Core.List.{List, [], _∷_, _++_, map}
+use mathlib.Core.List.{List, [], _∷_}
 use mathlib.Core.Option.{Option, none, some}
 use native.Mathlib.Omega.{arith}
 use lib.Dec.{eqb, leb}
-use lib.ListN.{length, take, drop, length-map}
+use lib.ListN.{length, drop, length-map}
 use lib.Seq.{take-at, drop-drop}
 use borrow.Author.Tests.{eqb-true}
 use Rattle.paper.specs.Answer.{ok, _>>=_, lowest}
-use Rattle.paper.specs.Forest.{Forest, empty, node, size, siblings, mapped}
+use Rattle.paper.specs.Forest.{Forest, empty, node, siblings, mapped}
 use Rattle.paper.specs.Field.{Field, id-of, kind-of, with-id, is-struct}
 use Rattle.paper.specs.Sound.{misnamed, ids, sound, within}
 use Rattle.paper.specs.Renumber.{renamed, numbered, Renumbered, renumber}
-use Rattle.paper.specs.Update.{Request, Schema, Plan, schema, request, deleted, placed-all, planned}
+use Rattle.paper.specs.Update.{Schema, Plan, schema, request, deleted, placed-all, planned}
 use Rattle.paper.specs.Rebuild.{arrivals, arriving, rebuilt, carried-out, update}
 use Rattle.paper.specs.Bytes.{word32, turned, from}
 use Rattle.paper.specs.Lists.{ok-deletion, ok-addition, entries-ok, deletion-paths, addition-paths, id-at, id-list}
 use Rattle.paper.specs.Layout.{roots}
 use Rattle.paper.specs.Decode.{fields, decode}
 use Rattle.paper.specs.Encode.{bytes32, id-bytes}
-use Rattle.paper.specs.Limits.{room, whole, sum-from, name-sum, tree-sized, pool-sized, sized, sized-ids, sized-update}
+use Rattle.paper.specs.Limits.{whole, sum-from, name-sum, tree-sized, pool-sized, sized, sized-ids, sized-update}
 use Rattle.paper.specs.Lent.{Stored, Lent}
 use Rattle.paper.specs.Entries.{Result, update-entry, renumber-entry}
 use Rattle.paper.specs.Outcome.{leaves}
