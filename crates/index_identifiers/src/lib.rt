@@ -86,11 +86,12 @@ fn held<'a>(trees: &Trees<'a>, plan: &PlanRows, m: usize, index: &IndexRows, slo
     let mut left = 15u32;
     while 0 < place {
         let k = place - 1;
+        let above = cell(index, UPS, k);
         if !holding(trees, plan[SOURCES][k]) {
             return false;
         }
         left -= 1;
-        place = cell(index, UPS, k);
+        place = above;
     }
     true
 }
