@@ -40,10 +40,10 @@ use Rattle.tree_walk.proofs.Opening as walk
 use Rattle.plan.specs.Plan.{Plan, plan-fields}
 use Rattle.plan.specs.Sources.{Written}
 use Rattle.plan.specs.Table.{sources, numbers, members, PlanIn, fields-in}
-use Rattle.plan.proofs.Standing.{plan-is, fields-size}
+use Rattle.plan.proofs.Standing.{fields-size}
 use Rattle.index_ids.specs.Ids.{ids-in}
 use Rattle.index.specs.Index.{Readable, BaseIndexed}
-use Rattle.index.proofs.Looking.{ids-in-order}
+use Rattle.index_names.proofs.Rows.{plan-ids}
 use Rattle.renumber_id_reassigner.specs.declared.Reassigned.{Reassigned}
 use Rattle.renumber_id_reassigner.specs.Numbers.{Room, Given}
 use Rattle.renumber_identifiers.specs.Mapped.{Mappable, mapped-bytes, Mapped}
@@ -165,7 +165,7 @@ module _ (records pool identifiers : List ℕ) (lr ln li : ℕ) where
               refuses (entry start) (refusal-of 18 0 0) (for-records out-r ∷ for-names out-n ∷ for-identifiers out-i ∷ []) (entry-is start ∙ rw (is-sound, q))
 
           ids-are : ids tree ≡ ids-in (numbers plan) (slots records)
-          ids-are = ap ids (plan-is (alone records pool) _ _ _ _ (b .planned)) ∙ ids-in-order (alone records pool) _ _ _ _ (b .planned)
+          ids-are = plan-ids (alone records pool) _ _ _ _ (b .planned)
 
           pub mappable : (out : List ℕ) → li ≡ length out → Mappable identifiers (numbers plan) index (slots records) out
           unfolding sound
@@ -201,7 +201,7 @@ module _ (records pool identifiers : List ℕ) (lr ln li : ℕ) where
 
                 new-ids-are : ids new-tree ≡ ids-in new (slots records)
                 new-ids-are =
-                    sym (ap ids new-tree-is) ∙ ap ids (plan-is (alone records pool) _ _ _ _ planned) ∙ ids-in-order (alone records pool) _ _ _ _ planned
+                    sym (ap ids new-tree-is) ∙ plan-ids (alone records pool) _ _ _ _ planned
                     ∙ ap (λ (is : List ℕ). ids-in is (slots records)) (getD-set-same plan 1 new [] (let a = b .roomy .rows in omega arith))
 
                 pub done : (start : ℕ) (out-identifiers identifiers′ : List ℕ) → first ≡ turned start → Mapped identifiers (numbers plan) new (slots records) out-identifiers identifiers′
