@@ -1,4 +1,4 @@
-// The identifiers of a tree: refusal 9. What an identifier finds must be a column that may identify, and so must what stands above it.
+// The identifiers of a tree: refusal 9, of a column that an id finds and of those above it.
 use index_ids::IndexRows;
 use index_ids::UPS;
 use index_ids::cell;
@@ -33,7 +33,8 @@ ghost use Rattle.index_ids.specs.Table.{ups-in};
 ghost use Rattle.index_names.specs.Told.{Raised};
 ghost use Rattle.index_identifiers.specs.Nine.{held-up, rule-9};
 
-// Whether the record at a slot may identify: a primitive, required, neither float nor double. Its name is not asked.
+// Whether the record at a slot may identify: a primitive, required, neither float nor double. Its
+// name is not asked.
 fn identifying_at(recs: &[u8], slot: usize) -> bool
     requires { ⌜ slot * 24 + 24 ≤ length (now recs) ⌝ }
     ensures { λ r. ⌜ r ≡ identifying (field-at [] (now (recs .entry)) slot) ⌝ }
@@ -74,8 +75,8 @@ fn holding<'a>(trees: &Trees<'a>, source: u32) -> bool
     holding_at(trees[ADDED_RECORDS], k - 1024)
 }
 
-// Whether all records above a slot may stand above an identifier. Each turn is a level up, and of 16 levels 15 are above, so `left`
-// is never below 0.
+// Whether all records above a slot may stand above an identifier. Each turn is a level up, and of
+// 16 levels 15 are above, so `left` is never below 0.
 fn held<'a>(trees: &Trees<'a>, plan: &PlanRows, m: usize, index: &IndexRows, slot: usize) -> bool
     requires { ⌜ (slot < m) × PlanIn (trees-in (now trees)) (now plan) m
         × Raised (members (now plan)) m (ups-in (now index)) ⌝ }
@@ -86,11 +87,12 @@ fn held<'a>(trees: &Trees<'a>, plan: &PlanRows, m: usize, index: &IndexRows, slo
     let mut left = 15u32;
     while 0 < place {
         let k = place - 1;
+        let above = cell(index, UPS, k);
         if !holding(trees, plan[SOURCES][k]) {
             return false;
         }
         left -= 1;
-        place = cell(index, UPS, k);
+        place = above;
     }
     true
 }

@@ -1,45 +1,22 @@
 -- Going up from a slot by the places above: a record goes if it is dropped as a member, or if the one above it goes.
-use Prim.Native.Nat.{ℕ, zero, suc, _+_, _-_, _≤_}
+use Prim.Native.Nat.{ℕ, zero, suc}
 use mathlib.Core.Path.{_≡_, refl, sym, subst, _∙_}
 use mathlib.Core.Logic.{inl, inr, ⊎-elim}
 use mathlib.Core.Bool.{Bool, true, false, _||_, cond, or-true, or-false}
 use mathlib.Core.List.{List, _∷_, _++_}
-use native.Mathlib.Numerals.{sub-one}
-use native.Mathlib.Omega.{arith}
 use lib.Dec.{eqb}
 use lib.ListN.{getD}
 use Rattle.paper.specs.Answer.{among}
 use Rattle.paper.specs.Bytes.{kind-at}
 use Rattle.paper.specs.Field.{is-struct}
-use Rattle.paper.specs.Forest.{Forest, empty, node, size, levels, preorder}
+use Rattle.paper.specs.Forest.{Forest, empty, node, preorder}
 use Rattle.paper.specs.Gone.{dropped-member, gone}
 use Rattle.laws.specs.Members.{_∈_}
-use Rattle.laws.proofs.Agreeing.{Agrees, agrees-first, agrees-left, agrees-right}
 use Rattle.laws.proofs.Among.{among-none, among-left, among-right}
 use Rattle.laws.proofs.Basics.{Apart, Distinct, distinct-append, in-left, in-right, in-append, any-true, eqb-self}
 use Rattle.laws.proofs.Going.{gone-there}
-use Rattle.plan.proofs.Walks.{Numbered}
-use Rattle.index_names.specs.Full.{ups}
-use Rattle.index_names.proofs.Marking.{length-ups}
+use Rattle.index_names.proofs.Rising.{Climbs}
 use Rattle.update_gone.specs.Gone.{slot-id, open-under}
-
--- Each slot of a forest has in `us` the place above it: u, or that of the record that holds it.
-abbrev pub Climbs : List ℕ → ℕ → Forest ℕ → Type 0
-Climbs us u empty = Unit {0}
-Climbs us u (node k m n) = (getD us k 0 ≡ u) × (Climbs us (suc k) m × Climbs us u n)
-
-pub climbs-told : (us : List ℕ) (f : Forest ℕ) (k u : ℕ) → Numbered k f → Agrees (λ i. getD us i 0) 0 k (size f) (ups u f) → Climbs us u f
-unfolding ups size
-climbs-told us empty k u nd ag = tt
-climbs-told us (node j m n) k u nd ag =
-    let e : j ≡ k = nd .0 in
-    let G : ℕ → ℕ = λ i. getD us i 0 in
-    let h : Agrees G 0 k (suc (size m + size n)) (u ∷ (ups (suc k) m ++ ups u n)) = subst (λ t. Agrees G 0 k (suc (size m + size n)) (u ∷ (ups (suc t) m ++ ups u n))) e ag in
-    let l = length-ups (suc k) m in
-    rw e
-    (agrees-first G 0 k (size m) (size n) u (ups (suc k) m) (ups u n) h, (climbs-told us m (suc k) (suc k) (nd .1 .0) (agrees-left G 0 k (size m) (size n) u (ups (suc k) m) (ups u n) h l), climbs-told us n (suc k + size m) u (nd .1 .1) (agrees-right G 0 k (size m) (size n) u (ups (suc k) m) (ups u n) h l)))
-
--- ---- a level up
 
 -- Whether the slot of a place is one of these.
 abbrev pub goes-at : List ℕ → ℕ → Bool
@@ -142,44 +119,3 @@ module _ (us gs : List ℕ) where
         (λ q. steps m (suc j) (is-struct (kind-at records j)) (c .1 .0) (z .0 .0) refl (not-taken j m n b d h q) (same-inner j m n b d h q) k l))
         (λ l. steps n u b (c .1 .1) (z .0 .1) eb w (same-next j m n b d h) k l)
         (in-append k (preorder m) (preorder n) i)
-
--- ---- how far up it is
-
--- The place that so many steps up lead to.
-unfoldable pub risen : (us : List ℕ) (steps place : ℕ) → ℕ
-risen us zero u = u
-risen us (suc s) zero = 0
-risen us (suc s) (suc k) = risen us s (getD us k 0)
-
-module _ (us : List ℕ) where
-  a-step : (j u s : ℕ) → getD us j 0 ≡ u → ((t : ℕ) → s ≤ t → risen us t u ≡ 0) → (t : ℕ) → suc s ≤ t → risen us t (suc j) ≡ 0
-  unfolding risen
-  a-step j u s e h zero l = absurd (omega arith)
-  a-step j u s e h (suc t) l = rw e (h t (omega arith))
-
-  -- Above each record there are fewer levels than the forest has, and those above the forest.
-  pub levels-up : (f : Forest ℕ) (u s : ℕ) → Climbs us u f → ((t : ℕ) → s ≤ t → risen us t u ≡ 0) → (t : ℕ) → levels f + s ≤ t → (k : ℕ) → k ∈ preorder f → risen us t (suc k) ≡ 0
-  unfolding preorder levels
-  levels-up empty u s c h t l k i = absurd i
-  levels-up (node j m n) u s c h t l k (inl e) = rw e (a-step j u s (c .0) h t (omega arith))
-  levels-up (node j m n) u s c h t l k (inr i) =
-      ⊎-elim
-      (λ q. levels-up m (suc j) (suc s) (c .1 .0) (a-step j u s (c .0) h) t (omega arith) k q)
-      (λ q. levels-up n u s (c .1 .1) h t (omega arith) k q)
-      (in-append k (preorder m) (preorder n) i)
-
-  pub nothing-up : (t : ℕ) → risen us t 0 ≡ 0
-  unfolding risen
-  nothing-up zero = refl
-  nothing-up (suc t) = refl
-
-  -- a place that is not yet at the top has a step left, and a step less is left of the place above
-  pub rising-left : (s k : ℕ) → risen us s (suc k) ≡ 0 → 1 ≤ s
-  unfolding risen
-  rising-left zero k e = absurd (omega arith)
-  rising-left (suc s) k e = omega arith
-
-  pub rising-on : (s k : ℕ) → risen us s (suc k) ≡ 0 → risen us (s - 1) (getD us k 0) ≡ 0
-  unfolding risen
-  rising-on zero k e = absurd (omega arith)
-  rising-on (suc s) k e = rw (sub-one (suc s)) e

@@ -3,7 +3,6 @@ use Prim.Native.Nat.{ℕ, zero, suc, _+_, _-_, _*_, _<_, _≤_}
 use mathlib.Core.Path.{_≡_, refl, sym, ap, _∙_}
 use mathlib.Core.Bool.{Bool, true, false, _||_}
 use mathlib.Core.List.{List, []}
-use native.Mathlib.Nat.{zero-add}
 use native.Mathlib.Numerals.{add-one, sub-one}
 use native.Mathlib.Omega.{arith}
 use lib.ListN.{length, getD}
@@ -11,24 +10,18 @@ use Rattle.paper.specs.declared.Kind.{Kind}
 use Rattle.paper.specs.Answer.{among}
 use Rattle.paper.specs.Bytes.{kids-at, kind-at}
 use Rattle.paper.specs.Field.{is-struct}
-use Rattle.paper.specs.Forest.{Forest, size, levels, preorder}
+use Rattle.paper.specs.Forest.{Forest, preorder}
 use Rattle.paper.specs.Gone.{dropped-member, gone}
-use Rattle.paper.specs.Layout.{roots}
 use Rattle.laws.specs.Members.{_∈_}
-use Rattle.laws.proofs.Agreeing.{Agrees}
 use Rattle.laws.proofs.Among.{among-values, distinct-values}
-use Rattle.laws.proofs.Finding.{in-from}
 use Rattle.laws.proofs.Going.{gone-there}
-use Rattle.laws.proofs.Taken.{Took, roots-take}
-use Rattle.tree.specs.Read.{got, itself}
-use Rattle.tree.proofs.Filled.{laid-slots}
-use Rattle.tree.proofs.Steps.{fine-got}
 use Rattle.plan.specs.Walk.{trees-of}
-use Rattle.plan.proofs.Walks.{Numbered, all-numbered, all-there, roots-are}
+use Rattle.plan.proofs.Walks.{roots-are}
 use Rattle.index_names.specs.Full.{ups}
+use Rattle.index_names.proofs.Rising.{Climbs, climbs, risen, rising-left, rising-on, slot-there, up-ends}
 use Rattle.index_names.proofs.Telling.{ups-fall}
 use Rattle.update_gone.specs.Gone.{base-slots, slot-id, ids-gone, open-under, Rises}
-use Rattle.update_gone.proofs.Climbing.{Climbs, climbs-told, goes-at, steps, risen, levels-up, nothing-up, rising-left, rising-on}
+use Rattle.update_gone.proofs.Climbing.{goes-at, steps}
 
 -- ---- who stands under a place
 
@@ -42,31 +35,23 @@ module _ {records : List ℕ} {n : ℕ} {us : List ℕ} (R : Rises records n us)
   walked : base-slots records n ≡ trees-of (kids-at records) n
   walked = roots-are 0 (kids-at records) n (R .read)
 
-  numbered : Numbered 0 (base-slots records n)
-  numbered = rw walked (all-numbered (kids-at records) n)
+  raised : (k : ℕ) → k < n → getD us k 0 ≡ getD (ups 0 (trees-of (kids-at records) n)) k 0
+  raised k l = R .above k l ∙ ap (λ (f : Forest ℕ). getD (ups 0 f) k 0) walked
 
-  sized : size (base-slots records n) ≡ n
-  sized = rw walked (all-there (kids-at records) n)
+  climbing : Climbs us 0 (trees-of (kids-at records) n)
+  climbing = climbs (kids-at records) n us raised
 
-  taken : Took (kids-at records) n 16 0 (got (roots 0 (kids-at records) n n 0))
-  taken = let x = roots 0 (kids-at records) n n 0 in roots-take 0 (kids-at records) n n 0 (got x) (fine-got x (R .read))
-
-  few-levels : levels (base-slots records n) ≤ 16
-  few-levels = taken .depth
-
-  climbs : Climbs us 0 (base-slots records n)
-  unfolding Agrees
-  climbs = climbs-told us (base-slots records n) 0 0 numbered (λ i l. ap (λ j. getD us j 0) (zero-add i) ∙ R .above i (omega (arith, sized)))
+  base-climbs : Climbs us 0 (base-slots records n)
+  base-climbs = rw walked climbing
 
   there : (k : ℕ) → k < n → k ∈ preorder (base-slots records n)
-  there k l =
-      rw (laid-slots (kids-at records) n 0 (base-slots records n) (taken .laid), sized) (in-from itself 0 n k (omega arith) (omega arith))
+  there k l = rw walked (slot-there 0 (kids-at records) n (R .read) k l)
 
   up-falls : (k : ℕ) → k < n → getD us k 0 ≤ k
-  up-falls = ups-fall (λ _. []) (kids-at records) n us (λ k l. R .above k l ∙ ap (λ (f : Forest ℕ). getD (ups 0 f) k 0) walked)
+  up-falls = ups-fall (λ _. []) (kids-at records) n us raised
 
-  up-ends : (k : ℕ) → k < n → risen us 16 (suc k) ≡ 0
-  up-ends k l = levels-up us (base-slots records n) 0 0 climbs (λ t _. nothing-up us t) 16 (omega (arith, few-levels)) k (there k l)
+  base-ends : (k : ℕ) → k < n → risen us 16 (suc k) ≡ 0
+  base-ends = up-ends 0 (kids-at records) n (R .read) us climbing
 
 -- Whether what stands at a place goes.
 abbrev pub gone-at : (records : List ℕ) (n : ℕ) (ds : List ℕ) (place : ℕ) → Bool
@@ -89,7 +74,7 @@ module _ {records : List ℕ} {n : ℕ} {us : List ℕ} (R : Rises records n us)
   a-level : (k : ℕ) → k < n → among (slot-id records k) (ids-gone records n ds) ≡ (dropped-member (open-under records (getD us k 0)) ds (slot-id records k) || gone-at records n ds (getD us k 0))
   a-level k l =
       by-slot k l
-      ∙ steps us going records ds (base-slots records n) 0 true (climbs R) (distinct-values (slot-id records) (preorder (base-slots records n)) (R .own)) refl refl (λ i _. refl) k (there R k l)
+      ∙ steps us going records ds (base-slots records n) 0 true (base-climbs R) (distinct-values (slot-id records) (preorder (base-slots records n)) (R .own)) refl refl (λ i _. refl) k (there R k l)
       ∙ sym (ap (λ (b : Bool). dropped-member (open-under records (getD us k 0)) ds (slot-id records k) || b) (by-place (getD us k 0) (let q = up-falls R k l in omega arith)))
 
 -- ---- the loop
@@ -109,7 +94,7 @@ module _ {records : List ℕ} {n : ℕ} {us ds : List ℕ} {slot place left : �
 
 module _ {records : List ℕ} {n : ℕ} {us : List ℕ} (R : Rises records n us) where
   pub leave-starts : (ds : List ℕ) (slot : ℕ) → slot < n → Leaving records n us ds slot (slot + 1) 16
-  leave-starts ds slot l = rw (add-one slot) record { within = l; same = refl; low = up-ends R slot l }
+  leave-starts ds slot l = rw (add-one slot) record { within = l; same = refl; low = base-ends R slot l }
 
   module _ {ds : List ℕ} {slot place left : ℕ} (H : Leaving records n us ds slot place left) where
     pub leave-ends : place ≤ 0 → false ≡ among (slot-id records slot) (ids-gone records n ds)

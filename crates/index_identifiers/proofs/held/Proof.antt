@@ -22,13 +22,13 @@ held-spec =
     (λ c κs. search (holding-up, needs))  -- cell-requires
     (λ c. search (holding-up, needs))  -- loop-holds
     (λ c. search (holding-up, needs))  -- sub-k
+    (λ c κs. search (holding-up, needs))  -- cell-requires-2
     (λ c. search (holding-up, needs))  -- mul-holding
     (λ c. search (holding-up, needs))  -- index-1-holding
     (λ c. search (holding-up, needs))  -- index-2-holding
     (λ c κs. search (holding-up, needs))  -- holding-requires
     (λ c. search (holding-up, needs))  -- returns
     (λ c. search (holding-up, needs))  -- sub-left
-    (λ c κs. search (holding-up, needs))  -- cell-requires-2
     (λ c. search (holding-up, needs))  -- loop-less
     (λ c. search (holding-up, needs))  -- loop-again
     (λ c. search (holding-up, needs))  -- returns-2
