@@ -10,7 +10,7 @@ use Rattle.paper.specs.Bytes.{from}
 use Rattle.paper.specs.Field.{Field}
 use Rattle.paper.specs.Forest.{Forest, empty, node, size, mapped}
 use Rattle.paper.specs.Lister.{decimal, signed, parent-text, line, lines, listing, lister}
-use Rattle.paper.specs.Rows.{Row, Start, top, row, below, beside, rows, dotted}
+use Rattle.paper.specs.Rows.{Row, Start, top, row, below, beside, rows, dotted, nearest}
 use Rattle.laws.proofs.Preorder.{size-mapped}
 use Rattle.record.specs.declared.Refusal.{Refusal}
 use Rattle.record.specs.declared.Check.{Check}
@@ -89,7 +89,7 @@ module _ (l : Trees) (xs is : List ℕ) where
   fld k = field-in l xs is k
 
   -- A line of the paper.
-  line-is : (s : Start) (j u : ℕ) (t : Forest Field) → j ≡ s .slot → s .parent ≡ above is u → line (row s (fld j) t) ≡ text-of is (s .slot) u (s .full ++ name-in l xs j)
+  line-is : (s : Start) (j u : ℕ) (t : Forest Field) → j ≡ s .slot → nearest (s .above) ≡ above is u → line (row s (fld j) t) ≡ text-of is (s .slot) u (s .full ++ name-in l xs j)
   unfolding line-start
   line-is s j u t e p =
       rw (field-id l xs is j, field-name l xs is j, e, p)
@@ -97,7 +97,7 @@ module _ (l : Trees) (xs is : List ℕ) where
       ∙ ap (λ (z : List ℕ). decimal (s .slot) ++ (32 ∷ z)) (append-assoc (signed (id-in is (s .slot))) _ _
       ∙ ap (λ (z : List ℕ). signed (id-in is (s .slot)) ++ (32 ∷ z)) (append-assoc (parent-text (above is u)) _ _))))
 
-  rows-told : (f : Forest ℕ) (s : Start) (u : ℕ) → Numbered (s .slot) f → s .parent ≡ above is u → lines (rows s (mapped fld f)) ≡ told is (s .slot) (ups u f) (fulls (name-in l xs) (s .full) f)
+  rows-told : (f : Forest ℕ) (s : Start) (u : ℕ) → Numbered (s .slot) f → nearest (s .above) ≡ above is u → lines (rows s (mapped fld f)) ≡ told is (s .slot) (ups u f) (fulls (name-in l xs) (s .full) f)
   unfolding rows lines mapped ups fulls told size
   rows-told empty s u nd p = refl
   rows-told (node j f g) s u nd p =

@@ -8,7 +8,7 @@ use borrow.Author.Tests.{not-true, not-false, leb-true, lt-ltb, le-ltb}
 use lib.Dec.{leb, ltb}
 use lib.ListN.{length, set}
 use lib.Seq.{getD-set-same, getD-set-other}
-use Rattle.paper.specs.Answer.{Answer, ok, _>>=_, among, place-of}
+use Rattle.paper.specs.Answer.{Answer, ok, _>>=_}
 use Rattle.paper.specs.Refusals.{roomy, limited}
 use Rattle.paper.specs.Forest.{Forest, size}
 use Rattle.paper.specs.Field.{Field, kind-of, with-id, highest}
@@ -20,7 +20,8 @@ use Rattle.paper.specs.Renumber.{numbered, renamed, renumber}
 use Rattle.paper.specs.Sound.{ids, sound}
 use Rattle.paper.specs.Entries.{Result, renumber-entry}
 use Rattle.paper.specs.Outcome.{for-records, for-names, for-identifiers, leaves, Answers}
-use Rattle.laws.proofs.Basics.{unbind, ok-is, fault-ok, bind-not, passed}
+use Rattle.laws.proofs.Identified.{sound-known}
+use Rattle.laws.proofs.Basics.{unbind, ok-is, bind-not, passed}
 use Rattle.laws.proofs.RoundTrip.{both, length-pool}
 use Rattle.laws.proofs.Fitting.{sized-slots, ids-sized, rooms-of}
 use Rattle.record.specs.declared.Refusal.{Refusal}
@@ -168,12 +169,11 @@ module _ (records pool identifiers : List ℕ) (lr ln li : ℕ) where
           ids-are = plan-ids (alone records pool) _ _ _ _ (b .planned)
 
           pub mappable : (out : List ℕ) → li ≡ length out → Mappable identifiers (numbers plan) index (slots records) out
-          unfolding sound
           mappable out e =
               record {
                 few = few;
                 chained = b .indexed d .by-id;
-                known = unbind _ _ is-sound λ _ e₁ a₁. unbind _ _ a₁ λ _ e₂ a₂. rw (← ids-are) (fault-ok 9 5 (place-of (λ j. not (among j (ids tree))) 0 (id-list identifiers)) a₂);
+                known = rw (← ids-are) (sound-known 0 tree (id-list identifiers) is-sound);
                 room = rw (← e) (leb-true (length identifiers) li (both (room lr ln) (leb (length identifiers) li) (p .rooms) .1));
               }
 

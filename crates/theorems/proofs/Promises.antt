@@ -27,7 +27,6 @@ use Rattle.paper.specs.Entries.{find-ids}
 use Rattle.paper.specs.Outcome.{changed, searched, out-identifiers, Found, Buffer, Answers}
 use Rattle.paper.specs.Sample.{T, T-records, T-pool}
 use Rattle.paper.specs.Asked.{AnUpdate, APruner, id-bytes, signed-id, answer, update-reply, _with-last_}
-use Rattle.paper.specs.Asked as Asked
 use Rattle.paper.specs.Worked.{examples}
 use Rattle.paper.specs.Pinned.{limits}
 use Rattle.paper.proofs.Hold.{T-decodes, all-hold}
@@ -57,7 +56,7 @@ use Rattle.theorems.proofs.Weighing.{gone-left-out}
 use Rattle.theorems.proofs.Beginning.{T-schema, T-stored, T-requests, T-begins, T-begins-stored}
 use Rattle.theorems.proofs.Beginning.{T-lends-bytes, accepted-in-a-row}
 use Rattle.theorems.proofs.Beginning.{keyed-schema, keyed-stored, keyed-by, keyed-requests, keyed-begins}
-use Rattle.theorems.proofs.Beginning.{keyed-begins-stored, keyed-lends-bytes, keyed-in-a-row}
+use Rattle.theorems.proofs.Beginning.{keyed-begins-stored, keyed-lends-bytes, keyed-answers, keyed-in-a-row}
 use Rattle.theorems.proofs.Ends as Ends
 use Rattle.theorems.proofs.Again.{decoded-again, update-again, prune-again, renumber-again}
 use Rattle.theorems.proofs.Again.{prune-parts, renumber-numbers}
@@ -156,14 +155,11 @@ runs-begin-identified = (keyed-begins, keyed-begins-stored, keyed-lends-bytes)
 
 -- then both again, which is refused, and changes nothing; then 2, and the name of 5 is added again, as 14. The
 -- identifiers before each, and after the last, are those of the last accepted one.
-pub runs-go-on-identified :
-    (map (λ i. update-reply (update-entry (run-stored keyed-stored keyed-requests i) (keyed-requests i)))
-    (0 ∷ 1 ∷ 2 ∷ 3 ∷ [])
-    ≡ ((1 ∷ 5 ∷ 11 ∷ 2 ∷ 12 ∷ []) with-last 12) ∷ ((1 ∷ 11 ∷ 2 ∷ 12 ∷ 13 ∷ []) with-last 13)
-    ∷ Asked.refusal_list_place_ 9 5 0 ∷ ((1 ∷ 11 ∷ 14 ∷ 2 ∷ 12 ∷ 13 ∷ []) with-last 14) ∷ [])
-    × (map
-    (identifiers-at keyed-by (λ i. update-entry (run-stored keyed-stored keyed-requests i) (keyed-requests i))
-    (λ i. keyed-requests i .identifiers)) (0 ∷ 1 ∷ 2 ∷ 3 ∷ 4 ∷ [])
+pub runs-go-on-identified : (update-reply (keyed-answers 0) ≡ (1 ∷ 5 ∷ 11 ∷ 2 ∷ 12 ∷ []) with-last 12)
+    × (update-reply (keyed-answers 1) ≡ (1 ∷ 11 ∷ 2 ∷ 12 ∷ 13 ∷ []) with-last 13)
+    × (keyed-answers 2 ≡ refused 9 5 0)
+    × (update-reply (keyed-answers 3) ≡ (1 ∷ 11 ∷ 14 ∷ 2 ∷ 12 ∷ 13 ∷ []) with-last 14)
+    × (map (identifiers-at keyed-by keyed-answers (λ i. keyed-requests i .identifiers)) (0 ∷ 1 ∷ 2 ∷ 3 ∷ 4 ∷ [])
     ≡ keyed-by ∷ keyed-by ∷ id-bytes (2 ∷ []) ∷ id-bytes (2 ∷ []) ∷ id-bytes (2 ∷ []) ∷ [])
 runs-go-on-identified = keyed-in-a-row
 
