@@ -3,15 +3,15 @@
 use std::path::Path;
 
 use braidhurdle::layout::{ENTRY_BYTES, ID_BYTES, RECORD_BYTES};
-use braidhurdle::{Field, FieldId, Refusal, RefusalKind, Request, Tree};
-use cases::{Ask, Case, Generator, OPERATIONS, Sizes};
+use braidhurdle::{Column, Field, FieldId, Refusal, RefusalKind, Request, Tree};
+use cases::{Ask, Case, Generator, OPERATIONS, Random, Sizes};
 use judge::UpdateCall;
 
-use crate::Fault;
 use crate::arguments::Addition;
 use crate::changes::{self, Changes};
 use crate::outline::Outline;
 use crate::words::{Asked, Given};
+use crate::{Fault, identifiers};
 
 /// The paths of a list of entries; none for one without.
 fn paths(entries: &[u8], pool: &[u8]) -> Option<Vec<Option<Vec<u8>>>> {
@@ -182,4 +182,50 @@ fn columns_that_are_alike_but_for_case_are_those_that_the_library_finds() {
     for count in [full, full_twice, nothing, short, short_twice] {
         assert!(count > 100, "{met:?}");
     }
+}
+
+/// A tree in which most records are required and some primitives have another type code.
+fn with_other_flags(random: &mut Random, mut records: Vec<u8>) -> Vec<u8> {
+    for record in records.chunks_exact_mut(RECORD_BYTES) {
+        record[10] |= u8::from(random.chance(7, 8));
+        if record[9] == 0 && random.chance(1, 4) {
+            record[16..20].copy_from_slice(&random.pick(&[0u32, 4, 5, 6, 7]).to_le_bytes());
+        }
+    }
+    records
+}
+
+#[test]
+fn conditions_on_identifiers_that_are_told_are_those_that_the_library_asks() {
+    let generator = Generator { seed: 144, sizes: Sizes::Usual };
+    let told = [
+        "and no primitive",
+        "it is optional",
+        "a float",
+        "a double",
+        "above it is an optional struct",
+        "above it is a list",
+        "above it is a map",
+    ];
+    let (mut accepted, mut alone) = (0, [0; 7]);
+    for n in 0..4_000 {
+        let Case { records, pool, .. } = generator.case(n);
+        let tree = Tree::new(with_other_flags(&mut Random::nth(145, n), records), pool);
+        let Ok(columns) = tree.columns() else { continue };
+        let columns: Vec<Column> = columns.collect();
+        for (slot, column) in columns.iter().enumerate() {
+            let broken = identifiers::broken(&columns, slot);
+            let verdict = match broken[..] {
+                [] => Ok(()),
+                _ => Err(Refusal { number: 9, list: 5, place: 0 }),
+            };
+            assert_eq!(tree.check_identifiers(&[column.id]), verdict, "case {n}: {broken:?}");
+            accepted += usize::from(broken.is_empty());
+            if let [words] = &broken[..] {
+                let which = told.iter().position(|end| words.contains(end));
+                alone[which.unwrap_or_else(|| panic!("case {n}: {words}"))] += 1;
+            }
+        }
+    }
+    assert!(accepted > 100 && alone.iter().all(|count| *count > 20), "{accepted}, {alone:?}");
 }
