@@ -79,10 +79,21 @@ fn goes(line: &str) -> bool {
     addition && line.contains(", which deletion ") && line.ends_with(" drops")
 }
 
+/// Does a line of 9 speak of the tree after the update, with the deletion that takes the identifier
+/// away, and not of the tree as given?
+#[track_caller]
+fn after(line: &str) -> bool {
+    let goes =
+        line.contains(": after the update: identifier ") && line.contains(", which deletion ");
+    assert_ne!(goes, line.contains(": base: identifier "), "{line}");
+    goes
+}
+
 #[test]
 fn a_tree_that_is_rebuilt_for_words_is_the_librarys_own() {
     let generator = Generator { seed: 141, sizes: Sizes::Usual };
     let (mut same, mut told) = (0, [0; RefusalKind::ALL.len() + 1]);
+    let mut nines = [0; 2];
     for n in 0..20_000 {
         let case = generator.case(n);
         let Some((call, (dropped, added))) =
@@ -121,11 +132,17 @@ fn a_tree_that_is_rebuilt_for_words_is_the_librarys_own() {
                 well_told(&line, refusal, n);
                 assert_eq!(refusal.number == 22, goes(&line), "case {n}: {line}");
                 told[refusal.number as usize] += 1;
+                if refusal.number == 9 {
+                    let of_base = tree.check_identifiers(&ids) == Err(refusal);
+                    assert_eq!(after(&line), !of_base, "case {n}: {line}");
+                    nines[usize::from(of_base)] += 1;
+                }
             }
             Err(_) => {}
         }
     }
     assert!(same > 200, "{same} trees");
+    assert!(nines.iter().all(|count| *count > 0), "9 after the update, and of the base: {nines:?}");
     for number in (2..=9).chain(11..=19).chain([22]) {
         assert!(told[number] > 0, "refusal {number} was not met: {told:?}");
     }
