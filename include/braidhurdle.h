@@ -50,7 +50,7 @@
 #include <stdint.h>
 
 /* The version of this boundary. It changes with any name, argument, result or size here. */
-#define BRAIDHURDLE_VERSION 5
+#define BRAIDHURDLE_VERSION 6
 /* The least output buffers, in bytes. */
 #define BRAIDHURDLE_RECORD_ROOM 24576
 #define BRAIDHURDLE_NAME_ROOM 32768
@@ -135,7 +135,7 @@ struct braidhurdle_name {
 
 /* Answers 5, the version of this boundary, which its name has too: an archive of another version has another name here. A program
  * that refers to it therefore links with no archive whose functions are declared otherwise. */
-uint32_t braidhurdle_abi_5(void);
+uint32_t braidhurdle_abi_6(void);
 
 /* Drops and adds columns. Deletions and additions are path entries into request_pool; the k-th root of added_records belongs to
  * the k-th addition, its names too stand in request_pool, and ids in it are ignored. Ids are handed out from last_id + 1: the

@@ -313,7 +313,7 @@ static void nulls(void)
 
 int main(void)
 {
-    held("abi_5: the version is the header's", braidhurdle_abi_5() == BRAIDHURDLE_VERSION);
+    held("abi_6: the version is the header's", braidhurdle_abi_6() == BRAIDHURDLE_VERSION);
     look_ups();
     look_ups_without_case();
     look_ups_of_many_ids();

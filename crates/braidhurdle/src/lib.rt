@@ -157,12 +157,12 @@ fn lay_searched(searched: Searched) -> SearchedNumbers
 }
 
 // The version of these functions, in its name too: whoever is compiled against other declarations asks for another name, and finds
-// none here. A change of any declaration raises both, and so does a number that was never told before.
+// none here. A change of any declaration raises both, and so does a call that is answered otherwise than before.
 #[no_mangle]
-pub extern "C" fn braidhurdle_abi_5() -> u32
-    ensures { λ r. ⌜ r ≡ 5 ⌝ }
+pub extern "C" fn braidhurdle_abi_6() -> u32
+    ensures { λ r. ⌜ r ≡ 6 ⌝ }
 {
-    5
+    6
 }
 
 // Drops and adds columns; ids are handed out from `last_id` + 1.

@@ -7,16 +7,14 @@ use mathlib.Core.Option.{Option, none, some}
 use Prim.Native.Nat.{ℕ, zero, suc, _-_, _<_, _≤_}
 use native.Mathlib.Omega.{arith}
 use borrow.Author.Tests.{not-true}
-use lib.Dec.{eqb}
 use lib.ListN.{getD}
 use Rattle.paper.specs.declared.Kind.{Kind}
 use Rattle.paper.specs.declared.Role.the-variants.{Member}
 use Rattle.paper.specs.Answer.{find, or-else, place-of, same, among}
-use Rattle.paper.specs.Bytes.{turned, from}
+use Rattle.paper.specs.Bytes.{turned}
 use Rattle.paper.specs.Forest.{Forest, mapped}
 use Rattle.paper.specs.Field.{Field}
 use Rattle.paper.specs.Rows.{Row, top, rows, entered, look-id, look-name, look-parent, look-some, parent-of}
-use Rattle.paper.specs.Sound.{names, ids}
 use Rattle.record.specs.declared.Slot.{Slot}
 use Rattle.record.specs.declared.FoundSlot.{FoundSlot}
 use Rattle.record.specs.declared.FoundSlot.the-variants as slots
@@ -24,20 +22,21 @@ use Rattle.record.specs.declared.Found.{Found}
 use Rattle.record.specs.declared.Found.the-variants.{At, Nothing}
 use Rattle.record.specs.Says.{found-row, slot-before}
 use Rattle.laws.proofs.Words.{turned-twice}
-use Rattle.laws.proofs.Finding.{eqb-flip}
 use Rattle.record.specs.Trees.{Trees}
 use Rattle.plan.specs.Plan.{kids-in, planned-field, plan-fields, Plan}
 use Rattle.plan.specs.Table.{numbers}
-use Rattle.plan.proofs.Standing.{field-in}
+use Rattle.plan.proofs.Standing.{field-in, field-id, plan-is}
 use Rattle.index_ids.specs.Chain.{Below, lowest-below}
-use Rattle.index_ids.specs.Ids.{id-in, is-id}
+use Rattle.index_ids.specs.Ids.{is-id}
 use Rattle.index_ids.specs.Table.{ups-in}
 use Rattle.index_ids.proofs.Chains.{found-within, found-below-room}
 use Rattle.index_ids.proofs.Repeats.{slot-at, found-below}
 use Rattle.plan.specs.Walk.{walk, trees-of}
 use Rattle.index_names.specs.Full.{fulls, ups, full-at}
 use Rattle.plan.specs.Named.{name-in, kind-in}
-use Rattle.index_names.specs.Told.{is-full}
+use Rattle.index_names.specs.Told.{Raised, is-full}
+use Rattle.index_names.proofs.Rising.{Climbs, climbs}
+use Rattle.index_names.proofs.Rows.{Rel, none-found, found-at, parent-at, line-nearest, id-row, full-row}
 use Rattle.plan.proofs.Walks.{all-there, all-numbered}
 use Rattle.index_names.proofs.Telling.{fulls-are}
 use Rattle.index_short_names.specs.declared.Sighting.{Sighting}
@@ -48,8 +47,7 @@ use Rattle.index_short_names.specs.Seek.{seek-in, outcome, sighting}
 use Rattle.index_short_names.proofs.Seeking.{past-is, found-is}
 use Rattle.index_short_names.proofs.Entered as short
 use Rattle.index_short_names.proofs.Entered.{short-rel, dotless, found-in}
-use Rattle.index.specs.Index.{Raised, Falling, at-slot, found-slot, held, ById, ByParent, short-slot}
-use Rattle.index.proofs.Rows.{field-id, field-name, plan-is, ids-are, names-are, Rel, none-found, found-at, parent-at, id-rel, full-rel}
+use Rattle.index.specs.Index.{Falling, at-slot, found-slot, held, ById, ByParent, short-slot}
 
 -- ---- places: `search placing`
 
@@ -78,10 +76,6 @@ pub ruleset placing = (slot-small, nothing-at, slot-found, at-is)
 
 -- ---- the rows of a plan
 
-place-ext : {A : Type 0} (t u : A → Bool) (k : ℕ) (xs : List A) → ((a : A) → t a ≡ u a) → place-of t k xs ≡ place-of u k xs
-place-ext t u k [] h = refl
-place-ext t u k (x ∷ xs) h = rw (h x, place-ext t u (suc k) xs h)
-
 module _ (l : Trees) (xs is ks : List ℕ) (m : ℕ) (p : Plan l xs is ks m) where
   abbrev fld : ℕ → Field
   fld k = field-in l xs is k
@@ -89,52 +83,42 @@ module _ (l : Trees) (xs is ks : List ℕ) (m : ℕ) (p : Plan l xs is ks m) whe
   abbrev places : Forest ℕ
   places = trees-of (kids-in ks) m
 
-  pub ids-in-order : ids (mapped (field-in l xs is) (trees-of (kids-in ks) m)) ≡ from (id-in is) 0 m
-  ids-in-order = ids-are fld (id-in is) places 0 (field-id l xs is) (all-numbered (kids-in ks) m) ∙ ap (from (id-in is) 0) (all-there (kids-in ks) m)
-
-  pub names-in-order : names [] (mapped (field-in l xs is) (trees-of (kids-in ks) m)) ≡ fulls (name-in l xs) [] (trees-of (kids-in ks) m)
-  names-in-order = names-are fld (name-in l xs) places [] (field-name l xs is)
-
-  rel-slot : {us : List ℕ} {O : Option Row} {o : Option ℕ} → Rel fld 0 us O o → found-row O ≡ found-slot is o
+  rel-slot : {us : List ℕ} {O : Option Row} {o : Option ℕ} → Rel fld us O o → found-row O ≡ found-slot is o
   unfolding found-row found-slot
   rel-slot none-found = refl
-  rel-slot (found-at {i = i} j e f g h) = rw (f, g, field-id l xs is i)
+  rel-slot (found-at {k = k} h) = rw (h .slot, h .field, field-id l xs is k)
 
   -- ---- by id
 
   module _ (i : ℕ) (w : FoundSlot) (e : w ≡ slot-before (lowest-below (is-id is i) 0 m)) where
-    id-found : Rel fld 0 (ups 0 places) (look-id (plan-fields l xs is ks m) i) (held w)
-    unfolding look-id
-    id-found =
-        let q : place-of (λ a. eqb a i) 0 (ids (mapped fld places)) ≡ held w =
-        ap (place-of (λ a. eqb a i) 0) ids-in-order ∙ place-ext (λ a. eqb a i) (eqb i) 0 (from (id-in is) 0 m) (λ a. eqb-flip a i) ∙ sym (ap held e ∙ held-before _ ∙ found-below (eqb i) (id-in is) m) in
-        rw (plan-is l xs is ks m p, ← q) (id-rel fld places (all-numbered (kids-in ks) m) (λ a. eqb a i))
+    id-found : (us : List ℕ) → Climbs us 0 places → Rel fld us (look-id (plan-fields l xs is ks m) i) (held w)
+    id-found us c = rw (e, held-before (lowest-below (is-id is i) 0 m)) (id-row l xs is ks m p us c i)
 
     by-id : found-row (look-id (plan-fields l xs is ks m) i) ≡ found-slot is (held w)
-    by-id = rel-slot id-found
+    by-id = rel-slot (id-found (ups 0 places) (climbs (kids-in ks) m (ups 0 places) (λ _ _. refl)))
 
     -- ---- by parent
 
     module _ (us : List ℕ) (rs : Raised ks m us) where
+      id-raised : Rel fld us (look-id (plan-fields l xs is ks m) i) (held w)
+      id-raised = id-found us (climbs (kids-in ks) m us (rs .above))
+
       no-id : w ≡ slots.Nothing → Nothing ≡ found-row (look-parent (plan-fields l xs is ks m) i)
       unfolding look-parent found-row
-      no-id z = go (look-id (plan-fields l xs is ks m) i) (subst (λ (v : FoundSlot). Rel fld 0 (ups 0 places) (look-id (plan-fields l xs is ks m) i) (held v)) z id-found)
+      no-id z = go (look-id (plan-fields l xs is ks m) i) (subst (λ (v : FoundSlot). Rel fld us (look-id (plan-fields l xs is ks m) i) (held v)) z id-raised)
         where
-          go : (O : Option Row) → Rel fld 0 (ups 0 places) O none → Nothing ≡ found-row (look-some (plan-fields l xs is ks m) (parent-of O))
+          go : (O : Option Row) → Rel fld us O none → Nothing ≡ found-row (look-some (plan-fields l xs is ks m) (parent-of O))
           go none none-found = refl
 
-      parent-is : (k : ℕ) → held w ≡ some k → k < m → parent-of (look-id (plan-fields l xs is ks m) i) ≡ parent-at fld (getD us k 0)
-      parent-is k z q = go (look-id (plan-fields l xs is ks m) i) (held w) id-found z
+      parent-is : (k : ℕ) → held w ≡ some k → parent-of (look-id (plan-fields l xs is ks m) i) ≡ parent-at fld (getD us k 0)
+      parent-is k z = go (look-id (plan-fields l xs is ks m) i) (subst (Rel fld us (look-id (plan-fields l xs is ks m) i)) z id-raised)
         where
-          go : (O : Option Row) (o : Option ℕ) → Rel fld 0 (ups 0 places) O o → o ≡ some k → parent-of O ≡ parent-at fld (getD us k 0)
-          go none none none-found w = absurd (let y : _≡_ {A = ℕ} 0 1 = cc in omega arith)
-          go (some r) (some i) (found-at j e f g h) w =
-              let y : j ≡ k = let x : i ≡ k = cc in omega arith in
-              h ∙ rw (y, rs .above k q)
+          go : (O : Option Row) → Rel fld us O (some k) → parent-of O ≡ parent-at fld (getD us k 0)
+          go (some r) (found-at h) = line-nearest fld us (h .above)
 
       module _ (u : ℕ) (s : Slot) (h : w ≡ slots.At s) (eu : u ≡ getD us (s .0) 0) where
         parent-at-place : parent-of (look-id (plan-fields l xs is ks m) i) ≡ parent-at fld u
-        parent-at-place = parent-is (s .0) (ap held h) (found-within (is-id is i) m w e s h) ∙ ap (parent-at fld) (sym eu)
+        parent-at-place = parent-is (s .0) (ap held h) ∙ ap (parent-at fld) (sym eu)
 
         no-parent : u ≡ 0 → Nothing ≡ found-row (look-parent (plan-fields l xs is ks m) i)
         unfolding look-parent found-row
@@ -149,23 +133,23 @@ module _ (l : Trees) (xs is ks : List ℕ) (m : ℕ) (p : Plan l xs is ks m) whe
   -- ---- by name: `search named`
 
   module _ (us : List ℕ) (rs : Raised ks m us) (x : List ℕ) where
-    abbrev full-row : Option Row
-    full-row = find (λ r. same (r .full) x) (rows top (plan-fields l xs is ks m))
+    abbrev named-row : Option Row
+    named-row = find (λ r. same (r .full) x) (rows top (plan-fields l xs is ks m))
 
     abbrev short-row : Option Row
     short-row = find (λ r. same (r .short) x) (entered [] top (plan-fields l xs is ks m))
 
-    full-found : (w : FoundSlot) → w ≡ slot-before (lowest-below (is-full l xs us x) 0 m) → Rel fld 0 (ups 0 places) full-row (held w)
+    full-found : (w : FoundSlot) → w ≡ slot-before (lowest-below (is-full l xs us x) 0 m) → Rel fld us named-row (held w)
     full-found w e =
-        let q : place-of (λ y. same y x) 0 (names [] (mapped fld places)) ≡ held w =
-        ap (place-of (λ y. same y x) 0) (names-in-order ∙ sym (fulls-are (name-in l xs) (kids-in ks) m us (rs .above))) ∙ sym (ap held e ∙ held-before _ ∙ found-below (λ y. same y x) (full-at (name-in l xs) us) m) in
-        rw (plan-is l xs is ks m p, ← q) (full-rel fld places (all-numbered (kids-in ks) m) (λ y. same y x))
+        let q : place-of (λ y. same y x) 0 (fulls (name-in l xs) [] places) ≡ held w =
+        ap (place-of (λ y. same y x) 0) (sym (fulls-are (name-in l xs) (kids-in ks) m us (rs .above))) ∙ sym (ap held e ∙ held-before _ ∙ found-below (λ y. same y x) (full-at (name-in l xs) us) m) in
+        rw (← q) (full-row l xs is ks m p us (climbs (kids-in ks) m us (rs .above)) (λ y. same y x))
 
-    rel-first : {vs : List ℕ} {O : Option Row} (k : ℕ) (O′ : Option Row) → Rel fld 0 vs O (some k) → found-row (or-else O O′) ≡ found-slot is (some k)
+    rel-first : {O : Option Row} (k : ℕ) (O′ : Option Row) → Rel fld us O (some k) → found-row (or-else O O′) ≡ found-slot is (some k)
     unfolding found-row found-slot
-    rel-first k O′ (found-at j e f g h) = rw (f, g, field-id l xs is k)
+    rel-first k O′ (found-at h) = rw (h .slot, h .field, field-id l xs is k)
 
-    rel-none : {vs : List ℕ} {O : Option Row} → Rel fld 0 vs O none → O ≡ none
+    rel-none : {O : Option Row} → Rel fld us O none → O ≡ none
     rel-none none-found = refl
 
     parts : _≡_ {A = (ℕ → List ℕ) × (ℕ → Kind)} (λ k. fld k .name, λ k. fld k .kind) (name-in l xs, kind-in l xs)
@@ -182,10 +166,10 @@ module _ (l : Trees) (xs is ks : List ℕ) (m : ℕ) (p : Plan l xs is ks m) whe
       pub by-full : (r : Found) (s : Slot) → w ≡ slots.At s → r ≡ found-slot is (held w) → r ≡ found-row (look-name (plan-fields l xs is ks m) x)
       unfolding look-name
       by-full r s h er =
-          er ∙ ap (λ (v : FoundSlot). found-slot is (held v)) h ∙ sym (rel-first (s .0) short-row (subst (λ (v : FoundSlot). Rel fld 0 (ups 0 places) full-row (held v)) h (full-found w e)))
+          er ∙ ap (λ (v : FoundSlot). found-slot is (held v)) h ∙ sym (rel-first (s .0) short-row (subst (λ (v : FoundSlot). Rel fld us named-row (held v)) h (full-found w e)))
 
-      no-full : w ≡ slots.Nothing → full-row ≡ none
-      no-full h = rel-none (subst (λ (v : FoundSlot). Rel fld 0 (ups 0 places) full-row (held v)) h (full-found w e))
+      no-full : w ≡ slots.Nothing → named-row ≡ none
+      no-full h = rel-none (subst (λ (v : FoundSlot). Rel fld us named-row (held v)) h (full-found w e))
 
       pub by-short : (r : Found) → w ≡ slots.Nothing → r ≡ found-slot is (short-slot l xs ks m x) → r ≡ found-row (look-name (plan-fields l xs is ks m) x)
       unfolding look-name found-row found-slot

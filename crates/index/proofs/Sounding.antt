@@ -6,9 +6,10 @@ use mathlib.Core.List.{List, []}
 use Prim.Native.Nat.{ℕ, _<_}
 use native.Mathlib.Omega.{arith}
 use lib.Dec.{eqb}
-use Rattle.paper.specs.Answer.{Answer, _>>=_, fault, among, place-of, repeated, same}
+use Rattle.paper.specs.Answer.{Answer, _>>=_, fault, place-of, repeated, same}
 use Rattle.paper.specs.Lists.{id-list}
-use Rattle.paper.specs.Sound.{sound}
+use Rattle.paper.specs.Rows.{look-id}
+use Rattle.paper.specs.Sound.{ids, names, identifies, sound}
 use Rattle.record.specs.declared.Refusal.{Refusal}
 use Rattle.record.specs.declared.Check.{Check}
 use Rattle.record.specs.declared.Check.the-variants.{Fine, Refused}
@@ -17,6 +18,7 @@ use Rattle.record.proofs.Testing.{tested-fault, chain-goes, chain-stops}
 use Rattle.record.specs.Trees.{Trees}
 use Rattle.plan.specs.Plan.{kids-in}
 use Rattle.plan.specs.Table.{sources, numbers, members, PlanIn, fields-in}
+use Rattle.plan.proofs.Standing.{plan-is, plan-sources}
 use Rattle.index_ids.specs.Ids.{ids-in, rule-7}
 use Rattle.index_ids.specs.Table.{row, ups-in, lens-in, tags-in, Rooms}
 use Rattle.index_ids.specs.Path.{IdsChained, IndexedIn}
@@ -26,14 +28,13 @@ use Rattle.index_identifiers.specs.Nine.{rule-9}
 use Rattle.plan.specs.Walk.{walk, trees-of}
 use Rattle.index_names.specs.Full.{fulls}
 use Rattle.plan.specs.Named.{name-in, Sources}
-use Rattle.index_names.specs.Told.{Spelt, Tagged, rule-8}
+use Rattle.index_names.specs.Told.{Raised, Spelt, Tagged, rule-8}
 use Rattle.plan.specs.Named.{names-in, SourcesIn}
 use Rattle.plan.specs.Walk.{walk-in}
 use Rattle.index_names.specs.Table.{MarkedIn, UnequalIn}
+use Rattle.index_names.proofs.Rows.{ids-in-order, names-in-order}
 use Rattle.index_names.proofs.Telling.{ups-told, names-told, tags-told, fulls-are}
-use Rattle.index.specs.Index.{Raised, NamesIndexed, Indexing}
-use Rattle.index.proofs.Rows.{plan-is, plan-sources}
-use Rattle.index.proofs.Looking.{ids-in-order, names-in-order}
+use Rattle.index.specs.Index.{NamesIndexed, Indexing}
 
 -- ---- 8
 
@@ -67,7 +68,7 @@ ids-chained l plan m list a b old mid new ea fa eb = rows-kept (numbers plan) mi
 
 module _ (l : Trees) (plan : List (List ℕ)) (m list : ℕ) (identifiers : List ℕ) (p : PlanIn l plan m) where
   nine : Answer (Unit {0})
-  nine = fault 9 5 (place-of (λ i. not (among i (ids-in (numbers plan) m))) 0 (id-list identifiers))
+  nine = fault 9 5 (place-of (λ i. not (identifies (look-id (fields-in l plan m) i))) 0 (id-list identifiers))
 
   eight : Answer (Unit {0})
   eight = fault 8 list (repeated same [] 0 (fulls (names-in l plan) [] (trees-of (kids-in (members plan)) m))) >>= λ _. nine
@@ -78,7 +79,8 @@ module _ (l : Trees) (plan : List (List ℕ)) (m list : ℕ) (identifiers : List
       let xs = sources plan in
       let is = numbers plan in
       let ks = members plan in
-      rw (plan-is l xs is ks m p, ids-in-order l xs is ks m p, names-in-order l xs is ks m p)
+      let e = plan-is l xs is ks m p in
+      rw (ap ids e ∙ ids-in-order l xs is ks m, ap (names []) e ∙ names-in-order l xs is ks m)
 
   module _ (a : Check) (old mid : List (List ℕ)) (R : Rooms old) (ea : IndexedIn (numbers plan) m list a old mid) where
     pub ids-rooms : Rooms mid
@@ -107,7 +109,7 @@ module _ (l : Trees) (plan : List (List ℕ)) (m list : ℕ) (identifiers : List
             rooms = eb .within .rooms ids-rooms;
           }
 
-      pub all-sound : (c : Check) → b ≡ Fine → c ≡ rule-9 identifiers (numbers plan) m → Indexing l plan m list identifiers c old new
+      pub all-sound : (c : Check) → b ≡ Fine → c ≡ rule-9 identifiers (fields-in l plan m) → Indexing l plan m list identifiers c old new
       unfolding eight nine rule-9
       all-sound c fb ec =
           let R′ = eb .within .rooms ids-rooms in

@@ -30,15 +30,12 @@ use Rattle.index_ids.specs.Ids.{id-in}
 use Rattle.index_ids.specs.Table.{ups-in, Rooms, Within}
 use Rattle.index_ids.specs.Path.{IdsChained}
 use Rattle.plan.specs.Walk.{trees-of}
-use Rattle.index_names.specs.Full.{fulls, ups}
+use Rattle.index_names.specs.Full.{fulls}
+use Rattle.index_names.specs.Told.{Raised}
 use Rattle.plan.specs.Named.{name-in, kind-in}
 use Rattle.plan.specs.Named.{names-in}
 use Rattle.index_names.specs.Table.{SpeltIn, TaggedIn, NamesChained}
 use Rattle.index_short_names.specs.Seek.{seek-in}
-
--- `us` holds the place above each slot.
-pub record Raised (ks : List ℕ) (m : ℕ) (us : List ℕ) : Type 0 where
-  pub above : (k : ℕ) → k < m → getD us k 0 ≡ getD (ups 0 (trees-of (kids-in ks) m)) k 0
 
 -- Places above fall.
 pub record Falling (m : ℕ) (us : List ℕ) : Type 0 where

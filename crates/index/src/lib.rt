@@ -103,7 +103,7 @@ pub fn index_plan<'a>(
     if let Check::Refused(r) = by_name {
         return Check::Refused(r);
     }
-    check_identifiers(identifiers, plan, m, index)
+    check_identifiers(trees, identifiers, plan, m, index)
 }
 
 // A base that passed 2 to 6, as a plan of itself: refusals 7, 8 and 9, or its index.

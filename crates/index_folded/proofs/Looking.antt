@@ -31,7 +31,7 @@ use Rattle.plan.specs.Named.{name-in, kind-in, SourcesIn}
 use Rattle.plan.specs.Plan.{planned-field, kids-in, plan-fields, Plan}
 use Rattle.plan.specs.Table.{sources, numbers, members, PlanIn, fields-in}
 use Rattle.plan.specs.Walk.{walk, trees-of}
-use Rattle.plan.proofs.Standing.{field-in}
+use Rattle.plan.proofs.Standing.{field-in, field-id, plan-is, plan-sources}
 use Rattle.plan.proofs.Rooms.{roomy-fresh}
 use Rattle.plan.proofs.Walks.{all-there, all-numbered}
 use Rattle.index_ids.specs.Chain.{Below}
@@ -39,7 +39,6 @@ use Rattle.index_ids.proofs.Tables.{rooms-fresh}
 use Rattle.index_turns.specs.Turn.{left-at, seen}
 use Rattle.index_turns.proofs.Fitting.{left-in}
 use Rattle.index.specs.Index.{found-slot, held, Opened}
-use Rattle.index.proofs.Rows.{field-id, plan-is, plan-sources}
 use Rattle.index_folded_names.specs.declared.Met.{Met}
 use Rattle.index_folded_names.specs.declared.Met.the-variants.{Twice, Past}
 use Rattle.index_folded_names.specs.Met.{matched, met, meeting}

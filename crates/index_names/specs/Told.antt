@@ -13,6 +13,8 @@ use Rattle.record.specs.declared.Check.the-variants.{Fine}
 use Rattle.record.specs.Says.{tested}
 use Rattle.record.specs.Trees.{Trees}
 use Rattle.plan.specs.Named.{name-in, Sources}
+use Rattle.plan.specs.Plan.{kids-in}
+use Rattle.plan.specs.Walk.{trees-of}
 use Rattle.index_ids.specs.Chain.{Chained, new-at}
 use Rattle.index_names.specs.Hash.{hash-of, tag-of, tag-bucket}
 use Rattle.index_names.specs.Full.{fulls, ups, full-at}
@@ -23,6 +25,10 @@ pub record Marked (name : ℕ → List ℕ) (p : Part) (slot up len hash : ℕ) 
   pub ups-set : us′ ≡ sets us slot (ups up (p .trees))
   pub lens-set : (pre : List ℕ) → len ≡ length pre → ls′ ≡ sets ls slot (map length (fulls name pre (p .trees)))
   pub tags-set : (pre : List ℕ) → hash ≡ hash-of pre → ts′ ≡ sets ts slot (map tag-of (fulls name pre (p .trees)))
+
+-- `us` holds the place above each slot.
+pub record Raised (ks : List ℕ) (m : ℕ) (us : List ℕ) : Type 0 where
+  pub above : (k : ℕ) → k < m → getD us k 0 ≡ getD (ups 0 (trees-of (kids-in ks) m)) k 0
 
 -- The places above, and the lengths and tags of the full names.
 pub record Spelt (l : Trees) (xs : List ℕ) (m : ℕ) (us ls : List ℕ) : Type 0 where

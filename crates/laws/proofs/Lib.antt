@@ -24,3 +24,4 @@ pub mod Kept
 pub mod Ordered
 pub mod Rows
 pub mod Sited
+pub mod Identified

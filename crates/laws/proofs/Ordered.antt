@@ -9,7 +9,7 @@ use Rattle.paper.specs.Answer.{keep}
 use Rattle.paper.specs.Forest.{Forest, empty, node, size}
 use Rattle.paper.specs.Field.{Field}
 use Rattle.paper.specs.Rows.{Row, Start, row, below, beside, rows, late, entered}
-use Rattle.paper.specs.Sound.{names}
+use Rattle.paper.specs.Sound.{names, ids}
 use Rattle.laws.specs.Members.{_∈_}
 use Rattle.laws.proofs.Basics.{in-left, in-right, in-append}
 use Rattle.laws.proofs.Runs.{map-append}
@@ -24,6 +24,14 @@ row-fulls s (node f m u) =
     ap (λ (z : List (List ℕ)). (s .full ++ f .name) ∷ z)
     (map-append (λ (r : Row). r .full) (rows (below s f) m) (rows (beside s m) u)
     ∙ rw (row-fulls (below s f) m, row-fulls (beside s m) u))
+
+pub row-ids : (s : Start) (t : Forest Field) → map (λ (r : Row). r .field .id) (rows s t) ≡ ids t
+unfolding rows ids
+row-ids s empty = refl
+row-ids s (node f m u) =
+    ap (λ (z : List ℕ). f .id ∷ z)
+    (map-append (λ (r : Row). r .field .id) (rows (below s f) m) (rows (beside s m) u)
+    ∙ rw (row-ids (below s f) m, row-ids (beside s m) u))
 
 row-slots : (s : Start) (t : Forest Field) (r : Row) → r ∈ rows s t → (s .slot ≤ r .slot) × (r .slot < s .slot + size t)
 unfolding rows size

@@ -18,7 +18,7 @@ use Rattle.record.specs.declared.Check.the-variants as check
 use Rattle.record.specs.Trees.{Trees, alone}
 use Rattle.plan.specs.Plan.{kids-in}
 use Rattle.plan.specs.Table.{sources, numbers, members, PlanIn, fields-in}
-use Rattle.plan.proofs.Standing.{field-in}
+use Rattle.plan.proofs.Standing.{field-in, field-id, field-name, plan-is}
 use Rattle.index_ids.specs.Ids.{id-in}
 use Rattle.index_ids.specs.Table.{ups-in}
 use Rattle.plan.specs.Walk.{trees-of}
@@ -26,11 +26,11 @@ use Rattle.index_names.specs.Full.{fulls, ups}
 use Rattle.plan.specs.Named.{name-in}
 use Rattle.plan.specs.Named.{names-in}
 use Rattle.index_names.specs.Table.{full-in}
+use Rattle.index_names.specs.Told.{Raised}
 use Rattle.plan.proofs.Walks.{Numbered, all-there, all-numbered}
 use Rattle.index_names.proofs.Marking.{length-fulls, length-ups}
 use Rattle.index_names.proofs.Telling.{fulls-are}
-use Rattle.index.specs.Index.{Raised, Opened}
-use Rattle.index.proofs.Rows.{field-id, field-name, plan-is}
+use Rattle.index.specs.Index.{Opened}
 use Rattle.lister_lines.specs.Text.{above, line-start, line-at, joined, refusal-text, Shown}
 
 lines-append : (a b : List Row) → lines (a ++ b) ≡ lines a ++ lines b

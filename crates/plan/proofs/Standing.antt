@@ -9,7 +9,7 @@ use Rattle.paper.specs.Answer.{ok}
 use Rattle.paper.specs.Forest.{size, siblings, preorder, counts, mapped}
 use Rattle.paper.specs.Field.{Field}
 use Rattle.paper.specs.Sound.{name-bytes}
-use Rattle.paper.specs.Bytes.{from}
+use Rattle.paper.specs.Bytes.{turned, from}
 use Rattle.paper.specs.Layout.{Part, roots}
 use Rattle.paper.specs.Encode.{encode-names}
 use Rattle.paper.specs.Limits.{sum-from}
@@ -22,10 +22,13 @@ use Rattle.tree.proofs.Filled.{Full, full}
 use Rattle.tree.proofs.Roots.{roots-row}
 use Rattle.tree.proofs.Steps.{fine-got}
 use Rattle.record.specs.Trees.{Trees}
-use Rattle.plan.specs.Plan.{Source, planned-field, source-field, source-in, kids-in, plan-slots, plan-tree, plan-fields}
+use Rattle.plan.specs.Plan.{Source, planned-field, source-field, source-in, kids-in, plan-slots, plan-tree, plan-fields, Plan}
+use Rattle.plan.specs.Named.{name-in, Sources}
+use Rattle.plan.specs.Walk.{trees-of}
 use Rattle.plan.specs.Sources.{source-len}
 use Rattle.plan.specs.Table.{sources, numbers, members, DraftIn, fields-in}
 use Rattle.plan.proofs.Sourcing.{len-source}
+use Rattle.plan.proofs.Walks.{roots-are}
 
 -- The field of the planned record at a place, and its name's length.
 abbrev pub field-in : Trees → (slots ids : List ℕ) → ℕ → Field
@@ -33,6 +36,24 @@ field-in l xs is i = planned-field l (source-in xs is i)
 
 abbrev pub len-in : (base added slots : List ℕ) → ℕ → ℕ
 len-in base added xs i = source-len base added (getD xs i 0)
+
+module _ (l : Trees) (xs is : List ℕ) where
+  pub field-id : (k : ℕ) → field-in l xs is k .id ≡ turned (getD is k 0)
+  unfolding planned-field
+  field-id k = refl
+
+  pub field-name : (k : ℕ) → field-in l xs is k .name ≡ name-in l xs k
+  unfolding planned-field name-in
+  field-name k = refl
+
+-- A plan's tree is that of its places, and its sources are there.
+module _ (l : Trees) (xs is ks : List ℕ) (m : ℕ) (p : Plan l xs is ks m) where
+  pub plan-is : plan-fields l xs is ks m ≡ mapped (field-in l xs is) (trees-of (kids-in ks) m)
+  unfolding plan-fields plan-tree plan-slots
+  plan-is = mapped-mapped (source-in xs is) (planned-field l) _ ∙ ap (mapped (field-in l xs is)) (roots-are 4 (kids-in ks) m (p .shaped))
+
+  pub plan-sources : Sources l xs m
+  plan-sources = record { few = p .few; sits = p .sits }
 
 module _ (ks : List ℕ) (m : ℕ) (h : fine (roots 4 (kids-in ks) m m 0) ≡ true) where
   p : Part

@@ -46,10 +46,9 @@ use Rattle.tree_walk.specs.There.{row-of}
 use Rattle.tree_walk.proofs.Opening as standing
 use Rattle.plan.specs.Sources.{id-bits, Written}
 use Rattle.plan.specs.Table.{numbers, Roomy, PlanIn, fields-in, TakenIn}
-use Rattle.plan.proofs.Standing.{fields-size}
+use Rattle.plan.proofs.Standing.{plan-is, fields-size}
 use Rattle.index_ids.specs.Ids.{ids-in}
 use Rattle.index.specs.Index.{Readable, BaseIndexed}
-use Rattle.index.proofs.Rows.{plan-is}
 use Rattle.index.proofs.Looking.{ids-in-order}
 use Rattle.prune_columns.specs.declared.Step.{Step}
 use Rattle.prune_columns.specs.Split.{first-direct}

@@ -40,10 +40,9 @@ use Rattle.tree_walk.proofs.Opening as walk
 use Rattle.plan.specs.Plan.{Plan, plan-fields}
 use Rattle.plan.specs.Sources.{Written}
 use Rattle.plan.specs.Table.{sources, numbers, members, PlanIn, fields-in}
-use Rattle.plan.proofs.Standing.{fields-size}
+use Rattle.plan.proofs.Standing.{plan-is, fields-size}
 use Rattle.index_ids.specs.Ids.{ids-in}
 use Rattle.index.specs.Index.{Readable, BaseIndexed}
-use Rattle.index.proofs.Rows.{plan-is}
 use Rattle.index.proofs.Looking.{ids-in-order}
 use Rattle.renumber_id_reassigner.specs.declared.Reassigned.{Reassigned}
 use Rattle.renumber_id_reassigner.specs.Numbers.{Room, Given}

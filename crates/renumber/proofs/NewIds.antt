@@ -21,11 +21,10 @@ use Rattle.laws.proofs.Written.{siblings-size}
 use Rattle.record.specs.Trees.{Trees}
 use Rattle.plan.specs.Plan.{bits-of, kids-in, planned-field, plan-fields, Plan}
 use Rattle.plan.specs.Draft.{Draft}
-use Rattle.plan.proofs.Standing.{field-in, draft-sum}
+use Rattle.plan.proofs.Standing.{field-in, plan-is, draft-sum}
 use Rattle.index_ids.specs.Ids.{id-in}
 use Rattle.plan.specs.Walk.{trees-of}
 use Rattle.plan.proofs.Walks.{Numbered, all-there, all-numbered}
-use Rattle.index.proofs.Rows.{plan-is}
 use Rattle.renumber_id_reassigner.specs.Numbers.{numbered-source, new-ids}
 use Rattle.renumber_id_reassigner.proofs.Numbering.{Counted, new-node, length-new}
 

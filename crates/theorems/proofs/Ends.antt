@@ -17,17 +17,18 @@ use Rattle.paper.specs.Bytes.{word16, word32, turned, ok-bytes, in-pool, kind-f
 use Rattle.paper.specs.Lists.{id-list}
 use Rattle.paper.specs.Layout.{deep, row-with, row, roots}
 use Rattle.paper.specs.Decode.{fields, decode}
-use Rattle.paper.specs.Encode.{record-bytes, pool-bytes}
 use Rattle.paper.specs.Limits.{room, whole, sum-from, name-sum, tree-sized, pool-sized, sized, sized-ids}
 use Rattle.paper.specs.Entries.{Result, renumber-entry}
+use Rattle.paper.specs.Outcome.{out-identifiers}
 use Rattle.paper.specs.Sample.{T, T-records, T-pool}
 use Rattle.laws.specs.Fit.{Bytes}
 use Rattle.laws.proofs.Basics.{none≢some}
 use Rattle.laws.proofs.Fitting.{size-mapped}
 use Rattle.laws.proofs.Octets.{written-bytes}
 use Rattle.theorems.specs.Run.{Column, Stands, Has, evolve, Lasting}
-use Rattle.theorems.specs.Stored.{BeginsStored}
+use Rattle.theorems.specs.Stored.{bytes-of, BeginsStored}
 use Rattle.theorems.proofs.Again.{renumber-entry-fit, renumber-again, renumber-numbers}
+use Rattle.theorems.proofs.Passing.{renumber-passes}
 
 abbrev T-from-4 : Answer Result
 T-from-4 = renumber-entry T-records T-pool [] 4 24576 32768 0
@@ -79,12 +80,12 @@ renumbering-ends at requests r e old new h =
     let later : Has (at 1) node-column = subst (λ t. Stands none t node-column) (ap tree-of e ∙ sym new) after in
     none≢some (ap (λ (c : Column). c .parent) (h .later-column 0 1 button node-column first later refl))
 
--- Another run may begin: from what the renumbering answered, with a
--- last id that is not below start + n - 1, its highest.
+-- Another run may begin: from what the renumbering answered, the identifiers too, with a last id that is not below
+-- start + n - 1, its highest.
 pub renumbering-begins : (s p i : List ℕ) (start lr ln li : ℕ) (r : Result) → Bytes s
     → renumber-entry s p i start lr ln li ≡ ok r → (last : ℕ)
     → turned start + size (r .tree) ≤ suc (turned last)
-    → BeginsStored (record { records = record-bytes (r .tree); pool = pool-bytes (r .tree); last = last })
+    → BeginsStored (bytes-of (r .tree) last) (out-identifiers r)
 renumbering-begins s p i start lr ln li r b e last l =
     let again = renumber-again s p i start lr ln li r b e in
     let n = renumber-numbers s p i start lr ln li r e in
@@ -94,5 +95,6 @@ renumbering-begins s p i start lr ln li r b e last l =
     record {
       bytes = written-bytes (r .tree) (renumber-entry-fit s p i start lr ln li r b e .formed);
       accepted = rw (again .decodes) (again .accepted);
+      identified = rw (again .decodes) (renumber-passes s p i start lr ln li r b e .passes .accepted);
       bounded = λ x h. let o = n .numbered .no-other x (rw (again .decodes) at h) .1 in omega arith;
     }

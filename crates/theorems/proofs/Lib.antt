@@ -9,8 +9,10 @@ pub mod Numbering
 pub mod Renumbered
 pub mod Parts
 pub mod Pruned
+pub mod Identified
 pub mod Opened
 pub mod Again
+pub mod Passing
 pub mod Storing
 pub mod Receiving
 pub mod Standing

@@ -3,11 +3,10 @@ use Prim.Native.Nat.{ℕ}
 use mathlib.Core.Path.{_≡_, refl, sym}
 use mathlib.Core.Bool.{Bool, true, _&&_}
 use mathlib.Core.List.{List, []}
-use lib.Dec.{eqb}
-use Rattle.paper.specs.Answer.{ok, same, repeated}
+use Rattle.paper.specs.Answer.{ok}
 use Rattle.paper.specs.Forest.{Forest}
 use Rattle.paper.specs.Field.{Field}
-use Rattle.paper.specs.Sound.{ids, names, sound}
+use Rattle.paper.specs.Sound.{sound}
 use Rattle.paper.specs.Prune.{prune}
 use Rattle.paper.specs.Renumber.{renumber}
 use Rattle.paper.specs.Update.{Schema, planned}
@@ -19,29 +18,28 @@ use Rattle.paper.specs.Limits.{whole, sized, sized-ids, sized-update}
 use Rattle.paper.specs.Lent.{Stored, Lent}
 use Rattle.paper.specs.Entries.{Result, schema-in, request-in, read, update-entry, prune-entry, renumber-entry}
 use Rattle.laws.specs.Fit.{Bytes, Fit}
-use Rattle.laws.proofs.Basics.{unbind, rebind, ok-is, fault-ok, no-fault, passed}
+use Rattle.laws.proofs.Basics.{unbind, rebind, ok-is, passed}
+use Rattle.laws.proofs.Identified.{sound-without}
 use Rattle.laws.proofs.RoundTrip.{both}
 use Rattle.laws.proofs.Fitting.{ids-sized, decode-fit}
 
--- ---- 2, 7 and 8
+-- ---- 2
+
+ids-few : (most : ℕ) (s p i : List ℕ) → sized-ids most s p i ≡ true → whole 4 most i ≡ true
+unfolding sized-ids
+ids-few most s p i e = both (sized s p) (whole 4 most i) e .1
 
 sized-trees : (s : Stored) (q : Lent) → sized-update s q ≡ true
     → (sized (s .records) (s .pool) ≡ true) × (sized (q .added-records) (q .request-pool) ≡ true)
+    × (whole 4 64 (q .identifiers) ≡ true)
 unfolding sized-update
 sized-trees s q e =
     let entries = whole 8 64 (q .deletions) && whole 8 64 (q .additions) in
-    let o = both (sized-ids 64 (s .records) (s .pool) (q .identifiers)) (entries && sized _ _) e in
-    (ids-sized 64 _ _ (q .identifiers) (o .0), both entries (sized _ _) (o .1) .1)
-
--- 7 and 8 do not look at the identifiers or the number of the list.
-pub sound-any : (l : ℕ) (t : Forest Field) (identifiers : List ℕ) {x : Unit {0}}
-    → sound l t identifiers ≡ ok x
-    → sound 0 t [] ≡ ok tt
-unfolding sound
-sound-any l t identifiers e =
-    unbind _ _ e λ _ e₁ a₁. unbind _ _ a₁ λ _ e₂ _.
-    rebind _ _ (no-fault 7 0 (fault-ok 7 l (repeated eqb [] 0 (ids t)) e₁))
-    (rebind _ _ (no-fault 8 0 (fault-ok 8 l (repeated same [] 0 (names [] t)) e₂)) refl)
+    let o = both (sized-ids 64 (s .records) (s .pool) (q .identifiers)) (entries && sized _ _) e in (
+      ids-sized 64 _ _ (q .identifiers) (o .0),
+      both entries (sized _ _) (o .1) .1,
+      ids-few 64 (s .records) (s .pool) (q .identifiers) (o .0),
+    )
 
 -- ---- a tree that was read
 
@@ -87,6 +85,7 @@ open-prune s p sel full lr ln r e =
 pub record OpenedRenumber (s p i : List ℕ) (start : ℕ) (r : Result) : Type 0 where
   pub tree : Forest Field
   pub base : Base s p tree
+  pub few : whole 4 64 i ≡ true
   pub renumbers : renumber tree (id-list i) (turned start)
       ≡ ok (record { tree = r .tree; identifiers = r .identifiers })
 
@@ -97,16 +96,19 @@ unfolding renumber-entry renumber
 open-renumber s p i start lr ln li r e =
     unbind _ _ e λ _ _ a₁. unbind _ _ a₁ λ _ e₂ a₂. unbind _ _ a₂ λ t e₃ a₃. unbind _ _ a₃ λ u e₄ a₄.
     unbind _ _ e₄ λ _ e₅ _.
-    let z = ids-sized 64 s p i (passed 2 0 0 (sized-ids 64 s p i) e₂) in
+    let sizes = passed 2 0 0 (sized-ids 64 s p i) e₂ in
+    let z = ids-sized 64 s p i sizes in
     record {
       tree = t;
-      base = record { sizes = z; decodes = e₃; sound-tree = sound-any 0 t (id-list i) e₅ };
+      base = record { sizes = z; decodes = e₃; sound-tree = sound-without 0 t (id-list i) e₅ };
+      few = ids-few 64 s p i sizes;
       renumbers = rw (← (ok-is a₄)) e₄;
     }
 
 pub record OpenedUpdate (s : Stored) (q : Lent) (r : Result) : Type 0 where
   pub tree : Forest Field
   pub base : Base (s .records) (s .pool) tree
+  pub few : whole 4 64 (q .identifiers) ≡ true
   pub new : Forest Field
   pub new-sizes : sized (q .added-records) (q .request-pool) ≡ true
   pub new-decodes : decode 1 (q .added-records) (q .request-pool) ≡ ok new
@@ -123,7 +125,8 @@ open-update s q r e =
     let z = sized-trees s q (passed 2 0 0 (sized-update s q) e₂) in
     record {
       tree = t;
-      base = record { sizes = z .0; decodes = e₃; sound-tree = sound-any 0 t (id-list (q .identifiers)) e₉ };
+      base = record { sizes = z .0; decodes = e₃; sound-tree = sound-without 0 t (id-list (q .identifiers)) e₉ };
+      few = z .2;
       new = n;
       new-sizes = z .1;
       new-decodes = e₄;

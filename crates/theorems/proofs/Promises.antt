@@ -9,28 +9,34 @@ use lib.IntN.{pos, negsuc}
 use Rattle.paper.specs.Answer.{Answer, ok, refused}
 use Rattle.paper.specs.Forest.{Forest, size}
 use Rattle.paper.specs.Field.{Field}
+use Rattle.paper.specs.Renumber.{renumber}
+use Rattle.paper.specs.Renumber as Renumber
 use Rattle.paper.specs.Update.{Request, Schema, Plan, planned}
 use Rattle.paper.specs.Rebuild.{update}
 use Rattle.paper.specs.Rows.{Row, look-name}
 use Rattle.paper.specs.Folded.{look-folded}
 use Rattle.paper.specs.Sound.{sound}
 use Rattle.paper.specs.Bytes.{turned}
+use Rattle.paper.specs.Lists.{id-list}
 use Rattle.paper.specs.Decode.{decode}
 use Rattle.paper.specs.Encode.{record-bytes, pool-bytes}
 use Rattle.paper.specs.Limits.{sized}
 use Rattle.paper.specs.Lent.{Stored, Lent}
 use Rattle.paper.specs.Entries.{Result, update-entry, prune-entry, renumber-entry, read, find-name, find-folded}
 use Rattle.paper.specs.Entries.{find-ids}
-use Rattle.paper.specs.Outcome.{changed, searched, Found, Buffer, Answers}
+use Rattle.paper.specs.Outcome.{changed, searched, out-identifiers, Found, Buffer, Answers}
 use Rattle.paper.specs.Sample.{T, T-records, T-pool}
-use Rattle.paper.specs.Asked.{AnUpdate, APruner, signed-id, answer, update-reply, _with-last_}
+use Rattle.paper.specs.Asked.{AnUpdate, APruner, id-bytes, signed-id, answer, update-reply, _with-last_}
+use Rattle.paper.specs.Asked as Asked
 use Rattle.paper.specs.Worked.{examples}
 use Rattle.paper.specs.Pinned.{limits}
 use Rattle.paper.proofs.Hold.{T-decodes, all-hold}
 use Rattle.paper.proofs.Pins.{Held, pins}
 use Rattle.laws.specs.Fit.{Bytes}
-use Rattle.theorems.specs.Run.{Column, Has, Begins, run, evolve, Lasting, LastingRun}
-use Rattle.theorems.specs.Stored.{schema-of, request-of, LendsBytes, run-stored, BeginsStored, LastingStored}
+use Rattle.theorems.specs.Run.{Column, Has, Begins, run, identifiers-at, evolve, Lasting, LastingRun}
+use Rattle.theorems.specs.Stored.{schema-of, request-of, LendsBytes, bytes-of, run-stored, BeginsStored}
+use Rattle.theorems.specs.Stored.{LastingStored}
+use Rattle.theorems.specs.Identified.{PassesAgain, IdentifiersAgain}
 use Rattle.theorems.specs.Standing.{AdditionsStand, ConsumedAreAdded, NothingVanishes, GoneIsLeftOut, OfStored}
 use Rattle.theorems.specs.Again.{ReadsAgain}
 use Rattle.theorems.specs.Changed.{Pruned, Renumbered}
@@ -41,13 +47,17 @@ use Rattle.theorems.specs.Folds.{Alone, Second, ByRows, Plain, CaseForgo
 use Rattle.theorems.specs.Many.{Lendable, OneByOne, InSlots}
 use Rattle.theorems.specs.Wrong.{P4, two-added, RightUpdate, P8, P9, RightPruner}
 use Rattle.theorems.proofs.Signed.{signed-natural, signed-negative}
-use Rattle.theorems.proofs.Evolution.{evolved-stays, lasting, one-column}
-use Rattle.theorems.proofs.Storing.{lasting-stored, of-stored}
+use Rattle.theorems.proofs.Evolution.{evolved-stays, begins-without, lasting, one-column}
+use Rattle.theorems.proofs.Storing.{begins-stored-without, lasting-stored, of-stored}
+use Rattle.theorems.proofs.Identified.{update-identified, renumber-identified}
+use Rattle.theorems.proofs.Passing.{update-passes, renumber-passes}
 use Rattle.theorems.proofs.Standing.{additions-stand, consumed-added}
 use Rattle.theorems.proofs.Weighing as Weighing
 use Rattle.theorems.proofs.Weighing.{gone-left-out}
 use Rattle.theorems.proofs.Beginning.{T-schema, T-stored, T-requests, T-begins, T-begins-stored}
 use Rattle.theorems.proofs.Beginning.{T-lends-bytes, accepted-in-a-row}
+use Rattle.theorems.proofs.Beginning.{keyed-schema, keyed-stored, keyed-by, keyed-requests, keyed-begins}
+use Rattle.theorems.proofs.Beginning.{keyed-begins-stored, keyed-lends-bytes, keyed-in-a-row}
 use Rattle.theorems.proofs.Ends as Ends
 use Rattle.theorems.proofs.Again.{decoded-again, update-again, prune-again, renumber-again}
 use Rattle.theorems.proofs.Again.{prune-parts, renumber-numbers}
@@ -88,34 +98,45 @@ signed-reading n l = (signed-natural n l, signed-negative n l)
 
 -- ---- demand 3
 
--- Over forests: from an accepted schema whose ids are at most its last id, every run of updates lasts.
-pub runs-last : (schema : Schema) → Begins schema → (requests : ℕ → Request) → LastingRun schema requests
+-- Over forests: from a schema that is accepted with its identifiers, and whose ids are at most its last id, every run
+-- of updates lasts.
+pub runs-last : (schema : Schema) (identifiers : List ℕ) → Begins schema identifiers → (requests : ℕ → Request)
+    → LastingRun schema identifiers requests
 runs-last = lasting
 
 -- Over bytes: the same, where each update is given what the last accepted one answered.
-pub runs-last-stored : (stored : Stored) → BeginsStored stored → (requests : ℕ → Lent) → LendsBytes requests
-    → LastingStored (run-stored stored requests) requests
+pub runs-last-stored : (stored : Stored) (identifiers : List ℕ) → BeginsStored stored identifiers
+    → (requests : ℕ → Lent) → LendsBytes requests → LastingStored identifiers (run-stored stored requests) requests
 runs-last-stored = lasting-stored
 
+-- What begins with identifiers begins without them.
+pub runs-begin-without : (schema : Schema) (identifiers : List ℕ) → Begins schema identifiers → Begins schema []
+runs-begin-without = begins-without
+
+pub runs-begin-without-stored : (stored : Stored) (identifiers : List ℕ) → BeginsStored stored identifiers
+    → BeginsStored stored []
+runs-begin-without-stored = begins-stored-without
+
 -- Today no request changes a column: an id found in two schemas of a run, whichever two, names the same column in both.
-pub ids-keep-columns : (schema : Schema) → Begins schema → (requests : ℕ → Request)
+pub ids-keep-columns : (schema : Schema) (identifiers : List ℕ) → Begins schema identifiers → (requests : ℕ → Request)
     → (i j : ℕ) (column other : Column) → Has (run schema requests i) column
     → Has (run schema requests j) other → column .field .id ≡ other .field .id → column ≡ other
-ids-keep-columns schema begins requests =
+ids-keep-columns schema identifiers begins requests =
     one-column _ _ (λ i. evolved-stays (update (run schema requests i) (requests i)) (requests i))
-    (runs-last schema begins requests .lasts)
+    (runs-last schema identifiers begins requests .lasts)
 
 -- The same over bytes.
-pub ids-keep-columns-stored : (stored : Stored) → BeginsStored stored → (requests : ℕ → Lent) → LendsBytes requests
+pub ids-keep-columns-stored : (stored : Stored) (identifiers : List ℕ) → BeginsStored stored identifiers
+    → (requests : ℕ → Lent) → LendsBytes requests
     → (i j : ℕ) (column other : Column) → Has (schema-of (run-stored stored requests i)) column
     → Has (schema-of (run-stored stored requests j)) other → column .field .id ≡ other .field .id → column ≡ other
-ids-keep-columns-stored stored begins requests bytes =
+ids-keep-columns-stored stored identifiers begins requests bytes =
     one-column (λ i. schema-of (run-stored stored requests i)) _
     (λ i. evolved-stays (update-entry (run-stored stored requests i) (requests i)) (request-of (requests i)))
-    (runs-last-stored stored begins requests bytes .lasts)
+    (runs-last-stored stored identifiers begins requests bytes .lasts)
 
 -- Neither is empty: T begins a run, and these requests lend bytes,
-pub runs-begin : Begins T-schema × BeginsStored T-stored × LendsBytes T-requests
+pub runs-begin : Begins T-schema [] × BeginsStored T-stored [] × LendsBytes T-requests
 runs-begin = (T-begins, T-begins-stored, T-lends-bytes)
 
 -- and three of them in a row are accepted. The first adds 11 and 12;
@@ -127,6 +148,24 @@ pub runs-go-on : (update-reply (update-entry T-stored (T-requests 0))
     × (update-reply (update-entry (run-stored T-stored T-requests 2) (T-requests 2))
     ≡ (1 ∷ 4 ∷ 5 ∷ 11 ∷ 3 ∷ 8 ∷ 9 ∷ 10 ∷ 13 ∷ 14 ∷ []) with-last 14)
 runs-go-on = accepted-in-a-row
+
+-- With identifiers, 5 and 2: these requests lend them, then 2 alone, so that 5 can be dropped;
+pub runs-begin-identified : Begins keyed-schema (id-list keyed-by) × BeginsStored keyed-stored keyed-by
+    × LendsBytes keyed-requests
+runs-begin-identified = (keyed-begins, keyed-begins-stored, keyed-lends-bytes)
+
+-- then both again, which is refused, and changes nothing; then 2, and the name of 5 is added again, as 14. The
+-- identifiers before each, and after the last, are those of the last accepted one.
+pub runs-go-on-identified :
+    (map (λ i. update-reply (update-entry (run-stored keyed-stored keyed-requests i) (keyed-requests i)))
+    (0 ∷ 1 ∷ 2 ∷ 3 ∷ [])
+    ≡ ((1 ∷ 5 ∷ 11 ∷ 2 ∷ 12 ∷ []) with-last 12) ∷ ((1 ∷ 11 ∷ 2 ∷ 12 ∷ 13 ∷ []) with-last 13)
+    ∷ Asked.refusal_list_place_ 9 5 0 ∷ ((1 ∷ 11 ∷ 14 ∷ 2 ∷ 12 ∷ 13 ∷ []) with-last 14) ∷ [])
+    × (map
+    (identifiers-at keyed-by (λ i. update-entry (run-stored keyed-stored keyed-requests i) (keyed-requests i))
+    (λ i. keyed-requests i .identifiers)) (0 ∷ 1 ∷ 2 ∷ 3 ∷ 4 ∷ [])
+    ≡ keyed-by ∷ keyed-by ∷ id-bytes (2 ∷ []) ∷ id-bytes (2 ∷ []) ∷ id-bytes (2 ∷ []) ∷ [])
+runs-go-on-identified = keyed-in-a-row
 
 -- ---- one update
 
@@ -185,12 +224,13 @@ pub renumbering-ends : (at : ℕ → Schema) (requests : ℕ → Request) (resul
     → at 0 .tree ≡ T → at 1 .tree ≡ result .tree → Lasting at (λ i. evolve (requests i)) → ⊥
 renumbering-ends = Ends.renumbering-ends
 
--- Another may begin, from what it answered, with a last id that is at least the highest that it gave.
+-- Another may begin, from what it answered, the identifiers too, with a last id that is at least the highest that it
+-- gave.
 pub renumbering-begins : (records pool identifiers : List ℕ) (start room-records room-names room-ids : ℕ)
     → (result : Result) → Bytes records
     → renumber-entry records pool identifiers start room-records room-names room-ids ≡ ok result
     → (last : ℕ) → turned start + size (result .tree) ≤ suc (turned last)
-    → BeginsStored (record { records = record-bytes (result .tree); pool = pool-bytes (result .tree); last = last })
+    → BeginsStored (bytes-of (result .tree) last) (out-identifiers result)
 renumbering-begins = Ends.renumbering-begins
 
 -- ---- the round trip. `Bytes` says that what is lent are bytes, numbers below 256.
@@ -216,6 +256,31 @@ pub renumber-round-trip : (records pool identifiers : List ℕ) (start room-reco
     → (result : Result) → Bytes records
     → renumber-entry records pool identifiers start room-records room-names room-ids ≡ ok result → ReadsAgain result
 renumber-round-trip = renumber-again
+
+-- ---- identifiers
+
+-- What an accepted update answers is accepted again with the identifiers of its request,
+pub updates-pass-again : (schema : Schema) (request : Request) (updated : Schema) → update schema request ≡ ok updated
+    → sound 0 (updated .tree) (request .identifiers) ≡ ok tt
+updates-pass-again = update-identified
+
+-- and what an accepted renumbering answers with the identifiers that it answers.
+pub renumberings-pass-again : (tree : Forest Field) (identifiers : List ℕ) (start : ℕ) (renumbered : Renumber.Renumbered)
+    → renumber tree identifiers start ≡ ok renumbered
+    → sound 0 (renumbered .tree) (renumbered .identifiers) ≡ ok tt
+renumberings-pass-again = renumber-identified
+
+-- So over bytes: what was answered can be lent again, with the identifiers that were lent,
+pub updates-pass-again-stored : (stored : Stored) (lent : Lent) (result : Result) → Bytes (stored .records)
+    → Bytes (lent .added-records) → update-entry stored lent ≡ ok result → PassesAgain (result .tree) (lent .identifiers)
+updates-pass-again-stored = update-passes
+
+-- or with the very bytes of those that were answered.
+pub renumberings-pass-again-stored : (records pool identifiers : List ℕ)
+    → (start room-records room-names room-ids : ℕ) (result : Result) → Bytes records
+    → renumber-entry records pool identifiers start room-records room-names room-ids ≡ ok result
+    → IdentifiersAgain identifiers result
+renumberings-pass-again-stored = renumber-passes
 
 -- ---- pruning and renumbering
 

@@ -17,9 +17,9 @@ use Rattle.paper.specs.Refusals.{last-refusal, last-list}
 use Rattle.paper.specs.Forest.{Forest, empty, node, size, siblings}
 use Rattle.paper.specs.declared.Role.the-variants.{Member}
 use Rattle.paper.specs.Field.{Field, id-of, kind-of, first, after, highest}
-use Rattle.paper.specs.Rows.{Row, look-name}
+use Rattle.paper.specs.Rows.{Row, look-name, look-id}
 use Rattle.paper.specs.Folded.{only, look-folded}
-use Rattle.paper.specs.Sound.{misnamed, names, ids, sound, within}
+use Rattle.paper.specs.Sound.{misnamed, names, ids, identifies, sound, within}
 use Rattle.paper.specs.Prune.{kept, pruned, tested, is-chosen, prune}
 use Rattle.paper.specs.Renumber.{renumber}
 use Rattle.paper.specs.Gone.{gone-columns}
@@ -127,10 +127,10 @@ sound-told : (list : ℕ) → list ≤ last-list → (t : Forest Field) (identif
     → Told (sound list t identifiers)
 unfolding sound
 sound-told list l t identifiers =
-    let absent = place-of (λ i. not (among i (ids t))) 0 identifiers in
+    let broken = place-of (λ i. not (identifies (look-id t i))) 0 identifiers in
     told-bind (step 7 list (omega arith, omega arith, l) (repeated eqb [] 0 (ids t))) λ _.
     told-bind (step 8 list (omega arith, omega arith, l) (repeated same [] 0 (names [] t))) λ _.
-    step 9 5 (omega arith, omega arith, omega arith) absent
+    step 9 5 (omega arith, omega arith, omega arith) broken
 
 -- ---- an update
 

@@ -1,10 +1,12 @@
 -- What the theorems speak of: runs of updates over forests and over bytes, numbers in a row, parts of a tree, refusals, slots,
--- names whose case is forgotten, many ids at once, what stands after an update.
+-- names whose case is forgotten, many ids at once, what stands after an update, identifiers that
+-- pass again.
 pub mod Numbers
 pub mod Run
 pub mod Stored
 pub mod Standing
 pub mod Again
+pub mod Identified
 pub mod Changed
 pub mod Wrong
 pub mod One

@@ -44,7 +44,7 @@ pub record OneNumberEach : Type 1 where
   pub of-6 : (list : ℕ) (misnamed : Option ℕ) → Only 6 (named list misnamed)
   pub of-7 : (list : ℕ) (again : Option ℕ) → Only 7 (own-ids list again)
   pub of-8 : (list : ℕ) (again : Option ℕ) → Only 8 (own-names list again)
-  pub of-9 : (absent : Option ℕ) → Only 9 (identified absent)
+  pub of-9 : (broken : Option ℕ) → Only 9 (identified broken)
   pub of-10 : (equal : Bool) → Only 10 (matched equal)
   pub of-11 : {A : Type 0} (place : ℕ) (column : Option A) → Only 11 (found-column place column)
   pub of-12 : (place : ℕ) (identifier : Bool) → Only 12 (no-identifier place identifier)

@@ -19,11 +19,10 @@ use Rattle.tree.specs.Read.{got, fine}
 use Rattle.record.specs.Trees.{Trees}
 use Rattle.plan.specs.Plan.{kids-in, plan-fields}
 use Rattle.plan.specs.Walk.{trees-of}
-use Rattle.plan.proofs.Standing.{field-in}
+use Rattle.plan.proofs.Standing.{field-in, plan-is}
 use Rattle.plan.proofs.Walks.{Numbered, all-numbered, roots-are}
 use Rattle.index_names.specs.Full.{ups}
-use Rattle.index.specs.Index.{Raised}
-use Rattle.index.proofs.Rows.{plan-is}
+use Rattle.index_names.specs.Told.{Raised}
 use Rattle.update_gone.specs.Gone.{base-slots, slot-id, Rises}
 use Rattle.update_schema.specs.Base.{Based}
 

@@ -91,9 +91,9 @@ pub struct Name {
 #[used]
 static DECLARED: unsafe extern "C" fn() -> u32 = {
     unsafe extern "C" {
-        fn braidhurdle_abi_5() -> u32;
+        fn braidhurdle_abi_6() -> u32;
     }
-    braidhurdle_abi_5
+    braidhurdle_abi_6
 };
 
 /// One function of the archive. Its arguments are lists, a number, lists, and buffers to write, in

@@ -16,6 +16,6 @@ index-plan-spec =
     (λ c. search (sounding, needs))  -- enum-known-by-name
     (λ c. search (sounding, needs))  -- returns-2
     (λ c. search (sounding, needs))  -- enum-told-2
-    (λ c κs. (search needs, (search needs, ids-chained _ _ _ _ _ _ _ _ _ (c .before .before .before .before .before .before .before .check-ids .ensures) (c .before .before .before .before .before .enum-told .given .1) (c .before .before .before .index-names .ensures))))  -- check-identifiers-requires
+    (λ c κs. let named = c .before .before .before .index-names .ensures in (search needs, search needs, ids-chained _ _ _ _ _ _ _ _ _ (c .before .before .before .before .before .before .before .check-ids .ensures) (c .before .before .before .before .before .enum-told .given .1) named, named .raised))  -- check-identifiers-requires
     (λ c. search (sounding, needs))  -- returns-3
     )
