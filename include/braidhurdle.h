@@ -31,7 +31,7 @@
  * nor double, and every record above it is a required struct: so no element, key or value is one, nor what is inside of it. The
  * first identifier that breaks any of these is refused with 9, list 5. An update asks that of the tree that is given and of the
  * one that it would write, where an id may be gone, or be that of another column if last_id was too low; renumbering asks it of
- * the tree that is given.
+ * the tree that is given. From version 6 on: before, an identifier had to be in the tree and no more.
  *
  * Limits: 1,024 records, 16 levels, 32,768 bytes in a pool, 32,768 as the sum of a tree's name lengths, 64 deletions, 64
  * additions, 64 identifiers, 1,024 selected ids, 1,024 ids asked for at once.
@@ -49,7 +49,7 @@
 #include <stddef.h>
 #include <stdint.h>
 
-/* The version of this boundary. It changes with any name, argument, result or size here. */
+/* The version of this boundary. It changes with any name, argument, result or size here, and with a call answered otherwise. */
 #define BRAIDHURDLE_VERSION 6
 /* The least output buffers, in bytes. */
 #define BRAIDHURDLE_RECORD_ROOM 24576
@@ -133,7 +133,7 @@ struct braidhurdle_name {
     uint32_t offset, length;
 };
 
-/* Answers 5, the version of this boundary, which its name has too: an archive of another version has another name here. A program
+/* Answers 6, the version of this boundary, which its name has too: an archive of another version has another name here. A program
  * that refers to it therefore links with no archive whose functions are declared otherwise. */
 uint32_t braidhurdle_abi_6(void);
 
