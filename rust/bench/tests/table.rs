@@ -178,4 +178,7 @@ fn iceberg_does_what_the_table_says() {
             assert_eq!(iceberg.operate(&row.case), done, "{name} {}", row.what);
         }
     }
+    for row in worst_identifiers() {
+        assert_eq!(iceberg.operate(&row.case), row.refusal == 0, "{}", row.what);
+    }
 }
