@@ -22,10 +22,16 @@
  *   0-3 id, signed            9  kind: 0 primitive, 1 struct, 2 list, 3 map     12-13 direct children
  *   4-7 name offset           10 bit 0 required, bit 1 has an initial default   16-19 type code, 0 unless primitive
  *   8   name length           11 is 0                                          20-23 attribute number (14-15 are 0)
- * Type codes are the host's own numbers: the library keeps them and looks at none. In all examples 1 is boolean, 2 int, 3 long,
- * 4 date, 5 float, 6 double, 7 timestamp, 8 timestamp_ns and 9 string.
+ * Type codes are the host's own numbers: the library keeps them, and looks at none but 5 and 6, which no identifier may have. In
+ * all examples 1 is boolean, 2 int, 3 long, 4 date, 5 float, 6 double, 7 timestamp, 8 timestamp_ns and 9 string.
  * A path entry is 8 bytes: offset (4), length (2), has-path (1), then 0 (1). has-path is 1; or 0, with offset and length 0, for
  * an addition at the root. A list of ids is 4 bytes an id.
+ *
+ * Identifiers are the ids of the columns by which rows are told apart. Each is in the tree, a primitive, required, neither float
+ * nor double, and every record above it is a required struct: so no element, key or value is one, nor what is inside of it. The
+ * first identifier that breaks any of these is refused with 9, list 5. An update asks that of the tree that is given and of the
+ * one that it would write, where an id may be gone, or be that of another column if last_id was too low; renumbering asks it of
+ * the tree that is given. From version 6 on: before, an identifier had to be in the tree and no more.
  *
  * Limits: 1,024 records, 16 levels, 32,768 bytes in a pool, 32,768 as the sum of a tree's name lengths, 64 deletions, 64
  * additions, 64 identifiers, 1,024 selected ids, 1,024 ids asked for at once.
@@ -43,7 +49,7 @@
 #include <stddef.h>
 #include <stdint.h>
 
-/* The version of this boundary. It changes with any name, argument, result or size here. */
+/* The version of this boundary. It changes with any name, argument, result or size here, and with a call answered otherwise. */
 #define BRAIDHURDLE_VERSION 6
 /* The least output buffers, in bytes. */
 #define BRAIDHURDLE_RECORD_ROOM 24576
@@ -61,7 +67,7 @@
     X(6, BAD_LABEL, "an element, key or value is named otherwise") \
     X(7, ID_TWICE, "an id equals an earlier one") \
     X(8, NAME_TWICE, "a full name equals an earlier one") \
-    X(9, UNKNOWN_IDENTIFIER, "an identifier id is not in the tree") \
+    X(9, UNKNOWN_IDENTIFIER, "an identifier id is not in the tree; or its column, or what stands above that, breaks a condition") \
     X(10, UNMATCHED_ROOTS, "roots of the additions tree differ from additions") \
     X(11, NO_SUCH_COLUMN, "a deletion finds no column") \
     X(12, DROPS_IDENTIFIER, "a deletion finds an identifier") \
@@ -127,7 +133,7 @@ struct braidhurdle_name {
     uint32_t offset, length;
 };
 
-/* Answers 5, the version of this boundary, which its name has too: an archive of another version has another name here. A program
+/* Answers 6, the version of this boundary, which its name has too: an archive of another version has another name here. A program
  * that refers to it therefore links with no archive whose functions are declared otherwise. */
 uint32_t braidhurdle_abi_6(void);
 

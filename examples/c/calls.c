@@ -4,8 +4,8 @@
  *     cc -std=c11 -Wall -Wextra -Werror -Iinclude examples/c/calls.c target/staticlib/libbraidhurdle.a -o target/calls
  *     target/calls
  *
- * It prints each answer, and ends with another status than 0 if one is not what 01 says, or 02 where case is forgotten (1/13)
- * and where many ids are looked up (2/13). */
+ * It prints each answer, and ends with another status than 0 if one is not what 01 says, or 02 where case is forgotten (1/13),
+ * where many ids are looked up (2/13), of additions to what is dropped (3/13) and of identifiers (4/13). */
 #include <stdio.h>
 #include <string.h>
 
@@ -212,9 +212,20 @@ static void prunings(void)
          answered(braidhurdle_prune(T, visits, sizeof visits, 1, ROOM), expected, sizeof expected, "visitselementday"));
 }
 
+/* A required struct of a required serial and an optional cost, and a required site. T has no column that can be an identifier:
+ * its only required one stands in a map. */
+static const uint8_t keyed[] = {
+    RECORD(1, 0, 4, STRUCT, REQUIRED, 2),
+    RECORD(2, 4, 6, PRIMITIVE, REQUIRED, 0),
+    RECORD(3, 10, 4, PRIMITIVE, OPTIONAL, 0),
+    RECORD(4, 14, 4, PRIMITIVE, REQUIRED, 0),
+};
+static const char keyed_names[] = "nodeserialcostsite";
+#define KEYED keyed, sizeof keyed, (const uint8_t *)keyed_names, sizeof keyed_names - 1
+
 static void renumberings(void)
 {
-    const uint8_t given[] = {WORD(7), WORD(1)}, mapped[] = {WORD(106), WORD(100)};
+    const uint8_t given[] = {WORD(4), WORD(2)}, mapped[] = {WORD(101), WORD(102)};
     uint8_t expected[sizeof t];
     struct braidhurdle_changed a;
     size_t slot;
@@ -225,12 +236,51 @@ static void renumberings(void)
     fresh();
     memcpy(expected, t, sizeof t);
     for (slot = 0; slot < sizeof t / RECORD_BYTES; slot++) expected[slot * RECORD_BYTES] += 99;
-    a = braidhurdle_renumber(T, given, sizeof given, 100, ROOM, identifiers, sizeof identifiers);
+    a = braidhurdle_renumber(T, NOTHING, 100, ROOM, NOTHING);
     held("renumber: from 100 every id is 99 more", answered(a, expected, sizeof expected, names));
-    held("renumber: identifiers are mapped in the order given", memcmp(identifiers, mapped, sizeof mapped) == 0);
     fresh();
-    a = braidhurdle_renumber(T, given, sizeof given, 2147483638, ROOM, identifiers, sizeof identifiers);
+    a = braidhurdle_renumber(T, NOTHING, 2147483638, ROOM, NOTHING);
     held("renumber: from 2,147,483,638 is refused with 18 (P2)", refused(a, 18, 0, 0));
+    fresh();
+    a = braidhurdle_renumber(KEYED, given, sizeof given, 100, ROOM, identifiers, sizeof identifiers);
+    held("renumber: identifiers are mapped in the order given",
+         a.refusal == BRAIDHURDLE_ACCEPTED && a.records == 4 && memcmp(identifiers, mapped, sizeof mapped) == 0);
+}
+
+static int no_identifier(struct braidhurdle_changed a, uint32_t place)
+{
+    return refused(a, BRAIDHURDLE_UNKNOWN_IDENTIFIER, BRAIDHURDLE_LIST_IDENTIFIERS, place);
+}
+
+/* What an identifier must be (02, 4/13): told by the first that is not. */
+static void identifying(void)
+{
+    const uint8_t missing[] = {WORD(2), WORD(9)}, optional[] = {WORD(4), WORD(3)}, structure[] = {WORD(1), WORD(9)};
+    const uint8_t both[] = {WORD(4), WORD(2)}, key[] = {WORD(8), WORD(8)}, node[] = {PATH(0, 4)};
+    uint8_t floats[sizeof keyed], within_optional[sizeof keyed];
+    struct braidhurdle_changed a;
+
+    memcpy(floats, keyed, sizeof keyed);
+    floats[RECORD_BYTES + 16] = 5;
+    memcpy(within_optional, keyed, sizeof keyed);
+    within_optional[10] = OPTIONAL;
+#define RENUMBERED(tree, ids) \
+    braidhurdle_renumber(tree, sizeof tree, (const uint8_t *)keyed_names, sizeof keyed_names - 1, ids, sizeof ids, 1, ROOM, \
+                         identifiers, sizeof identifiers)
+    fresh();
+    held("identifiers: one that is not there is refused with 9 at its place", no_identifier(RENUMBERED(keyed, missing), 1));
+    held("identifiers: so is an optional column", no_identifier(RENUMBERED(keyed, optional), 1));
+    held("identifiers: so is a struct", no_identifier(RENUMBERED(keyed, structure), 0));
+    held("identifiers: so is a float", no_identifier(RENUMBERED(floats, both), 1));
+    held("identifiers: so is a column below an optional struct", no_identifier(RENUMBERED(within_optional, both), 1));
+    a = braidhurdle_renumber(T, key, sizeof key, 1, ROOM, identifiers, sizeof identifiers);
+    held("identifiers: so is a map's key", no_identifier(a, 0));
+    a = braidhurdle_update(KEYED, optional, sizeof optional, 4, NOTHING, NOTHING, NOTHING, NOTHING, ROOM);
+    held("identifiers: an update asks that of the tree that it is given", no_identifier(a, 1));
+    a = braidhurdle_update(KEYED, both, sizeof both, 4, node, sizeof node, NOTHING, NOTHING, (const uint8_t *)"node", 4, ROOM);
+    held("identifiers: and of the tree that it would write", no_identifier(a, 1));
+    a = braidhurdle_update(KEYED, both, sizeof both, 4, NOTHING, NOTHING, NOTHING, NOTHING, ROOM);
+    held("identifiers: required columns below required structs are accepted", answered(a, keyed, sizeof keyed, keyed_names));
 }
 
 /* A list of length 0 may be null; so may a buffer, which is then below its size. */
@@ -271,6 +321,7 @@ int main(void)
     updates();
     prunings();
     renumberings();
+    identifying();
     nulls();
     return failed;
 }

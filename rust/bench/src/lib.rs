@@ -21,7 +21,7 @@ pub use searches::{Search, scan, searches};
 pub use stack::{marks, stack_used};
 pub use timed::{LINKED, timed_search};
 pub use timing::{Call, Room, copy_all, times};
-pub use worst::{worst_ids, worst_names, worst_parents};
+pub use worst::{worst_identifiers, worst_ids, worst_names, worst_parents};
 
 /// Records in a schema.
 pub const SIZES: [usize; 3] = [10, 100, 1_024];

@@ -1,21 +1,21 @@
 //! The benchmark: for each schema, size and operation the port's time, the time of iceberg's
 //! own code from the same bytes (build and operation), how many times the port is faster, and
 //! a plain copy of the same bytes. Then the same for trees that are built to be bad, for the
-//! index, for the look-up that forgets case and for additions far down; searches by id beside a
-//! linear scan; the stack that each entry uses. Words behind the command choose parts of that.
+//! index, for the look-up that forgets case, for additions and for identifiers far down; searches by
+//! id beside a linear scan; the stack that each entry uses. Words behind the command choose parts of that.
 
 use std::hint::black_box;
 use std::process::ExitCode;
 
 use bench::{
     Call, FAMILIES, LINKED, Room, Row, SCHEMAS, SIZES, Search, deepest, marks, rows, searches,
-    times, worst_folded, worst_ids, worst_names, worst_parents,
+    times, worst_folded, worst_identifiers, worst_ids, worst_names, worst_parents,
 };
 use oracle::Iceberg;
 use port::Port;
 
 /// The parts besides the schemas.
-const PARTS: [&str; 6] = ["ids", "names", "folded", "parents", "searches", "stack"];
+const PARTS: [&str; 7] = ["ids", "names", "folded", "parents", "identifiers", "searches", "stack"];
 
 fn main() -> ExitCode {
     let parts: Vec<&str> = SCHEMAS.iter().map(|(name, _)| *name).chain(PARTS).collect();
@@ -62,6 +62,10 @@ fn main() -> ExitCode {
     if wanted("parents") {
         println!("\nparents: built to be bad for the walk up from an addition's struct (22)");
         table(worst_parents(), iceberg);
+    }
+    if wanted("identifiers") {
+        println!("\nidentifiers: built to be bad for the walk up from an identifier (9)");
+        table(worst_identifiers(), iceberg);
     }
     if wanted("searches") {
         searching(iceberg);

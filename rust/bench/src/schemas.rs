@@ -14,9 +14,7 @@ pub const SCHEMAS: [(&str, &str); 4] = [
 
 /// The schema of a name with so many records.
 pub fn schema(name: &str, records: usize) -> Vec<Node> {
-    let mut ident = prim(0, "ident");
-    ident.flags = REQUIRED;
-    let mut roots = vec![ident];
+    let mut roots = required(vec![prim(0, "ident")]);
     let mut left = records - 1;
     while left > 0 {
         let root = match name {
@@ -39,6 +37,15 @@ pub fn numbered(roots: Vec<Node>) -> Vec<Node> {
 /// The same with these ids in slot order.
 pub fn with_ids(mut roots: Vec<Node>, ids: impl IntoIterator<Item = i32>) -> Vec<Node> {
     number(&mut roots, &mut ids.into_iter());
+    roots
+}
+
+/// The same with every record required.
+pub fn required(mut roots: Vec<Node>) -> Vec<Node> {
+    for node in &mut roots {
+        node.flags |= REQUIRED;
+        node.inside = required(std::mem::take(&mut node.inside));
+    }
     roots
 }
 
@@ -67,7 +74,8 @@ fn table(at: usize, left: usize) -> Node {
     }
 }
 
-fn level(at: usize, levels: usize) -> Node {
+/// Structs in each other, with a leaf in the innermost.
+pub fn level(at: usize, levels: usize) -> Node {
     let inner = (1..levels).fold(prim(0, "leaf"), |inside, n| match n == levels - 1 {
         true => strukt(0, &format!("chain_{at}"), vec![inside]),
         false => strukt(0, "inner", vec![inside]),

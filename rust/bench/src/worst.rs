@@ -4,12 +4,14 @@
 
 use std::collections::HashMap;
 
-use cases::{Addition, Ask, ask_of, ids_by, packed, prim, request, strukt, update_by, update_of};
+use cases::{
+    Addition, Ask, ask_of, ids_by, packed, prim, renumber_by, request, strukt, update_by, update_of,
+};
 use judge::{LEVELS, MOST_RECORDS, Node, PRIMITIVE, Tree};
 
 use crate::ids::{at_chain_ends, in_chains, of_one_bucket, of_top_bits, reversed};
 use crate::rows::{Row, row};
-use crate::schemas::{numbered, schema, with_ids};
+use crate::schemas::{level, numbered, required, schema, with_ids};
 
 const FACTOR: u32 = 16_777_619;
 
@@ -132,6 +134,49 @@ pub fn worst_parents() -> Vec<Row> {
             ..row("the same, the last one refused (22)", refused)
         },
     ]
+}
+
+/// The worst case that is known for what is above identifiers: 64 of them at level 16, with fifteen
+/// required structs above each, of 63 chains, as many as fit; beside it the same without
+/// identifiers. An update asks twice. It is refused of the base where the root above the last one
+/// is optional, and of the rebuilt tree, with all but writing done, where that root is dropped.
+pub fn worst_identifiers() -> Vec<Row> {
+    let (chains, all) = (63, 64);
+    let mut roots: Vec<Node> = (0..chains).map(|at| level(at, LEVELS)).collect();
+    // the first chain has two of them
+    innermost(&mut roots[0]).inside.push(prim(0, "twin"));
+    let left = MOST_RECORDS - Tree::of(&roots).rows.len();
+    roots.extend((0..left).map(|n| prim(0, &format!("floor_{n}"))));
+    let base = numbered(required(roots));
+    let tree = Tree::of(&base);
+    let deep = tree.rows.iter().filter(|row| row.level == LEVELS);
+    let ids: Vec<i32> = deep.map(|row| row.id).collect();
+    assert_eq!((tree.rows.len(), ids.len()), (MOST_RECORDS, all));
+    let last = text(&base[chains - 1].name);
+    let mut optional = base.clone();
+    optional[chains - 1].flags = 0;
+    let updated = |base: &[Node], ids: &[i32], dropped: &str| {
+        let fresh = [(None, prim(0, "fresh"))];
+        update_of(base, ids, MOST_RECORDS as i32, &[dropped], &fresh)
+    };
+    let refused = |what, case| Row { refusal: 9, ..row(what, case) };
+    vec![
+        row("renumber, no identifiers", renumber_by(packed(&base), &[], 1)),
+        row("renumber, 64 identifiers at level 16", renumber_by(packed(&base), &ids, 1)),
+        refused("the same, the last refused (9)", renumber_by(packed(&optional), &ids, 1)),
+        row("update, no identifiers", updated(&base, &[], "floor_0")),
+        row("update, 64 identifiers at level 16", updated(&base, &ids, "floor_0")),
+        refused("the same, the last refused (9)", updated(&optional, &ids, "floor_0")),
+        refused("the same, refused of the rebuilt tree (9)", updated(&base, &ids, last)),
+    ]
+}
+
+/// The struct of a chain that holds its leaf.
+fn innermost(chain: &mut Node) -> &mut Node {
+    match chain.inside[0].kind {
+        PRIMITIVE => chain,
+        _ => innermost(&mut chain.inside[0]),
+    }
 }
 
 /// A look-up by id: 2 to 8, then hardly more.

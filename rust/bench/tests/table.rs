@@ -3,8 +3,8 @@
 use std::collections::HashMap;
 
 use bench::{
-    FAMILIES, Room, SCHEMAS, SIZES, rows, schema, searches, worst_folded, worst_ids, worst_names,
-    worst_parents,
+    FAMILIES, Room, SCHEMAS, SIZES, rows, schema, searches, worst_folded, worst_identifiers,
+    worst_ids, worst_names, worst_parents,
 };
 use cases::{Answer, Ask, ByJudge, Case, answer};
 use judge::{ID_BYTES, LEVELS, RECORD_BYTES, Tree};
@@ -25,6 +25,7 @@ fn every_row_goes_as_far_as_it_says() {
     let table = SCHEMAS.iter().flat_map(|(name, _)| SIZES.map(|size| rows(name, size)));
     let pairs = worst_ids().into_iter().flatten().chain(worst_folded().into_iter().flatten());
     let worst = worst_names().into_iter().chain(pairs).chain(worst_parents());
+    let worst = worst.chain(worst_identifiers());
     for row in table.flatten().chain(worst) {
         let records = row.case.records.len() / RECORD_BYTES;
         let refusal = answer(&row.case).refusal().map_or(0, |r| r.number);
@@ -53,6 +54,27 @@ fn additions_far_down_have_many_records_above_them() {
     );
     let place = answer(&refused.case).refusal().map(|refusal| refusal.place);
     assert_eq!(place, Some(63));
+}
+
+/// 64 identifiers, each with fifteen required structs above it; what is refused is the last.
+#[test]
+fn identifiers_far_down_have_many_records_above_them() {
+    for row in worst_identifiers() {
+        let Case { records, pool, ask } = &row.case;
+        let (Ask::Update { identifiers, .. } | Ask::Renumber { identifiers, .. }) = ask else {
+            panic!("{} asks {ask:?}", row.what)
+        };
+        let tree = judge::read_tree(records, pool, judge::BASE).expect("read");
+        assert_eq!(tree.rows.len(), 1_024, "{}", row.what);
+        let ids = numbers(identifiers.chunks_exact(ID_BYTES));
+        assert!([0, 64].contains(&ids.len()), "{}", row.what);
+        for id in ids {
+            let found = tree.rows.iter().find(|row| row.id == id as i32).expect("it is there");
+            assert_eq!((found.level, found.kind), (LEVELS, judge::PRIMITIVE), "{}", row.what);
+        }
+        let place = answer(&row.case).refusal().map(|refusal| (refusal.list, refusal.place));
+        assert_eq!(place, (row.refusal == 9).then_some((5, 63)), "{}", row.what);
+    }
 }
 
 /// The bytes of the own names that a walk over full or short names compares: where the names above
@@ -155,5 +177,8 @@ fn iceberg_does_what_the_table_says() {
             let done = !matches!(answer(&row.case), Answer::Refused(_) | Answer::Nothing);
             assert_eq!(iceberg.operate(&row.case), done, "{name} {}", row.what);
         }
+    }
+    for row in worst_identifiers() {
+        assert_eq!(iceberg.operate(&row.case), row.refusal == 0, "{}", row.what);
     }
 }

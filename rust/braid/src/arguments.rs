@@ -60,7 +60,9 @@ pub enum Of {
     List {
         plain: bool,
     },
-    Check,
+    Check {
+        identifiers: Vec<Named>,
+    },
     Find(Vec<u8>),
     /// By a name of which case is forgotten.
     FindFolded(Vec<u8>),
@@ -106,7 +108,7 @@ pub fn given() -> Result<Ask, clap::Error> {
     let (name, of) = matches.subcommand().expect("clap asks for one");
     let asked = match name {
         "list" => Of::List { plain: of.get_flag("plain") },
-        "check" => Of::Check,
+        "check" => Of::Check { identifiers: named(of, "identifiers") },
         "find" => match of.get_many("id") {
             Some(ids) => Of::FindIds(ids.copied().collect()),
             None if of.get_flag("ignore-case") => Of::FindFolded(one(of, "NAME")),
@@ -176,9 +178,14 @@ fn check() -> Command {
     Command::new("check")
         .about("Says whether the library accepts a tree, its size and its last id")
         .arg(path("IN", "The tree to check: IN.rec, IN.names and IN.last"))
+        .arg(some(many("identifiers", "ID|PATH,..", "Identifiers, to be checked with the tree")))
         .after_help(
-            "A last id below an id of the tree is a fault of the files: status 3.\n\n\
-             Example:\n  braid check examples/T",
+            "An identifier is a required primitive, no float (type code 5) and no double (6), with\n\
+             nothing above it but required structs; else it is refused (9), here, by renumber and\n\
+             by update, and the reasons are told. Prints id, slot and full name of each.\n\n\
+             A last id below an id of the tree is a fault of the files: status 3.\n\n\
+             Example:\n  braid check examples/T\n  \
+             braid check examples/node-4 --identifiers node.serial",
         )
 }
 
@@ -251,7 +258,7 @@ fn renumber() -> Command {
         .after_help(
             "Prints the last id that was given, and the identifiers' new ids. The old ids mean\n\
              nothing any more, so the last id begins anew too: OUT.last has the one printed.\n\n\
-             Example:\n  braid renumber examples/T --from 100 --identifiers 4,7 --out fresh",
+             Example:\n  braid renumber examples/node-4 --from 100 --identifiers node.serial --out fresh",
         )
 }
 

@@ -27,14 +27,14 @@ pub fn answer(ask: Ask) -> Result<Vec<u8>, Fault> {
     };
     // who does not ask for the last id is not kept up by a file that holds none
     let stored = match of {
-        Of::Check | Of::Update { .. } => Stored::read(&stem),
+        Of::Check { .. } | Of::Update { .. } => Stored::read(&stem),
         _ => Tree::read(&stem).map(|tree| Stored { tree, last_id: None }),
     };
     let Stored { tree, last_id: kept } = stored.map_err(of_file)?;
     let given = Given::new(&stem, &tree);
     match of {
         Of::List { plain } => list(&given, plain),
-        Of::Check => check(&given, kept),
+        Of::Check { identifiers } => check(given, &identifiers, kept),
         Of::Find(name) => found(&given, by_name(&given, &name)?),
         Of::FindFolded(name) => {
             let given = Given { ask: Asked::Folded { name: &name }, ..given };
@@ -82,11 +82,17 @@ fn lines(columns: Columns) -> Vec<u8> {
     lines
 }
 
-fn check(given: &Given, kept: Option<FieldId>) -> Result<Vec<u8>, Fault> {
-    given.tree.check().map_err(|why| given.refused(why))?;
+fn check(given: Given, identifiers: &[Named], kept: Option<FieldId>) -> Result<Vec<u8>, Fault> {
+    let identifiers = &ids(&given, identifiers)?;
+    let given = Given { identifiers, ..given };
+    given.tree.check_identifiers(identifiers).map_err(|why| given.refused(why))?;
     let (records, names) = (records(given.tree), given.tree.pool.len());
-    let accepted = format!("accepted: {records} records, {names} name bytes");
-    let file = last::file(given);
+    let mut accepted = format!("accepted: {records} records, {names} name bytes");
+    let columns = given.tree.columns_by_ids(identifiers).map_err(|why| given.refused(why))?;
+    for column in columns.iter().flatten() {
+        accepted += &format!("\nidentifier {}", told_of(column));
+    }
+    let file = last::file(&given);
     let last = match kept {
         Some(last) => {
             if let Some(above) = last::above(given.tree, last) {

@@ -5,6 +5,7 @@ mod arguments;
 mod changes;
 mod commands;
 mod explain;
+mod identifiers;
 mod last;
 mod limits;
 mod names;

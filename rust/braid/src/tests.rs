@@ -3,15 +3,15 @@
 use std::path::Path;
 
 use braidhurdle::layout::{ENTRY_BYTES, ID_BYTES, RECORD_BYTES};
-use braidhurdle::{Field, FieldId, Refusal, RefusalKind, Request, Tree};
-use cases::{Ask, Case, Generator, OPERATIONS, Sizes};
+use braidhurdle::{Column, Field, FieldId, Refusal, RefusalKind, Request, Tree};
+use cases::{Ask, Case, Generator, OPERATIONS, Random, Sizes};
 use judge::UpdateCall;
 
-use crate::Fault;
 use crate::arguments::Addition;
 use crate::changes::{self, Changes};
 use crate::outline::Outline;
 use crate::words::{Asked, Given};
+use crate::{Fault, identifiers};
 
 /// The paths of a list of entries; none for one without.
 fn paths(entries: &[u8], pool: &[u8]) -> Option<Vec<Option<Vec<u8>>>> {
@@ -79,10 +79,21 @@ fn goes(line: &str) -> bool {
     addition && line.contains(", which deletion ") && line.ends_with(" drops")
 }
 
+/// Does a line of 9 speak of the tree after the update, with the deletion that takes the identifier
+/// away, and not of the tree as given?
+#[track_caller]
+fn after(line: &str) -> bool {
+    let goes =
+        line.contains(": after the update: identifier ") && line.contains(", which deletion ");
+    assert_ne!(goes, line.contains(": base: identifier "), "{line}");
+    goes
+}
+
 #[test]
 fn a_tree_that_is_rebuilt_for_words_is_the_librarys_own() {
     let generator = Generator { seed: 141, sizes: Sizes::Usual };
     let (mut same, mut told) = (0, [0; RefusalKind::ALL.len() + 1]);
+    let mut nines = [0; 2];
     for n in 0..20_000 {
         let case = generator.case(n);
         let Some((call, (dropped, added))) =
@@ -121,11 +132,17 @@ fn a_tree_that_is_rebuilt_for_words_is_the_librarys_own() {
                 well_told(&line, refusal, n);
                 assert_eq!(refusal.number == 22, goes(&line), "case {n}: {line}");
                 told[refusal.number as usize] += 1;
+                if refusal.number == 9 {
+                    let of_base = tree.check_identifiers(&ids) == Err(refusal);
+                    assert_eq!(after(&line), !of_base, "case {n}: {line}");
+                    nines[usize::from(of_base)] += 1;
+                }
             }
             Err(_) => {}
         }
     }
     assert!(same > 200, "{same} trees");
+    assert!(nines.iter().all(|count| *count > 0), "9 after the update, and of the base: {nines:?}");
     for number in (2..=9).chain(11..=19).chain([22]) {
         assert!(told[number] > 0, "refusal {number} was not met: {told:?}");
     }
@@ -182,4 +199,50 @@ fn columns_that_are_alike_but_for_case_are_those_that_the_library_finds() {
     for count in [full, full_twice, nothing, short, short_twice] {
         assert!(count > 100, "{met:?}");
     }
+}
+
+/// A tree in which most records are required and some primitives have another type code.
+fn with_other_flags(random: &mut Random, mut records: Vec<u8>) -> Vec<u8> {
+    for record in records.chunks_exact_mut(RECORD_BYTES) {
+        record[10] |= u8::from(random.chance(7, 8));
+        if record[9] == 0 && random.chance(1, 4) {
+            record[16..20].copy_from_slice(&random.pick(&[0u32, 4, 5, 6, 7]).to_le_bytes());
+        }
+    }
+    records
+}
+
+#[test]
+fn conditions_on_identifiers_that_are_told_are_those_that_the_library_asks() {
+    let generator = Generator { seed: 144, sizes: Sizes::Usual };
+    let told = [
+        "and no primitive",
+        "it is optional",
+        "a float",
+        "a double",
+        "above it is an optional struct",
+        "above it is a list",
+        "above it is a map",
+    ];
+    let (mut accepted, mut alone) = (0, [0; 7]);
+    for n in 0..4_000 {
+        let Case { records, pool, .. } = generator.case(n);
+        let tree = Tree::new(with_other_flags(&mut Random::nth(145, n), records), pool);
+        let Ok(columns) = tree.columns() else { continue };
+        let columns: Vec<Column> = columns.collect();
+        for (slot, column) in columns.iter().enumerate() {
+            let broken = identifiers::broken(&columns, slot);
+            let verdict = match broken[..] {
+                [] => Ok(()),
+                _ => Err(Refusal { number: 9, list: 5, place: 0 }),
+            };
+            assert_eq!(tree.check_identifiers(&[column.id]), verdict, "case {n}: {broken:?}");
+            accepted += usize::from(broken.is_empty());
+            if let [words] = &broken[..] {
+                let which = told.iter().position(|end| words.contains(end));
+                alone[which.unwrap_or_else(|| panic!("case {n}: {words}"))] += 1;
+            }
+        }
+    }
+    assert!(accepted > 100 && alone.iter().all(|count| *count > 20), "{accepted}, {alone:?}");
 }

@@ -10,7 +10,7 @@ use braidhurdle::{Column, Field, FieldId, Kind, Refusal, Request, Tree};
 use crate::arguments::Addition;
 use crate::changes::{self, Changes, receiver};
 use crate::outline::{Outline, told};
-use crate::{Fault, explain, limits, names, near, rules};
+use crate::{Fault, explain, identifiers, limits, names, near, rules};
 
 /// What the library was given.
 pub struct Given<'a> {
@@ -146,21 +146,40 @@ impl<'a> Given<'a> {
         }
     }
 
+    /// An identifier, and every condition that it breaks: of the tree as given or, where it breaks
+    /// none there, of the tree after the update.
     fn identifier(&self, place: usize) -> String {
-        let id = self.identifiers[place];
-        match self.tree.find_id(id) {
-            Ok(Some(slot)) => match self.identifier_goes(slot.0 as usize) {
-                Some(words) => format!("identifier {place}, {words}"),
-                None => format!("identifier {place}, id {id}"),
-            },
-            _ => format!("identifier {place}, id {id}: no column of {} has it", self.from()),
+        let (from, id) = (self.from(), self.identifiers[place]);
+        let columns = columns(self.tree);
+        let Some(slot) = columns.iter().position(|column| column.id == id) else {
+            return format!("{from}: identifier {place}, id {id}: no column has it");
+        };
+        let told = told_of(&columns[slot]);
+        match identifiers::broken(&columns, slot) {
+            none if none.is_empty() => {
+                let after = self.identifier_after(slot).unwrap_or(told);
+                format!("after the update: identifier {place}, {after}")
+            }
+            broken => format!("{from}: identifier {place}, {told}: {}", broken.join("; ")),
         }
     }
 
-    /// An identifier's column, and the deletion that takes it away.
-    fn identifier_goes(&self, slot: usize) -> Option<String> {
+    /// The column of an identifier, the deletion that takes it away and, where a new column gets
+    /// its id, why that one is no identifier.
+    fn identifier_after(&self, slot: usize) -> Option<String> {
         let Asked::Update { asked, .. } = self.ask else { return None };
-        self.goes(&Changes::of(self.tree, asked)?, slot)
+        let changes = Changes::of(self.tree, asked)?;
+        let goes = self.goes(&changes, slot)?;
+        let rebuilt = Tree::build(&changes.rebuilt()).ok()?;
+        let (old, new) = (columns(self.tree), columns(&rebuilt));
+        let Some(again) = new.iter().position(|column| column.id == old[slot].id) else {
+            return Some(goes);
+        };
+        let (told, broken) = (told_of(&new[again]), identifiers::broken(&new, again).join("; "));
+        let last = asked.last_id;
+        Some(format!(
+            "{goes}, and {told} gets its id, since the last id {last} is below it: {broken}"
+        ))
     }
 
     /// The struct that would receive an addition, and the deletion that takes it away. Additions
@@ -276,6 +295,11 @@ impl<'a> Given<'a> {
     fn found(&self, path: &[u8]) -> Option<Column<'a>> {
         self.tree.column_by_name(path).ok()?
     }
+}
+
+/// The columns of a tree; none where it is refused.
+fn columns(tree: &Tree) -> Vec<Column<'_>> {
+    tree.columns().map(Iterator::collect).unwrap_or_default()
 }
 
 /// A column as `find` prints it.

@@ -25,6 +25,12 @@ pub const RECORD_ROOM: usize = 24_576;
 /// Name bytes that an output buffer must hold.
 pub const NAME_ROOM: usize = 32_768;
 
+/// The type code of a float. The library looks at this code and at [`DOUBLE`], and at no other:
+/// an identifier has neither.
+pub const FLOAT: u32 = 5;
+/// The type code of a double.
+pub const DOUBLE: u32 = 6;
+
 /// What a column is.
 #[derive(Clone, Copy, Debug, PartialEq, Eq, PartialOrd, Ord, Hash)]
 pub enum Kind {

@@ -14,9 +14,9 @@
 //! ```
 //! use braidhurdle::{Field, FieldId, Request, Tree, Updated};
 //!
-//! // A schema of two columns; the second has one inside. The type codes are your own; in all
-//! // examples 1 is boolean, 2 int, 3 long, 4 date, 5 float, 6 double, 7 timestamp,
-//! // 8 timestamp_ns and 9 string.
+//! // A schema of two columns; the second has one inside. The type codes are your own, but for 5
+//! // and 6, which no identifier may have; in all examples 1 is boolean, 2 int, 3 long, 4 date,
+//! // 5 float, 6 double, 7 timestamp, 8 timestamp_ns and 9 string.
 //! let day = Field::primitive("day", 4).id(FieldId(3));
 //! let element = Field::structure("element", [day]).id(FieldId(4));
 //! let tree = Tree::build(&[
@@ -29,7 +29,8 @@
 //! let request = Request::new(FieldId(4))
 //!     .drop("visits.day")?
 //!     .add_under("visits", Field::primitive("day", 9))?
-//!     .add(Field::primitive("floor", 2))?;
+//!     .add(Field::primitive("floor", 2))?
+//!     .identifiers(&[FieldId(1)]);
 //! let Updated { tree, last_id } = tree.update(&request)?;
 //! assert_eq!(last_id, FieldId(6));
 //!

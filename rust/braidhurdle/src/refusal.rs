@@ -102,7 +102,8 @@ numbered! {
         BadLabel = 6: "an element, key or value is named otherwise",
         IdTwice = 7: "an id equals an earlier one",
         NameTwice = 8: "a full name equals an earlier one",
-        UnknownIdentifier = 9: "an identifier id is not in the tree",
+        UnknownIdentifier = 9: "an identifier id is not in the tree; or its column, or what stands \
+            above that, breaks a condition",
         UnmatchedRoots = 10: "roots of the additions tree differ from additions",
         NoSuchColumn = 11: "a deletion finds no column",
         DropsIdentifier = 12: "a deletion finds an identifier",

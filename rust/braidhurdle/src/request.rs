@@ -112,7 +112,10 @@ impl Request {
         Ok(self)
     }
 
-    /// The same request with these identifier fields. They can't be dropped.
+    /// The same request with these identifier fields. They can't be dropped. Each is a required
+    /// primitive, no float and no double, with nothing above it but required structs; else the
+    /// update is refused with 9. [`Tree::check_identifiers`](crate::Tree::check_identifiers) asks
+    /// for that alone.
     #[must_use]
     pub fn identifiers(mut self, ids: &[FieldId]) -> Request {
         self.identifiers = ids.iter().flat_map(|id| id.0.to_le_bytes()).collect();

@@ -195,6 +195,33 @@ impl Tree {
     pub fn check(&self) -> Result<(), Refusal> {
         self.lent().check()
     }
+
+    /// Would the tree be accepted as a base with these identifiers? Each must be a required
+    /// primitive, no float and no double, with nothing above it but required structs.
+    ///
+    /// ```
+    /// use braidhurdle::{Field, FieldId, RefusalKind, Tree};
+    ///
+    /// let serial = Field::primitive("serial", 9).id(FieldId(2)).required();
+    /// let node = Field::structure("node", [serial]).id(FieldId(1));
+    ///
+    /// // The struct above it is optional, so a row may have no serial number.
+    /// let refusal = Tree::build(&[node.clone()])?.check_identifiers(&[FieldId(2)]).unwrap_err();
+    /// assert_eq!((refusal.number, refusal.list, refusal.place), (9, 5, 0));
+    /// assert_eq!(refusal.kind(), Some(RefusalKind::UnknownIdentifier));
+    ///
+    /// assert_eq!(Tree::build(&[node.required()])?.check_identifiers(&[FieldId(2)]), Ok(()));
+    /// # Ok::<(), Box<dyn std::error::Error>>(())
+    /// ```
+    ///
+    /// # Errors
+    ///
+    /// Refusals 2 to 9.
+    pub fn check_identifiers(&self, identifiers: &[FieldId]) -> Result<(), Refusal> {
+        // a renumbering asks 2 to 9, and from 0 on it never meets 18
+        let mut room = Room::boxed();
+        self.lent().renumber_in(FieldId(0), identifiers, &mut room).map(drop)
+    }
 }
 
 impl<'a> TreeRef<'a> {

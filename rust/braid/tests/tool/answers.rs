@@ -47,6 +47,21 @@ fn check_accepts_and_tells_the_size() {
 }
 
 #[test]
+fn check_accepts_identifiers_and_tells_their_columns() {
+    let folder = Folder::with_k();
+    let accepted = "accepted: 4 records, 18 name bytes\n";
+    let columns = "identifier id 4 slot 3 site\nidentifier id 2 slot 1 node.serial\n";
+    for identifiers in ["4,2", "site,node.serial", "site --identifiers 2"] {
+        let said = folder.braid(&format!("check K --identifiers {identifiers}")).answer();
+        assert_eq!(said, format!("{accepted}{columns}last id 4\n"), "{identifiers}");
+    }
+    let said = folder.run(&["check", "K", "--identifiers", ""]).answer();
+    assert_eq!(said, format!("{accepted}last id 4\n"));
+    let said = folder.braid("check K --identifiers site,sites").complaint(1);
+    assert_eq!(said, "no column is named \"sites\"; did you mean site?\n");
+}
+
+#[test]
 fn find_goes_by_full_name_short_name_and_id() {
     let folder = Folder::with_t();
     let day = "id 7 slot 5 visits.element.day\n";
@@ -144,9 +159,13 @@ fn prune_keeps_what_is_chosen() {
 #[test]
 fn renumber_tells_the_last_id_and_the_new_identifiers() {
     let folder = Folder::with_t();
-    let said = folder.braid("renumber T --from 100 --identifiers 7,4 --out fresh").answer();
-    assert_eq!(said, "last id 109\nidentifiers 106,103\n");
+    let said = folder.braid("renumber T --from 100 --out fresh").answer();
+    assert_eq!(said, "last id 109\n");
     assert_eq!(ids(&folder, "fresh"), [100, 103, 104, 101, 105, 106, 102, 107, 108, 109]);
+    let folder = Folder::with_k();
+    let said = folder.braid("renumber K --from 100 --identifiers 4,2,4 --out fresh").answer();
+    assert_eq!(said, "last id 103\nidentifiers 101,102,101\n");
+    assert_eq!(ids(&folder, "fresh"), [100, 102, 103, 101]);
 }
 
 #[test]
@@ -189,16 +208,22 @@ fn a_tree_is_added_root_by_root() {
 #[test]
 fn negative_ids_are_arguments_like_any_other() {
     let folder = Folder::with_t();
-    let said = folder.braid("renumber T --from -5 --identifiers 1,10 --out low").answer();
-    assert_eq!(said, "last id 4\nidentifiers -5,4\n");
+    assert_eq!(folder.braid("renumber T --from -5 --out low").answer(), "last id 4\n");
     assert_eq!(folder.braid("find low --id -1").answer(), "id -1 slot 2 node.cost\n");
     let both = "id -1 slot 2 node.cost\nid -5 slot 0 node\n";
     assert_eq!(folder.braid("find low --id -1,-5").answer(), both);
     assert_eq!(folder.braid("parent low -1").answer(), "id -5 slot 0 node\n");
     folder.braid("prune low --keep -1,-2 --out less").answer();
     assert_eq!(ids(&folder, "less"), [-5, -2, -1]);
-    let said = folder.braid("update less --last-id -1 --identifiers -5,-2 --add x:0 --out more");
+    let said = folder.braid("update less --last-id -1 --add x:0 --out more");
     assert_eq!(said.answer(), "added 0 x\nlast id 0\n");
+    let folder = Folder::with_k();
+    let said = folder.braid("renumber K --from -5 --identifiers 2,4 --out low").answer();
+    assert_eq!(said, "last id -2\nidentifiers -3,-4\n");
+    let columns = "identifier id -3 slot 1 node.serial\nidentifier id -4 slot 3 site\n";
+    assert!(folder.braid("check low --identifiers -3,-4").answer().contains(columns));
+    let said = folder.braid("update low --identifiers -4,-3 --add x:0 --out more");
+    assert_eq!(said.answer(), "added -1 x\nlast id -1\n");
 }
 
 #[test]

@@ -61,6 +61,9 @@ fn show_shows_a_picture_an_update_look_ups_and_a_refusal() {
     let lines = "id 5 slot 1 node.serial\nno column has id 7\nid 24 slot 15 ";
     assert!(said.contains(&format!("--id 5,7,24\n{lines}")), "{said}");
     assert!(said.contains("\nrefused 11 at 2 0: "), "{said}");
+    assert!(said.contains("\nrefused 12 at 2 0: "), "{said}");
+    assert!(said.contains("\nidentifier id 5 slot 1 node.serial\n"), "{said}");
+    assert!(said.contains("\nrefused 9 at 5 1: "), "{said}");
 }
 
 #[test]

@@ -82,6 +82,23 @@ impl Folder {
         folder
     }
 
+    /// A folder with a tree K in it that has columns which identify, as T has none, and its last
+    /// id.
+    pub fn with_k() -> Folder {
+        let folder = Folder::new();
+        folder.draw(
+            "K",
+            "1 node: struct required\n  2 serial: primitive 9 required\n  3 cost: primitive 3\n\
+             4 site: primitive 2 required default\n",
+        );
+        folder
+    }
+
+    /// Makes a tree of a picture.
+    pub fn draw(&self, stem: &str, picture: &str) {
+        self.piped(&format!("make - --out {stem}"), picture.as_bytes()).answer();
+    }
+
     /// A folder with the examples of the checkout in it, as people type them.
     pub fn with_examples() -> Folder {
         let folder = Folder::new();

@@ -138,10 +138,10 @@ fn ids_that_the_tree_has_not_are_told_by_prune() {
 
 #[test]
 fn identifiers_are_named_too() {
-    let folder = Folder::with_t();
-    let said = folder.braid("renumber T --from 100 --identifiers visits.day,4 --out U").answer();
-    assert_eq!(said, "last id 109\nidentifiers 106,103\n");
-    let said = folder.braid("update T --identifiers node.cost --drop node.cost --out V").refusal();
+    let folder = Folder::with_k();
+    let said = folder.braid("renumber K --from 100 --identifiers node.serial,4 --out U").answer();
+    assert_eq!(said, "last id 103\nidentifiers 102,101\n");
+    let said = folder.braid("update K --identifiers site --drop site --out V").refusal();
     assert!(said[0].starts_with("refused 12 at 2 0: "), "{said:?}");
 }
 
@@ -151,7 +151,7 @@ fn quiet_prints_nothing_and_does_the_same() {
     for arguments in [
         "update T --drop node --add x:2 --out U",
         "prune T --keep 7,99 --out U",
-        "renumber T --from 3 --identifiers 7 --out U",
+        "renumber T --from 3 --out U",
         "make T.picture --out U",
     ] {
         std::fs::write(folder.file("T.picture"), folder.braid("list T").answer()).expect("written");

@@ -252,30 +252,172 @@ fn a_file_without_end_is_refused_too() {
     assert!(folder.braid("check Z").refusal()[0].ends_with(": Z.names has more than 32768 bytes"));
 }
 
+/// What 9 means.
+const NINE: &str = "an identifier id is not in the tree; or its column, or what stands above that, \
+                    breaks a condition";
+
+/// The identifiers of a tree of this picture are refused at a place with these words, by a check, by
+/// a renumbering and by an update.
+#[track_caller]
+fn no_identifier(picture: &str, identifiers: &str, place: usize, words: &str) {
+    let folder = Folder::new();
+    folder.draw("X", picture);
+    let words = format!("9 at 5 {place}: {NINE}: X: identifier {place}, {words}");
+    refused(&folder, &format!("check X --identifiers {identifiers}"), &words);
+    refused(&folder, &format!("renumber X --from 1 --identifiers {identifiers} --out U"), &words);
+    let update = format!("update X --identifiers {identifiers}");
+    refused(&folder, &format!("{update} --out U"), &words);
+    refused(&folder, &format!("{update} --drop no --add a.b:1 --out U"), &words);
+}
+
 #[test]
-fn an_identifier_that_is_not_there_is_told_with_its_id() {
-    let folder = Folder::with_t();
-    let words = "9 at 5 1: an identifier id is not in the tree: identifier 1, id -3: no column of \
-                 T has it";
-    refused(&folder, "renumber T --from 1 --identifiers 4,-3 --out U", words);
-    refused(&folder, "update T --identifiers 4,-3 --drop node --out U", words);
+fn an_identifier_is_told_with_the_condition_that_it_breaks() {
+    let a = "id 1 slot 0 a";
+    no_identifier("1 a: primitive 2 required\n", "1,-3", 1, "id -3: no column has it");
+    no_identifier("1 a: primitive 2\n", "a", 0, &format!("{a}: it is optional"));
+    no_identifier("1 a: primitive 2 default\n", "a", 0, &format!("{a}: it is optional"));
+    let float = "it is a float, type code 5";
+    no_identifier("1 a: primitive 5 required\n", "1", 0, &format!("{a}: {float}"));
+    let double = "it is a double, type code 6";
+    no_identifier("1 a: primitive 6 required\n", "1", 0, &format!("{a}: {double}"));
+    let primitive = "and no primitive";
+    no_identifier("1 a: struct required\n", "1", 0, &format!("{a}: it is a struct, {primitive}"));
+    let list = "1 a: list required\n  2 element: primitive 2 required\n";
+    no_identifier(list, "a", 0, &format!("{a}: it is a list, {primitive}"));
+    let element = "id 2 slot 1 a.element";
+    no_identifier(list, "2", 0, &format!("{element}: {a} above it is a list"));
+    let map = "1 a: map required\n  2 key: primitive 2 required\n  3 value: primitive 2 required\n";
+    no_identifier(map, "1", 0, &format!("{a}: it is a map, {primitive}"));
+    no_identifier(map, "a.key", 0, &format!("id 2 slot 1 a.key: {a} above it is a map"));
+    no_identifier(map, "a.value", 0, &format!("id 3 slot 2 a.value: {a} above it is a map"));
+    let within = "1 a: struct\n  2 b: primitive 2 required\n";
+    no_identifier(
+        within,
+        "a.b",
+        0,
+        &format!("id 2 slot 1 a.b: {a} above it is an optional struct"),
+    );
+}
+
+/// The picture of a required primitive with fifteen records above it, of which one is other than a
+/// required struct.
+fn fifteen_above(other: usize, kind: &str) -> String {
+    let (mut picture, mut name) = (String::new(), "n");
+    for level in 0..15 {
+        let kind_of = if level == other { kind } else { "struct required" };
+        picture += &format!("{}{} {name}: {kind_of}\n", "  ".repeat(level), level + 1);
+        name = if kind_of.starts_with("list") { "element" } else { "n" };
+    }
+    picture + &format!("{}16 {name}: primitive 2 required\n", "  ".repeat(15))
+}
+
+#[test]
+fn the_record_above_that_is_the_reason_is_told_however_far_it_is() {
+    for other in 0..15 {
+        let above = format!("id {} slot {other} {}", other + 1, vec!["n"; other + 1].join("."));
+        let column = format!("id 16 slot 15 {}", vec!["n"; 16].join("."));
+        let words = format!("{column}: {above} above it is an optional struct");
+        no_identifier(&fifteen_above(other, "struct"), "16", 0, &words);
+        let mut names = ["n"; 16];
+        names[other + 1] = "element";
+        let column = format!("id 16 slot 15 {}", names.join("."));
+        let words = format!("{column}: {above} above it is a list");
+        no_identifier(&fifteen_above(other, "list required"), "16", 0, &words);
+    }
+    let folder = Folder::new();
+    folder.draw("X", &fifteen_above(15, ""));
+    let column = format!("id 16 slot 15 {}", vec!["n"; 16].join("."));
+    let said = folder.braid("check X --identifiers 16").answer();
+    assert_eq!(
+        said,
+        format!("accepted: 16 records, 16 name bytes\nidentifier {column}\nlast id 16\n")
+    );
+}
+
+#[test]
+fn all_conditions_that_an_identifier_breaks_are_told() {
+    no_identifier(
+        "1 o: struct\n  2 l: list\n    3 element: struct\n      4 r: struct required\n        \
+         5 a: primitive 6\n",
+        "o.l.r.a",
+        0,
+        "id 5 slot 4 o.l.element.r.a: it is optional; it is a double, type code 6; id 3 slot 2 \
+         o.l.element above it is an optional struct; id 2 slot 1 o.l above it is a list; id 1 slot \
+         0 o above it is an optional struct",
+    );
+    no_identifier(
+        "1 m: map\n  2 key: struct\n    3 s: struct\n  4 value: primitive 2\n",
+        "3",
+        0,
+        "id 3 slot 2 m.key.s: it is a struct, and no primitive; it is optional; id 2 slot 1 m.key \
+         above it is an optional struct; id 1 slot 0 m above it is a map",
+    );
+}
+
+/// Whichever condition it breaks.
+#[test]
+fn the_first_identifier_that_breaks_a_condition_is_told() {
+    let picture = "1 a: primitive 2 required\n2 b: primitive 2\n3 c: primitive 5 required\n";
+    for (identifiers, place, words) in [
+        ("1,1,9,2,3", 2, "id 9: no column has it"),
+        ("1,3,9,2", 1, "id 3 slot 2 c: it is a float, type code 5"),
+        ("b,c", 0, "id 2 slot 1 b: it is optional"),
+    ] {
+        no_identifier(picture, identifiers, place, words);
+    }
 }
 
 #[test]
 fn an_identifier_that_goes_is_told_with_the_deletion_that_takes_it() {
-    let folder = Folder::with_t();
+    let folder = Folder::with_k();
+    let words = |goes: &str| format!("9 at 5 1: {NINE}: after the update: identifier 1, {goes}");
+    let goes = "id 2 slot 1 node.serial: it goes with id 1 slot 0 node, which deletion 1 drops";
     refused(
         &folder,
-        "update T --identifiers 7,10 --drop node --drop parts --add x:2 --under visits --out U",
-        "9 at 5 1: an identifier id is not in the tree: identifier 1, id 10 slot 9 \
-         parts.value.price: it goes with id 3 slot 6 parts, which deletion 1 drops",
+        "update K --identifiers 4,2 --drop node.cost --drop node --add x:2 --out U",
+        &words(goes),
     );
+    // with a last id that is too low its id is given again
+    let by_force = "update K --identifiers site,node.serial --drop node.cost --drop node --out U \
+                    --last-id 1 --force";
+    let last = "since the last id 1 is below it";
+    refused(
+        &folder,
+        &format!("{by_force} --add x:5"),
+        &words(&format!(
+            "{goes}, and id 2 slot 1 x gets its id, {last}: it is optional; it is a float, type \
+             code 5"
+        )),
+    );
+    folder.draw("more", "1 s: list\n  2 element: primitive 2 required\n");
+    let by_force = by_force.replace("--last-id 1", "--last-id 0");
+    let element = "id 2 slot 2 s.element";
+    refused(
+        &folder,
+        &format!("{by_force} --add-tree more"),
+        &words(&format!(
+            "{goes}, and {element} gets its id, since the last id 0 is below it: id 1 slot 1 s \
+             above it is a list"
+        )),
+    );
+    let said = folder.braid(&format!("{by_force} --add y:2 --add x:9 --required --default"));
+    assert!(said.answer().ends_with("\nadded 2 x\nlast id 2\n"));
+}
+
+#[test]
+fn more_than_64_identifiers_are_told_by_a_check_too() {
+    let limit = "2 at 0 0: a limit on an input count, length or name sum is passed, or a list is \
+                 no whole number of records: 65 identifiers, and at most 64 may be given";
+    let ids = |count: usize| vec!["4"; count].join(",");
+    refused(&Folder::with_k(), &format!("check K --identifiers {}", ids(65)), limit);
+    let said = Folder::with_k().braid(&format!("check K --identifiers {}", ids(64))).answer();
+    assert_eq!(said.lines().filter(|line| *line == "identifier id 4 slot 3 site").count(), 64);
 }
 
 #[test]
 fn a_deletion_is_told_with_its_path_and_what_it_finds_or_may_have_meant() {
     let folder = Folder::with_t();
-    let update = "update T --identifiers 1,5 --drop visits.day";
+    let update = "update T --drop visits.day";
     let nothing = "11 at 2 1: a deletion finds no column: deletion 1, path";
     for (path, end) in [
         ("node.prise", "; did you mean parts.value.price?"),
@@ -288,18 +430,15 @@ fn a_deletion_is_told_with_its_path_and_what_it_finds_or_may_have_meant() {
         let words = format!("{nothing} \"{path}\"{end}");
         refused(&folder, &format!("{update} --drop {path} --out U"), &words);
     }
-    refused(
-        &folder,
-        &format!("{update} --drop node.cost --out U"),
-        "12 at 2 1: a deletion finds an identifier: deletion 1, path \"node.cost\": id 5 slot 2 \
-         node.cost, which is identifier 1",
-    );
-    refused(
-        &folder,
-        &format!("{update} --drop-id 5 --out U"),
-        "12 at 2 1: a deletion finds an identifier: deletion 1, path \"node.cost\": id 5 slot 2 \
-         node.cost, which is identifier 1",
-    );
+    let folder = Folder::with_k();
+    for serial in ["--drop node.serial", "--drop-id 2"] {
+        refused(
+            &folder,
+            &format!("update K --identifiers 4,2 --drop node.cost {serial} --out U"),
+            "12 at 2 1: a deletion finds an identifier: deletion 1, path \"node.serial\": id 2 slot \
+             1 node.serial, which is identifier 1",
+        );
+    }
 }
 
 #[test]

@@ -1,7 +1,7 @@
 //! Every refusal: its words, and an input that meets it through the safe functions.
 
-use crate::t::{primitive, roots, t};
-use braidhurdle::layout::{MOST_IDENTIFIERS, MOST_SELECTED};
+use crate::t::{ids, keyed, primitive, roots, t};
+use braidhurdle::layout::{DOUBLE, FLOAT, MOST_IDENTIFIERS, MOST_SELECTED};
 use braidhurdle::{Field, FieldId, Mode, Refusal, RefusalKind, RefusalList, Request, Tree, c};
 
 const SCOPE: &str = include_str!("../../../../docs/01-scope.md");
@@ -24,13 +24,18 @@ fn floor() -> Field {
     Field::primitive("floor", 0)
 }
 
+/// Behind `; or` stands what a request of 02 added.
 #[test]
 fn every_number_up_to_20_has_the_words_of_01s_table() {
+    let mut added = vec![];
     for kind in RefusalKind::ALL.iter().filter(|kind| kind.number() <= 20) {
         let number = kind.number();
-        let meaning = refused(number, 0, 0).meaning();
+        let words = refused(number, 0, 0).meaning().split_once("; or ");
+        let meaning = words.map_or(refused(number, 0, 0).meaning(), |(meaning, _)| meaning);
         assert!(SCOPE.contains(&format!("| {number} | {meaning}")), "{number}: {meaning}");
+        added.extend(words.map(|_| number));
     }
+    assert_eq!(added, [9]);
 }
 
 #[test]
@@ -126,14 +131,83 @@ fn refusals_7_and_8_are_met_by_equal_ids_and_names() {
 
 #[test]
 fn refusals_9_to_12_are_met_by_identifiers_and_deletions() -> Result<(), braidhurdle::Overlong> {
-    let unknown = request().identifiers(&[FieldId(5), FieldId(99)]);
-    assert_eq!(update_refusal(unknown), refused(9, 5, 1));
+    let unknown = request().identifiers(&[FieldId(4), FieldId(99)]);
+    assert_eq!(keyed().update(&unknown), Err(refused(9, 5, 1)));
     let mut two = request().add(floor())?;
     two.added_records.extend(two.added_records.clone());
     assert_eq!(update_refusal(two), refused(10, 3, 0));
     assert_eq!(update_refusal(request().drop("node")?.drop("nothing")?), refused(11, 2, 1));
-    let cost = request().identifiers(&[FieldId(5)]).drop("node.cost")?;
-    assert_eq!(update_refusal(cost), refused(12, 2, 0));
+    let serial = request().identifiers(&[FieldId(2)]).drop("node.serial")?;
+    assert_eq!(keyed().update(&serial), Err(refused(12, 2, 0)));
+    Ok(())
+}
+
+/// Is the column of id 1 an identifier, alone and by a renumbering and an update?
+fn identifies(roots: &[Field]) -> Result<(), Refusal> {
+    let tree = Tree::build(roots).expect("it fits the layout");
+    let ids = [FieldId(1)];
+    let answers = [
+        tree.check_identifiers(&ids),
+        tree.renumber(FieldId(7), &ids).map(drop),
+        tree.update(&request().identifiers(&ids)).map(drop),
+    ];
+    assert_eq!(answers, [answers[0]; 3], "{tree}");
+    answers[0]
+}
+
+#[test]
+fn refusal_9_is_met_by_each_condition_alone() {
+    let nine = Err(refused(9, 5, 0));
+    let column = || Field::primitive("a", 2).id(FieldId(1)).required();
+    let named = |name: &str| Field { name: name.into(), ..column() };
+    let within = |member: Field| Field::structure("s", [member]).id(FieldId(2));
+    assert_eq!(identifies(&[column()]), Ok(()));
+    assert_eq!(identifies(&[column().default()]), Ok(()));
+    assert_eq!(identifies(&[within(column()).required()]), Ok(()));
+    assert_eq!(identifies(&[column().id(FieldId(2))]), nine, "it is not in the tree");
+    assert_eq!(identifies(&[Field::structure("a", []).id(FieldId(1)).required()]), nine);
+    assert_eq!(identifies(&[Field { required: false, ..column() }]), nine);
+    for code in [0, 4, FLOAT, DOUBLE, 7, 65_536 + FLOAT] {
+        let allowed = if [FLOAT, DOUBLE].contains(&code) { nine } else { Ok(()) };
+        assert_eq!(identifies(&[Field { type_code: code, ..column() }]), allowed, "{code}");
+    }
+    let list = |element: Field| Field::list("l", element).id(FieldId(3)).required();
+    assert_eq!(identifies(&[list(named("element"))]), nine);
+    let element = Field { name: "element".into(), ..within(column()).required() };
+    assert_eq!(identifies(&[list(element)]), nine);
+    let map = |key, value| Field::map("m", key, value).id(FieldId(3)).required();
+    assert_eq!(identifies(&[map(named("key"), primitive(4, "value"))]), nine);
+    assert_eq!(identifies(&[map(primitive(4, "key"), named("value"))]), nine);
+}
+
+/// An optional struct above, at each distance.
+#[test]
+fn refusal_9_is_met_by_an_optional_struct_however_far_above() {
+    let deep = |optional: i32| {
+        let column = Field::primitive("a", 2).id(FieldId(1)).required();
+        let chain = (2..=16).fold(column, |inside, id| {
+            let above = Field::structure("s", [inside]).id(FieldId(id));
+            Field { required: id != optional, ..above }
+        });
+        identifies(&[chain])
+    };
+    assert_eq!(deep(0), Ok(()));
+    for optional in 2..=16 {
+        assert_eq!(deep(optional), Err(refused(9, 5, 0)), "{optional}");
+    }
+}
+
+#[test]
+fn refusal_9_is_asked_of_the_rebuilt_tree_too() -> Result<(), braidhurdle::Overlong> {
+    let with = |last: i32, column: Field| {
+        let request = Request::new(FieldId(last)).identifiers(&[FieldId(4), FieldId(2)]);
+        Ok(keyed().update(&request.drop("node")?.add(column)?).map(|answer| ids(&answer.tree)))
+    };
+    let x = || Field::primitive("x", 2);
+    assert_eq!(with(4, x())?, Err(refused(9, 5, 1)), "its column goes");
+    // with a last id that is too low its id is given again
+    assert_eq!(with(1, x())?, Err(refused(9, 5, 1)), "to an optional column");
+    assert_eq!(with(1, x().required().default())?, Ok(vec![4, 2]));
     Ok(())
 }
 
@@ -199,15 +273,16 @@ fn refusal_22_is_met_by_an_addition_to_a_dropped_parent() -> Result<(), braidhur
 
 #[test]
 fn ids_are_counted_up_to_their_limit_and_not_a_byte_is_lost() {
-    let ids = |count: usize| vec![FieldId(7); count];
-    let pruned =
-        |count: usize| t().prune(&ids(count), Mode::Plain).map(|tree| crate::t::ids(&tree));
+    let seven = |count: usize| vec![FieldId(7); count];
+    let pruned = |count: usize| t().prune(&seven(count), Mode::Plain).map(|tree| ids(&tree));
     assert_eq!(pruned(MOST_SELECTED), Ok(vec![2, 6, 7]));
     for count in [MOST_SELECTED + 1, MOST_SELECTED + 2, 9_999] {
         assert_eq!(pruned(count), Err(refused(2, 0, 0)));
     }
-    let renumbered = |count: usize| t().renumber(FieldId(3), &ids(count)).map(|r| r.identifiers);
-    assert_eq!(renumbered(MOST_IDENTIFIERS), Ok(vec![FieldId(9); MOST_IDENTIFIERS]));
+    let site = |count: usize| vec![FieldId(4); count];
+    let renumbered =
+        |count: usize| keyed().renumber(FieldId(3), &site(count)).map(|r| r.identifiers);
+    assert_eq!(renumbered(MOST_IDENTIFIERS), Ok(site(MOST_IDENTIFIERS)));
     for count in [MOST_IDENTIFIERS + 1, MOST_IDENTIFIERS + 2, 9_999] {
         assert_eq!(renumbered(count), Err(refused(2, 0, 0)));
     }

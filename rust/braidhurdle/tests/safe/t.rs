@@ -1,4 +1,4 @@
-//! 01's tree T.
+//! 01's tree T, and a tree with columns that identify, of which T has none.
 
 use braidhurdle::{Field, FieldId, Tree};
 
@@ -22,6 +22,13 @@ pub fn roots() -> [Field; 3] {
 /// T.
 pub fn t() -> Tree {
     Tree::build(&roots()).expect("T fits the layout")
+}
+
+/// A tree whose `node.serial` 2 and `site` 4 can be identifiers.
+pub fn keyed() -> Tree {
+    let node = [primitive(2, "serial").required(), primitive(3, "cost")];
+    let node = Field::structure("node", node).id(FieldId(1)).required();
+    Tree::build(&[node, primitive(4, "site").required()]).expect("it fits the layout")
 }
 
 /// The ids of an accepted tree, in slot order.

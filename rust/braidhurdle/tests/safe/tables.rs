@@ -14,9 +14,16 @@ fn defined() -> Vec<(u32, String)> {
     let refusals = DEFINITIONS.lines().filter_map(|line| line.strip_prefix("-- refusal "));
     let row = |line: &str| {
         let (number, words) = line.split_once(": ").expect("a number and words");
-        (number.parse().expect("a number"), words.into())
+        (number.parse().expect("a number"), without_request(words))
     };
     refusals.map(row).collect()
+}
+
+/// Words without the request of 02 that added to them: `(02, 4/13)` is for readers of definitions.
+fn without_request(words: &str) -> String {
+    let Some((before, named)) = words.split_once("(02, ") else { return words.into() };
+    let (_, behind) = named.split_once(") ").expect("the request's number, and words");
+    [before, behind].concat()
 }
 
 fn defined_lists() -> Vec<(u32, String)> {
