@@ -133,7 +133,9 @@ impl Generator {
             true => Random::nth(self.seed, round * FIRST + turn),
             false => Random::nth(self.seed ^ turn << 32, round),
         };
-        if self.sizes == Sizes::Usual && random.chance(1, 40) {
+        // of an update's cases fewer take turns
+        let often = if operation == "update" { 30 } else { 40 };
+        if self.sizes == Sizes::Usual && random.chance(1, often) {
             return (edge(&mut random, operation), Origin::Edge);
         }
         let shape = self.shape(&mut random);

@@ -26,33 +26,36 @@ const ADDED: usize = 40;
 
 /// A renumbering with identifiers.
 pub fn renumbering(random: &mut Random, shape: Shape) -> Case {
-    let (base, ids) = with_identifiers(random, shape);
+    let breaks = random.chance(3, 4);
+    let (base, ids) = with_identifiers(random, shape, breaks);
     let start = if random.chance(1, 4) { random.any_id() } else { 1 };
     renumber_by(lay(random, &base), &ids, start)
 }
 
-/// An update with identifiers; in half of them the rebuilt tree is what 9 is about.
+/// An update with identifiers: 9 is about the base, about the rebuilt tree, or is passed.
 pub fn updating(random: &mut Random, shape: Shape) -> Case {
-    if random.chance(1, 2) {
+    let which = random.below(8);
+    if which < 3 {
         return given_again(random, shape);
     }
-    let (base, ids) = with_identifiers(random, shape);
+    let (base, ids) = with_identifiers(random, shape, which < 5);
     let rows = Tree::of(&base);
-    let deletions = deletions(random, &rows, &ids, true, 2);
+    let tame = random.chance(1, 2);
+    let deletions = deletions(random, &rows, &ids, tame, 2);
     let added = added(random, &rows, true, 2);
     let last_id = last_id(random, &rows, added.iter().map(|a| size(&a.column)).sum());
     update_by(lay(random, &base), &ids, last_id, request(&deletions, &added))
 }
 
-/// A base, and identifiers of which mostly one breaks a condition.
-fn with_identifiers(random: &mut Random, shape: Shape) -> (Vec<Node>, Vec<i32>) {
+/// A base, and identifiers of which one breaks a condition, or none.
+fn with_identifiers(random: &mut Random, shape: Shape, breaks: bool) -> (Vec<Node>, Vec<i32>) {
     let count = 1 + random.below(3);
     let at = random.below(count);
     let mut absent = 0;
     let mut roots = vec![];
     for place in 0..count {
-        let breaks = if place == at { random.chance(4, 5) } else { random.chance(1, 8) };
-        let (wrong, above) = chosen(random, shape, breaks);
+        let here = breaks && (place == at || random.chance(1, 8));
+        let (wrong, above) = chosen(random, shape, here);
         match wrong {
             Some(Broken::Absent) => absent += 1,
             wrong => roots.push(line(random, IDENTIFIER, above, wrong)),

@@ -176,8 +176,8 @@ fn updates_with_identifiers_get_far() {
     let tally = tally_of("update");
     let cases = tally.cases.sum();
     for (often, shape) in [
-        (10, "update: with identifiers"),
-        (100, "update: an identifier's id given again"),
+        (20, "update: with identifiers"),
+        (250, "update: an identifier's id given again"),
         (200, "update: the rebuilt tree: 9 for an id that is not there"),
     ] {
         let times = tally.shapes[shape].sum();
