@@ -3,9 +3,7 @@
 use std::collections::BTreeSet;
 
 use cases::{Answer, Ask, Case, Numbers, Outcome, base_breaks_9, shown};
-use judge::{
-    ENTRY_BYTES, ID_BYTES, Names, OUT_NAMES, OUT_RECORDS, RECORD_BYTES, Refusal, Unwrap,
-};
+use judge::{ENTRY_BYTES, ID_BYTES, Names, OUT_NAMES, OUT_RECORDS, RECORD_BYTES, Refusal, Unwrap};
 use oracle::Verdict;
 
 /// How the crate's word stands to the paper's. The words are those of docs/DIFFERENCES.md.
