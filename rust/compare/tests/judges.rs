@@ -44,10 +44,8 @@ fn a_run_that_says_too_little_is_told() {
     assert!(
         short.iter().any(|why| why.contains("accepted trees of more than 900 records, not 500"))
     );
-    let never = |listed: &&Agreement| short.contains(&format!("never {listed}"));
     if iceberg().is_some() {
-        let departures = LISTED.iter().filter(never).count();
-        assert!(departures > 0, "{short:?}");
+        assert!(short.contains(&"never departure: only 26 letters fold".into()), "{short:?}");
     }
 }
 
