@@ -125,7 +125,11 @@ fn parted(random: &mut Random, above: usize, wrong: Option<Broken>) -> (Node, Op
         _ => true,
     };
     let cuts: Vec<usize> = (0..=above).filter(receives).collect();
-    let cut = *random.pick(&cuts);
+    let cut = match random.below(4) {
+        0 => cuts[0],
+        1 => above,
+        _ => *random.pick(&cuts),
+    };
     let column = bottom(random, IDENTIFIER, above, wrong);
     let new = raised(random, column, 0..cut, wrong);
     if cut == above {
