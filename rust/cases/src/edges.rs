@@ -19,12 +19,12 @@ pub fn edge(random: &mut Random, operation: &str) -> Case {
     if operation == "update" && random.chance(1, 4) {
         return rebuilt(random, past);
     }
-    match random.below(14) {
+    match random.below(15) {
         0..=3 => buffers(random, operation),
         4..=6 => levels(random, operation, past),
         7..=9 => lists(random, operation, past),
         10 => name_sum(random, operation, past),
-        11 => pool(random, operation, past),
+        11 | 12 => pool(random, operation, past),
         _ => records(random, operation, past),
     }
 }
@@ -78,9 +78,12 @@ fn buffers(random: &mut Random, operation: &str) -> Case {
     case
 }
 
-/// A chain of 16 or 17 levels; for an update also in the additions tree, or by an addition
-/// deep down in the base.
+/// A chain of 16 or 17 levels, with an identifier at its end where there can be one; for an update
+/// also in the additions tree, or by an addition deep down in the base.
 fn levels(random: &mut Random, operation: &str, past: usize) -> Case {
+    if ["update", "renumber"].contains(&operation) && random.chance(1, 3) {
+        return deep_identifier(random, operation, past);
+    }
     let mut deep = vec![chain(random, LEVELS + past)];
     give_ids(random, &mut deep);
     part_names(&mut deep);
@@ -91,6 +94,29 @@ fn levels(random: &mut Random, operation: &str, past: usize) -> Case {
     deep[0].flags = 0;
     let column = deep.remove(0);
     update_by(packed(&[]), &[], 5, request(&[], &[Addition { path: None, column }]))
+}
+
+/// An identifier of level 16 or 17, with required structs above it; now and then one is optional.
+fn deep_identifier(random: &mut Random, operation: &str, past: usize) -> Case {
+    let (mut node, levels) = (prim(0, "s"), LEVELS + past);
+    let optional = random.below(4 * levels);
+    for level in 1..=levels {
+        if level != optional {
+            node.flags = REQUIRED;
+        }
+        if level < levels {
+            node = strukt(0, "s", vec![node]);
+        }
+    }
+    let mut deep = vec![node];
+    give_ids(random, &mut deep);
+    let base = packed(&deep);
+    let ids = ids_in(&base.0);
+    let identifiers = vec![ids[levels - 1]; 1 + random.below(MOST_IDENTIFIERS)];
+    match operation {
+        "update" => update_by(base, &identifiers, 2_000_000, request(&[], &[])),
+        _ => renumber_by(base, &identifiers, 1),
+    }
 }
 
 /// Every list of the operation at its count and one past it, or a byte too long.

@@ -12,6 +12,7 @@ use crate::damage::damage;
 use crate::dropped::dropped_parent;
 use crate::edges::edge;
 use crate::folded::folded;
+use crate::identifiers::{give_floats, renumbering, updating};
 use crate::ids::{many_ids, turn_ids};
 use crate::random::Random;
 use crate::trees::{Shape, column, identifiers, lay, name, parents, size, tree};
@@ -24,8 +25,11 @@ pub const OPERATIONS: [&str; 9] =
 /// operation for themselves, so that no case changes where an operation is added.
 const FIRST: u64 = 7;
 
-/// Sets the row of updates that add beneath what they drop apart from the others.
+/// Sets the row of updates that add beneath what they drop apart from the others; so for cases of
+/// identifiers, and for the types of columns.
 const DROPPED_PARENT: u64 = 3 << 40;
+const IDENTIFIERS: u64 = 4 << 40;
+const TYPES: u64 = 5 << 40;
 
 /// How large the trees are.
 #[derive(Clone, Copy, Debug, PartialEq, Eq)]
@@ -75,6 +79,24 @@ impl Generator {
         dropped_parent(&mut random, shape)
     }
 
+    /// The n-th update or renumbering in a row of its own, whose identifiers are mostly refused.
+    pub fn identifiers(&self, operation: &str, n: u64) -> Case {
+        self.identified(operation, n).0
+    }
+
+    fn identified(&self, operation: &str, n: u64) -> (Case, Origin) {
+        let update = operation == "update";
+        let mut random = Random::nth(self.seed ^ IDENTIFIERS ^ u64::from(update), n);
+        let shape = self.shape(&mut random);
+        let make = if update { updating } else { renumbering };
+        let mut case = make(&mut random, shape);
+        if self.sizes == Sizes::Usual && random.chance(1, 12) {
+            damage(&mut random, &mut case);
+            return (case, Origin::Damaged);
+        }
+        (case, Origin::Whole)
+    }
+
     fn shape(&self, random: &mut Random) -> Shape {
         let records = match self.sizes {
             Sizes::Small => 5,
@@ -91,14 +113,29 @@ impl Generator {
         let (round, turn) = (n / turns, n % turns);
         let operation = OPERATIONS[turn as usize];
         // the recorded list has them apart, so that its other cases stay
-        if operation == "update" && self.sizes == Sizes::Usual && round % 6 == 5 {
-            return (self.dropped_parent(round), Origin::Whole);
+        let usual = self.sizes == Sizes::Usual;
+        if usual && ["update", "renumber"].contains(&operation) && round % 6 == 2 {
+            return self.identified(operation, round);
         }
+        let (mut case, origin) = match usual && operation == "update" && round % 6 == 5 {
+            true => (self.dropped_parent(round), Origin::Whole),
+            false => self.taking_turns(round, turn),
+        };
+        if usual {
+            give_floats(&mut Random::nth(self.seed ^ TYPES, n), &mut case);
+        }
+        (case, origin)
+    }
+
+    fn taking_turns(&self, round: u64, turn: u64) -> (Case, Origin) {
+        let operation = OPERATIONS[turn as usize];
         let mut random = match turn < FIRST {
             true => Random::nth(self.seed, round * FIRST + turn),
             false => Random::nth(self.seed ^ turn << 32, round),
         };
-        if self.sizes == Sizes::Usual && random.chance(1, 40) {
+        // of an update's cases fewer take turns
+        let often = if operation == "update" { 30 } else { 40 };
+        if self.sizes == Sizes::Usual && random.chance(1, often) {
             return (edge(&mut random, operation), Origin::Edge);
         }
         let shape = self.shape(&mut random);
@@ -198,7 +235,7 @@ fn update(random: &mut Random, shape: Shape) -> Case {
     let mut ids = identifiers(random, &mut base);
     let rows = Tree::of(&base);
     if !rows.rows.is_empty() && random.chance(1, 15) {
-        // any record, where the builder asks for more
+        // any record, which mostly can't be one
         ids.push(random.pick(&rows.rows).id);
     }
     // most requests get far
@@ -229,7 +266,8 @@ fn update(random: &mut Random, shape: Shape) -> Case {
     update_by(laid, &ids, last_id, bytes)
 }
 
-fn deletions(
+/// Paths of columns to delete; those of a tame request are found, and no identifiers.
+pub fn deletions(
     random: &mut Random,
     rows: &Tree,
     identifiers: &[i32],
@@ -258,7 +296,8 @@ fn deletions(
     deletions
 }
 
-fn added(random: &mut Random, rows: &Tree, tame: bool, most: usize) -> Vec<Addition> {
+/// Columns to add; those of a tame request can stand where they are to.
+pub fn added(random: &mut Random, rows: &Tree, tame: bool, most: usize) -> Vec<Addition> {
     let mut added = vec![];
     for _ in 0..random.below(most + 1) {
         let mut new = fresh(random, if most > 3 { 5 } else { 3 });

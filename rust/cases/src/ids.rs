@@ -6,6 +6,7 @@ use judge::{ID_BYTES, MOST_ASKED, RECORD_BYTES, Tree};
 use crate::build::ids_by;
 use crate::case::{Ask, Case};
 use crate::random::Random;
+use crate::shapes::ids_of;
 use crate::trees::{Shape, lay, tree};
 
 /// Turns the ids of a case by one map that takes no two of them to one, so that whatever was equal
@@ -38,12 +39,18 @@ pub fn turn_ids(random: &mut Random, case: &mut Case) {
     };
     each(&mut case.records, RECORD_BYTES);
     match &mut case.ask {
-        Ask::Update { identifiers, last_id, .. } => {
-            each(identifiers, ID_BYTES);
-            // the next id that is handed out, which may be one of the tree's
+        Ask::Update { identifiers, last_id, added_records, .. } => {
+            // the next id that is handed out, which may be one of the tree's; or an identifier's
+            // that is handed out again
+            let far = |id: i32| i64::from(id) - i64::from(*last_id);
+            let given = 1..=(added_records.len() / RECORD_BYTES) as i64;
+            let again = ids_of(identifiers).into_iter().find(|id| given.contains(&far(*id)));
+            let next = again.unwrap_or(last_id.wrapping_add(1));
             if random.chance(5, 6) {
-                *last_id = turned(last_id.wrapping_add(1)).wrapping_sub(1);
+                let before = next.wrapping_sub(*last_id);
+                *last_id = turned(next).wrapping_sub(before);
             }
+            each(identifiers, ID_BYTES);
         }
         Ask::Renumber { identifiers: ids, .. }
         | Ask::Prune { selected: ids, .. }

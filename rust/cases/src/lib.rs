@@ -1,6 +1,7 @@
 //! Cases for the comparison: what an operation is lent, how a case and its answer are
 //! written down, a seeded generator, and the cases that stand in the recorded list by name.
 
+mod broken;
 mod build;
 mod case;
 mod damage;
@@ -8,6 +9,7 @@ mod dropped;
 mod edges;
 mod folded;
 mod generate;
+mod identifiers;
 mod ids;
 mod line;
 mod named;
@@ -17,6 +19,7 @@ mod shrink;
 mod tally;
 mod trees;
 
+pub use broken::{Broken, Of, base_breaks_9, broken, broken_in};
 pub use build::{
     Addition, additions, ask_of, ids_by, list_of, map_of, packed, prim, prune_by, renumber_by,
     request, strukt, the_tree, update_by, update_of,
@@ -27,6 +30,6 @@ pub use generate::{Generator, OPERATIONS, Origin, Sizes};
 pub use line::{Judge, Recorded, read_line, read_recorded, write_line};
 pub use named::{Expected, Named, named};
 pub use random::Random;
-pub use shapes::{SHAPES, shapes_of};
+pub use shapes::{all_shapes, shapes_of};
 pub use shrink::shrink;
 pub use tally::{Counts, Tally};

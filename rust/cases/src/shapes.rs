@@ -6,11 +6,17 @@ use judge::{
     REQUIRED, Refusal, STRUCT, Tree, Unwrap, alike, read_tree,
 };
 
+use crate::broken::{SHAPES_OF_9, nine_shapes};
 use crate::case::{Answer, Ask, Case};
 use crate::trees::{path_up, receiver};
 
+/// Every shape: those of 9 are last.
+pub fn all_shapes() -> impl Iterator<Item = &'static str> {
+    SHAPES.iter().chain(SHAPES_OF_9.as_flattened()).copied()
+}
+
 /// The shapes. Those of a tree can come up in every operation, the others in the one named.
-pub const SHAPES: &[&str] = &[
+const SHAPES: &[&str] = &[
     "update: accepted",
     "update: a member dropped",
     "update: a column added at the root",
@@ -27,6 +33,9 @@ pub const SHAPES: &[&str] = &[
     "update: found by a short name",
     "update: an id handed out again",
     "update: with identifiers",
+    "update: an identifier 15 levels beneath a root",
+    "update: an identifier's id given again",
+    "update: an identifier's id given again beneath a struct",
     "update: an identifier twice",
     "update: a column dropped twice",
     "update: the last id consumed is the largest",
@@ -44,7 +53,6 @@ pub const SHAPES: &[&str] = &[
     "update: 2 for the request pool",
     "update: 5 for level 17 of the additions tree",
     "update: 5 for counts past the end of the additions tree",
-    "update: 9 in the rebuilt tree",
     "update: 16 beneath a dropped member",
     "update: 17 beneath a dropped element, key or value",
     "update: 22 for the receiving struct itself",
@@ -81,6 +89,7 @@ pub const SHAPES: &[&str] = &[
     "prune: 20 at a value",
     "renumber: accepted",
     "renumber: with identifiers",
+    "renumber: an identifier 15 levels beneath a root",
     "renumber: an identifier twice",
     "renumber: 64 identifiers",
     "renumber: 2 for identifiers",
@@ -183,6 +192,8 @@ pub fn shapes_of(case: &Case, answer: &Answer) -> Vec<&'static str> {
         Ask::Renumber { identifiers, start, .. } => {
             met("renumber: accepted", true);
             met("renumber: with identifiers", !identifiers.is_empty());
+            let deepest = deepest(&tree, identifiers) == LEVELS;
+            met("renumber: an identifier 15 levels beneath a root", deepest);
             met("renumber: an identifier twice", twice(identifiers.chunks(4)));
             met("renumber: 64 identifiers", identifiers.len() == MOST_IDENTIFIERS * ID_BYTES);
             let last = i64::from(*start) + tree.rows.len() as i64;
@@ -204,6 +215,13 @@ pub fn shapes_of(case: &Case, answer: &Answer) -> Vec<&'static str> {
         Ask::List => met("list: accepted", true),
     }
     shapes
+}
+
+/// The level of the deepest identifier; 0 if there is none.
+fn deepest(tree: &Tree, identifiers: &[u8]) -> usize {
+    let ids = ids_of(identifiers);
+    let levels = tree.rows.iter().filter(|row| ids.contains(&row.id)).map(|row| row.level);
+    levels.max().unwrap_or(0)
 }
 
 /// Does anything stand in a row twice?
@@ -263,11 +281,7 @@ fn refused_shapes(case: &Case, refusal: Refusal, met: &mut impl FnMut(&'static s
             met("update: 5 for level 17 of the additions tree", !past(added_records));
             met("update: 5 for counts past the end of the additions tree", past(added_records));
         }
-        (Ask::Update { identifiers, .. }, 9, _) => {
-            let base = ids_in(&case.records);
-            let known = ids_of(identifiers).iter().all(|id| base.contains(id));
-            met("update: 9 in the rebuilt tree", known);
-        }
+        (_, 9, _) => nine_shapes(case, met),
         (Ask::Update { .. }, 16 | 17 | 22, _) => {
             let tree = read_tree(&case.records, &case.pool, 0).expect("16 comes after 6");
             addition_refused_shapes(case, &tree, refusal, met);
@@ -368,7 +382,8 @@ pub fn ids_in(records: &[u8]) -> Vec<i32> {
     records.chunks_exact(RECORD_BYTES).map(id).collect()
 }
 
-fn ids_of(bytes: &[u8]) -> Vec<i32> {
+/// The ids of a list of ids.
+pub fn ids_of(bytes: &[u8]) -> Vec<i32> {
     bytes.chunks_exact(4).map(|b| i32::from_le_bytes([b[0], b[1], b[2], b[3]])).collect()
 }
 
@@ -393,10 +408,12 @@ fn update_shapes(
     else {
         return;
     };
-    let Answer::Updated { records, last_id: consumed, .. } = answer else { return };
+    let Answer::Updated { records, names, last_id: consumed } = answer else { return };
     let (before, after) = (ids_in(&case.records), ids_in(records));
     met("update: accepted", true);
     met("update: with identifiers", !identifiers.is_empty());
+    let deepest = deepest(tree, identifiers) == LEVELS;
+    met("update: an identifier 15 levels beneath a root", deepest);
     met("update: an identifier twice", twice(identifiers.chunks(4)));
     met("update: 64 identifiers", identifiers.len() == MOST_IDENTIFIERS * ID_BYTES);
     met("update: 64 deletions", deletions.len() == MOST_DELETIONS * ENTRY_BYTES);
@@ -408,6 +425,14 @@ fn update_shapes(
     let given = i64::from(*last_id) + 1..=i64::from(*consumed);
     let fresh = |id: &i32| given.contains(&i64::from(*id));
     met("update: an id handed out again", before.iter().any(fresh));
+    let again: Vec<i32> = ids_of(identifiers).into_iter().filter(fresh).collect();
+    met("update: an identifier's id given again", !again.is_empty());
+    let after_tree = read_tree(records, names, judge::REBUILT).expect("an answer is read");
+    let nested = |row: &judge::Row| row.level > 1 && again.contains(&row.id);
+    met(
+        "update: an identifier's id given again beneath a struct",
+        after_tree.rows.iter().any(nested),
+    );
     met(
         "update: the last id consumed is the largest",
         *consumed == i32::MAX && *last_id < i32::MAX,
@@ -417,8 +442,8 @@ fn update_shapes(
         "update: a required column with a default",
         added_records.chunks(24).any(|r| r[10] == both),
     );
-    let names = Names::of(tree);
-    let found = |path: &[u8]| names.find(path).expect("an accepted path finds a record");
+    let called = Names::of(tree);
+    let found = |path: &[u8]| called.find(path).expect("an accepted path finds a record");
     deletion_shapes(case, tree, &found, &after, met);
     addition_shapes(case, tree, &found, met);
 }

@@ -7,7 +7,7 @@ use judge::{ADDED, ADDITIONS, BASE, DELETIONS, IDENTIFIERS, LAST_REFUSAL, REBUIL
 
 use crate::case::{Answer, Case};
 use crate::generate::{OPERATIONS, Origin};
-use crate::shapes::{SHAPES, shapes_of};
+use crate::shapes::{all_shapes, shapes_of};
 
 /// A count for each of the operations.
 #[derive(Clone, Copy, Debug, Default, PartialEq, Eq)]
@@ -130,7 +130,7 @@ impl Tally {
     pub fn missing(&self) -> Vec<String> {
         let met = |number: &u32| self.refusals.keys().any(|(known, _)| known == number);
         let refusals = (1..=LAST_REFUSAL).filter(|number| !met(number));
-        let shapes = SHAPES.iter().filter(|shape| !self.shapes.contains_key(*shape));
+        let shapes = all_shapes().filter(|shape| !self.shapes.contains_key(shape));
         refusals.map(|n| format!("refusal {n}")).chain(shapes.map(|s| s.to_string())).collect()
     }
 
@@ -149,7 +149,7 @@ impl Tally {
                     missing.push(format!("{operation}: has no refusal {number} in list {list}"));
                 }
             }
-            for shape in SHAPES.iter().filter(|shape| fits(shape, operation)) {
+            for shape in all_shapes().filter(|shape| fits(shape, operation)) {
                 if self.shapes.get(shape).map_or(0, |counts| counts.of(operation)) == 0 {
                     missing.push(format!("{operation}: never {shape}"));
                 }
@@ -174,7 +174,7 @@ impl Tally {
         for ((number, list), counts) in &self.refusals {
             rows.push((format!("refusal {number} in list {list}"), *counts));
         }
-        let shapes = SHAPES.iter().map(|s| (*s, self.shapes.get(s).copied().unwrap_or_default()));
+        let shapes = all_shapes().map(|s| (s, self.shapes.get(s).copied().unwrap_or_default()));
         rows.extend(shapes.map(|(shape, counts)| (shape.to_string(), counts)));
         rows
     }

@@ -117,7 +117,7 @@ pub fn size(node: &Node) -> usize {
 }
 
 /// A primitive with random flags, type code and attribute.
-fn leaf(random: &mut Random, fixed: Option<&str>) -> Node {
+pub fn leaf(random: &mut Random, fixed: Option<&str>) -> Node {
     let default = if random.chance(1, 4) { DEFAULT } else { 0 };
     Node {
         id: 0,

@@ -1,6 +1,10 @@
 //! What the generator makes.
 
-use cases::{Answer, Ask, Case, Generator, OPERATIONS, Sizes, Tally, answer, shrink};
+use std::collections::{BTreeMap, BTreeSet};
+
+use cases::{
+    Answer, Ask, Broken, Case, Generator, OPERATIONS, Of, Sizes, Tally, answer, broken_in, shrink,
+};
 
 const SEED: u64 = 1;
 
@@ -11,7 +15,7 @@ fn usual() -> Generator {
 #[test]
 fn every_refusal_and_every_accepted_shape_comes_up() {
     let mut tally = Tally::default();
-    for n in 0..45_000 {
+    for n in 0..90_000 {
         let (case, origin) = usual().made(n);
         tally.count(&case, origin, &answer(&case));
     }
@@ -107,6 +111,80 @@ fn nothing_that_is_added_vanishes() {
         shown += usize::from(!given.is_empty());
     }
     assert!(shown > 1_000, "{shown} cases");
+}
+
+/// The conditions that an identifier breaks alone, in which tree; how far above is left out.
+fn broken_alone(case: &Case) -> Option<(Of, Broken)> {
+    match broken_in(case)? {
+        (of, _, all) if all.len() == 1 => Some((of, all[0])),
+        _ => None,
+    }
+}
+
+/// 02, 4/13: each condition is broken alone, in each tree, and at each of 15 distances above.
+#[test]
+fn each_condition_of_an_identifier_is_broken_alone_at_each_distance() {
+    let mut met: BTreeMap<Of, BTreeSet<Broken>> = BTreeMap::new();
+    for operation in ["update", "renumber"] {
+        for n in 0..24_000 {
+            let case = usual().identifiers(operation, n);
+            let nine = answer(&case).refusal().is_some_and(|refusal| refusal.number == 9);
+            if let (true, Some((of, alone))) = (nine, broken_alone(&case)) {
+                met.entry(of).or_default().insert(alone);
+            }
+        }
+    }
+    let column = [Broken::Absent, Broken::Struct, Broken::List, Broken::Map];
+    let column = column.into_iter().chain([Broken::Optional, Broken::Float, Broken::Double]);
+    let above = [Broken::UnderList, Broken::UnderKey, Broken::UnderValue, Broken::UnderOptional];
+    let above = above.iter().flat_map(|broken| (0..15).map(broken));
+    let every: BTreeSet<Broken> = column.chain(above).collect();
+    for of in [Of::Base, Of::Rebuilt, Of::Renumbered] {
+        let missing: Vec<&Broken> = every.difference(&met[&of]).collect();
+        assert!(missing.is_empty(), "{of:?}: never {missing:?}");
+    }
+}
+
+/// The conditions are written down here once more: where the judge gives 9 one is broken, by the
+/// identifier of its place, and by none where it accepts.
+#[test]
+fn where_9_is_given_a_condition_is_broken() {
+    let (mut refused, mut accepted) = (0, 0);
+    for operation in ["update", "renumber"] {
+        let apart = (0..4_000).map(|n| usual().identifiers(operation, n));
+        for case in apart.chain(of(operation, 4_000).map(|n| usual().case(n))) {
+            match answer(&case) {
+                Answer::Refused(refusal) if refusal.number == 9 => {
+                    let place = broken_in(&case).map(|(_, place, _)| place as u32);
+                    assert_eq!(place, Some(refusal.place), "{case:?}");
+                    refused += 1;
+                }
+                Answer::Refused(_) => {}
+                _ => {
+                    assert_eq!(broken_in(&case), None, "{case:?}");
+                    accepted += 1;
+                }
+            }
+        }
+    }
+    assert!(refused > 4_000 && accepted > 4_000, "{refused} and {accepted}");
+}
+
+/// Most identifiers pass, so that what comes after 9 is met with them.
+#[test]
+fn updates_with_identifiers_get_far() {
+    let tally = tally_of("update");
+    let cases = tally.cases.sum();
+    for (often, shape) in [
+        (20, "update: with identifiers"),
+        (250, "update: an identifier's id given again"),
+        (200, "update: the rebuilt tree: 9 for an id that is not there"),
+    ] {
+        let times = tally.shapes[shape].sum();
+        assert!(times * often > cases, "{shape}: {times} of {cases}");
+    }
+    let twelve = tally.refusals[&(12, judge::DELETIONS)].sum();
+    assert!(twelve * 120 > cases, "refusal 12: {twelve} of {cases}");
 }
 
 /// Whatever the operation, so that its own search is put to such ids.

@@ -62,7 +62,8 @@ fn the_named_cases_hold_every_refusal_and_all_worked_examples() {
         assert!(titles.iter().any(|title| title.starts_with(&start)), "{start}");
     }
     // 25 and 36 are points that no input can show; 36 has a case all the same
-    for reading in (1..=67).filter(|n| *n != 25).chain(145..=148).chain(161..=164) {
+    for reading in (1..=67).filter(|n| *n != 25).chain(145..=148).chain(161..=164).chain(168..=171)
+    {
         let start = format!("reading {reading}:");
         assert!(titles.iter().any(|title| title.starts_with(&start)), "{start}");
     }

@@ -2,11 +2,8 @@
 
 use std::collections::BTreeSet;
 
-use cases::{Answer, Ask, Case, Numbers, Outcome, shown};
-use judge::{
-    ENTRY_BYTES, ID_BYTES, Names, OUT_NAMES, OUT_RECORDS, PRIMITIVE, RECORD_BYTES, REQUIRED,
-    Refusal, Row, STRUCT, Unwrap,
-};
+use cases::{Answer, Ask, Case, Numbers, Outcome, base_breaks_9, shown};
+use judge::{ENTRY_BYTES, ID_BYTES, Names, OUT_NAMES, OUT_RECORDS, RECORD_BYTES, Refusal, Unwrap};
 use oracle::Verdict;
 
 /// How the crate's word stands to the paper's. The words are those of docs/DIFFERENCES.md.
@@ -18,7 +15,7 @@ pub enum Agreement {
     Fact,
     /// A departure that the page lists.
     Departure(&'static str),
-    /// The crate can't be asked, or the base is outside the domain of comparison.
+    /// The crate can't be asked.
     Outside(&'static str),
     /// None of these.
     Differ,
@@ -36,12 +33,10 @@ const VALUE_YIELDS_NOTHING: &str =
 const ONLY_LETTERS: &str = "only 26 letters fold";
 const AMBIGUOUS: &str = "ambiguity is refused";
 const DROPPED_PARENT: &str = "no additions to a dropped parent";
-const HANDED_OUT_AGAIN: &str = "An identifier's id handed out again";
 const BYTES: &str = "1 to 6 and 10 speak of bytes that the crate never sees";
-const STRICTER: &str = "The builder's rule for identifiers is stricter than 9";
 
 /// Every agreement that is none of the same answer: all that a run may meet.
-pub const LISTED: [Agreement; 13] = [
+pub const LISTED: [Agreement; 11] = [
     Fact,
     Departure(ELEMENT_KEY_VALUE),
     Departure(PAST_LARGEST),
@@ -52,9 +47,7 @@ pub const LISTED: [Agreement; 13] = [
     Departure(ONLY_LETTERS),
     Departure(AMBIGUOUS),
     Departure(DROPPED_PARENT),
-    Departure(HANDED_OUT_AGAIN),
     Outside(BYTES),
-    Outside(STRICTER),
 ];
 
 impl Agreement {
@@ -133,24 +126,23 @@ pub fn agreement(case: &Case, paper: &Answer, said: &Verdict) -> Agreement {
         Verdict::Unfit("a name that is not UTF-8") => Departure(NOT_UTF8),
         Verdict::Unfit(_) => Differ,
         Verdict::Answer(answer) => answered(case, paper, answer),
-        Verdict::Refused { number, base: true, .. } => base_refused(case, paper, *number),
-        Verdict::Refused { number, place, .. } => refused(case, paper, *number, *place),
+        Verdict::Refused { number: 9, base, .. } if other_tree(case, paper, *base) => Differ,
+        Verdict::Refused { number, base: true, .. } => base_refused(paper, *number),
+        Verdict::Refused { number, place, .. } => refused(paper, *number, *place),
         Verdict::Panicked { place, text } => panicked(case, paper, *place, text),
     }
 }
 
-/// The crate has no 22 and goes by 01 as it was: the addition is nowhere, or a later refusal is
-/// met. So its word is held to 01's answer, whatever that is.
+/// The crate has no 22 and goes by the text as it was before: the addition is nowhere, or a later
+/// refusal is met. So its word is held to that answer, whatever it is.
 fn dropped_parent(case: &Case, said: &Verdict) -> Agreement {
     match agreement(case, &before_22(case), said) {
-        Same | Fact | Departure(PAST_LARGEST | LIMITS | HANDED_OUT_AGAIN) => {
-            Departure(DROPPED_PARENT)
-        }
+        Same | Fact | Departure(PAST_LARGEST | LIMITS) => Departure(DROPPED_PARENT),
         other => other,
     }
 }
 
-/// 01's answer to an update, before 02 amended it.
+/// The answer to an update as it was before 02's 3/13.
 fn before_22(case: &Case) -> Answer {
     let call = case.update_call().expect("only an update is refused with 22");
     let (mut out_records, mut out_names) = (vec![0; OUT_RECORDS], vec![0; OUT_NAMES]);
@@ -209,41 +201,24 @@ fn keys(case: &Case) -> Vec<(Vec<u8>, i32)> {
     called.map(entry).collect()
 }
 
-fn base_refused(case: &Case, paper: &Answer, number: u32) -> Agreement {
+/// Does the text give 9 too, but of the other tree, where the crate's is of the base or of the
+/// rebuilt tree?
+fn other_tree(case: &Case, paper: &Answer, base: bool) -> bool {
+    let nine = paper.refusal().is_some_and(|refusal| refusal.number == 9);
+    nine && base_breaks_9(case) != base
+}
+
+fn base_refused(paper: &Answer, number: u32) -> Agreement {
     let fault = |number: u32| (7..=9).contains(&number);
     match paper.refusal() {
         Some(refusal) if refusal.number == number => Same,
         Some(refusal) if fault(refusal.number) && fault(number) => Fact,
-        _ if number == 9 && stricter(case) => Outside(STRICTER),
         _ => Differ,
     }
 }
 
-/// Is some identifier no required primitive, or something else than required structs above it?
-fn stricter(case: &Case) -> bool {
-    let (Ask::Update { identifiers, .. } | Ask::Renumber { identifiers, .. }) = &case.ask else {
-        return false;
-    };
-    let Ok(tree) = judge::read_tree(&case.records, &case.pool, judge::BASE) else { return false };
-    let required = |row: &Row, kind: u8| row.kind == kind && row.flags & REQUIRED != 0;
-    let above = |row: &Row| row.parent.map(|up| &tree.rows[up]);
-    let fits = |row: &Row| {
-        let mut up = std::iter::successors(above(row), |row| above(row));
-        required(row, PRIMITIVE) && up.all(|row| required(row, STRUCT))
-    };
-    let ids: Vec<i32> = ids(identifiers).collect();
-    tree.rows.iter().any(|row| ids.contains(&row.id) && !fits(row))
-}
-
-fn ids(bytes: &[u8]) -> impl Iterator<Item = i32> {
-    bytes.chunks_exact(ID_BYTES).map(|b| i32::from_le_bytes([b[0], b[1], b[2], b[3]]))
-}
-
-fn refused(case: &Case, paper: &Answer, number: u32, place: Option<u32>) -> Agreement {
-    let Some(refusal) = paper.refusal() else {
-        let again = number == 9 && id_handed_out_again(case, paper);
-        return if again { Departure(HANDED_OUT_AGAIN) } else { Differ };
-    };
+fn refused(paper: &Answer, number: u32, place: Option<u32>) -> Agreement {
+    let Some(refusal) = paper.refusal() else { return Differ };
     let rebuilt = |r: Refusal| r.list >= judge::REBUILT && (7..=9).contains(&number);
     match refusal.number == number {
         true if place.is_none_or(|place| place == refusal.place) => Same,
@@ -271,14 +246,4 @@ fn panicked(case: &Case, paper: &Answer, place: Option<u32>, text: &str) -> Agre
         }
         _ => Differ,
     }
-}
-
-/// Is some identifier's id among those that the update gave to added columns?
-fn id_handed_out_again(case: &Case, paper: &Answer) -> bool {
-    let (Ask::Update { identifiers, last_id, .. }, Answer::Updated { last_id: consumed, .. }) =
-        (&case.ask, paper)
-    else {
-        return false;
-    };
-    ids(identifiers).any(|id| id > *last_id && id <= *consumed)
 }

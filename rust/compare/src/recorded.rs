@@ -17,6 +17,8 @@ const SEED: u64 = 20_260;
 const RANDOM: u64 = 3_856;
 /// Random updates behind them that add beneath what they drop.
 const DROPPED_PARENT: u64 = 80;
+/// Random updates, and as many renumberings, whose identifiers are mostly refused.
+const IDENTIFIERS: u64 = 48;
 
 /// Where the list stands in the repository.
 pub fn recorded_path() -> PathBuf {
@@ -39,6 +41,11 @@ pub fn recorded_list(iceberg: Iceberg) -> String {
     lines.push(format!("# 3/13: additions beneath what is dropped, random, seed {SEED}"));
     let beneath = (0..DROPPED_PARENT).map(|n| generator.dropped_parent(n));
     lines.extend(beneath.map(|case| entry(case, iceberg)));
+    lines.push(format!("# 4/13: identifiers, random, seed {SEED}"));
+    for operation in ["update", "renumber"] {
+        let identified = (0..IDENTIFIERS).map(|n| generator.identifiers(operation, n));
+        lines.extend(identified.map(|case| entry(case, iceberg)));
+    }
     header(&lines) + &lines.join("\n") + "\n"
 }
 

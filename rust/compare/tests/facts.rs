@@ -85,36 +85,119 @@ fn the_builder_tests_7_then_9_then_8() {
     assert_eq!(number(iceberg, &both), 7);
 }
 
-/// The one difference that 01 does not list.
+/// What the builder says of a base with one identifier, and that the text refuses it too.
+fn refused_identifier(iceberg: Iceberg, base: &[Node], id: i32, said: &str) {
+    let case = renumbering(base, &[id], 1);
+    let Verdict::Refused { number: 9, text, base: true, .. } = iceberg.verdict(&case) else {
+        panic!("the builder refuses {id} for: {said}")
+    };
+    assert!(text.contains(said), "{text}");
+    assert!(Expected::Refused(9, 5, 0).met_by(&answer(&case)), "{id}");
+}
+
+fn of_type(code: u32, mut column: Node) -> Node {
+    column.type_code = code;
+    column
+}
+
+/// 02, 4/13: each condition is the builder's own, by its own words.
 #[test]
-fn an_identifiers_id_handed_out_again_is_refused_by_the_builder() {
+fn the_builder_asks_each_condition_of_an_identifier() {
+    let Some(iceberg) = iceberg() else { return };
+    let held = |id| vec![required(prim(id, "i"))];
+    let base = [
+        prim(1, "optional"),
+        strukt(2, "opt", held(3)),
+        required(list_of(4, "l", required(strukt(5, "element", held(6))))),
+        required(map_of(7, "m", required(prim(8, "key")), required(prim(9, "value")))),
+        required(strukt(
+            10,
+            "st",
+            vec![strukt(11, "o", vec![required(strukt(12, "t", held(13)))])],
+        )),
+        of_type(5, required(prim(14, "float"))),
+        of_type(6, required(prim(15, "double"))),
+        required(list_of(16, "e", required(prim(17, "element")))),
+    ];
+    let optional = "must not be nested in an optional field";
+    let nested = "must not be nested in NestedField";
+    let float = "cannot be a float or double type";
+    for (id, said) in [
+        (99, "field does not exist"),
+        (1, "is an optional field"),
+        (2, "is an optional field"),
+        (3, optional),
+        (4, "not a primitive type field"),
+        (5, "not a primitive type field"),
+        (6, nested),
+        (7, "not a primitive type field"),
+        (8, nested),
+        (9, nested),
+        (10, "not a primitive type field"),
+        (13, optional),
+        (14, float),
+        (15, float),
+        (17, nested),
+    ] {
+        refused_identifier(iceberg, &base, id, said);
+    }
+}
+
+/// What the builder takes, and so does the text: any other type code, a default, and required
+/// structs on all levels above.
+#[test]
+fn the_builder_takes_other_identifiers() {
+    let Some(iceberg) = iceberg() else { return };
+    let mut column = required(prim(16, "i"));
+    column.flags |= judge::DEFAULT;
+    let deep = (1..16).fold(column, |inside, id| required(strukt(id, "s", vec![inside])));
+    let taken = |base: &[Node], id: i32| {
+        let case = renumbering(base, &[id, id], 1);
+        assert_eq!(iceberg.verdict(&case), Verdict::Answer(answer(&case)), "{id}");
+    };
+    taken(&[deep], 16);
+    for code in [0, 4, 7, 10, 65_541, u32::MAX] {
+        taken(&[of_type(code, required(prim(1, "a")))], 1);
+    }
+}
+
+/// The rebuilt tree is asked the same: an identifier's id that is given again is that of the new
+/// column.
+#[test]
+fn an_identifiers_id_given_again_is_asked_by_the_builder() {
     let Some(iceberg) = iceberg() else { return };
     let base = [prim(1, "a"), required(strukt(2, "s", vec![required(prim(3, "i"))]))];
-    let case = update_of(&base, &[3], 2, &["s"], &[(None, prim(0, "n"))]);
-    let Verdict::Refused { number: 9, text, base: false, .. } = iceberg.verdict(&case) else {
-        panic!("the builder refuses an optional identifier")
-    };
-    assert!(text.contains("is an optional field"), "{text}");
+    let again = |column: Node| update_of(&base, &[3], 2, &["s"], &[(None, column)]);
+    let mut fits = required(prim(0, "n"));
+    fits.flags |= judge::DEFAULT;
+    let list = Node { kind: judge::LIST, inside: vec![prim(0, "element")], ..fits.clone() };
+    for (column, said) in [
+        (prim(0, "n"), "is an optional field"),
+        (of_type(5, fits.clone()), "cannot be a float or double type"),
+        (of_type(6, fits.clone()), "cannot be a float or double type"),
+        (list, "not a primitive type field"),
+    ] {
+        let case = again(column);
+        let Verdict::Refused { number: 9, text, base: false, .. } = iceberg.verdict(&case) else {
+            panic!("the builder refuses it: {said}")
+        };
+        assert!(text.contains(said), "{text}");
+        assert!(Expected::Refused(9, 5, 0).met_by(&answer(&case)), "{said}");
+    }
+    let case = again(fits);
+    assert_eq!(iceberg.verdict(&case), Verdict::Answer(answer(&case)));
     assert!(Expected::Last(vec![1, 3], 3).met_by(&answer(&case)));
 }
 
-/// So these bases are outside the domain of comparison.
+/// A column keeps its type code through the crate, whatever it is.
 #[test]
-fn the_builder_asks_more_of_an_identifier_than_9_does() {
+fn every_type_code_comes_back() {
     let Some(iceberg) = iceberg() else { return };
-    let base = [
-        prim(1, "optional"),
-        strukt(2, "opt", vec![required(prim(3, "i"))]),
-        required(list_of(4, "l", required(prim(5, "element")))),
-        required(map_of(6, "m", required(prim(7, "key")), required(prim(8, "value")))),
-        required(strukt(9, "st", vec![required(prim(10, "ok"))])),
-    ];
-    for id in 1..=9 {
-        let case = renumbering(&base, &[id], 1);
-        assert_eq!(number(iceberg, &case), 9, "id {id}");
-        assert!(answer(&case).refusal().is_none(), "id {id}");
-    }
-    assert_eq!(number(iceberg, &renumbering(&base, &[10, 10], 1)), 0);
+    let codes = (0..10).chain([255, 256, 65_541, 1 << 24, u32::MAX]);
+    let base: Vec<Node> =
+        codes.enumerate().map(|(k, c)| of_type(c, prim(k as i32, &format!("{k}")))).collect();
+    let case = renumbering(&base, &[], 1);
+    assert_eq!(iceberg.verdict(&case), Verdict::Answer(answer(&case)));
 }
 
 /// 02, 3/13: what the crate says where the port gives 22. It accepts, and the column is nowhere;

@@ -1,13 +1,19 @@
 //! The comparison finds what is wrong with a port.
 
-use cases::{Ask, ByJudge, Generator, Operations, Sizes, named, outcome, read_line};
+use cases::{
+    Ask, Broken, ByJudge, Case, Generator, Of, Operations, Sizes, broken_in, named, outcome,
+    read_line,
+};
 use compare::{Run, iceberg, replay};
-use judge::{Changed, Found, ID_BYTES, NO_SLOT, Names, RECORD_BYTES, Searched, Tree, UpdateCall};
+use judge::{
+    Changed, Found, ID_BYTES, NO_SLOT, Names, RECORD_BYTES, Row, Searched, Tree, UpdateCall,
+};
 use port::{Guarded, beside_paper};
 
 /// The second judge with its answers changed a little.
 struct Altered {
     updated: Updated,
+    renumbered: Renumbered,
     changed: fn(Changed, &mut [u8], &mut [u8]) -> Changed,
     found: fn(Found) -> Found,
     folded: Folded,
@@ -16,6 +22,9 @@ struct Altered {
 
 /// An update.
 type Updated = fn(&UpdateCall, &mut [u8], &mut [u8]) -> Changed;
+
+/// A renumbering: of records and pool, with identifiers, from a start.
+type Renumbered = fn([&[u8]; 3], i32, [&mut [u8]; 3]) -> Changed;
 
 /// A look-up that forgets case.
 type Folded = fn(&[u8], &[u8], &[u8]) -> Found;
@@ -50,7 +59,7 @@ impl Operations for Altered {
         n: &mut [u8],
         i: &mut [u8],
     ) -> Changed {
-        let answer = ByJudge.renumber(records, pool, identifiers, start, r, n, i);
+        let answer = (self.renumbered)([records, pool, identifiers], start, [r, n, i]);
         (self.changed)(answer, r, n)
     }
     fn find_name(&self, records: &[u8], pool: &[u8], name: &[u8]) -> Found {
@@ -70,9 +79,14 @@ impl Operations for Altered {
     }
 }
 
+fn renumbered([records, pool, ids]: [&[u8]; 3], start: i32, [r, n, i]: [&mut [u8]; 3]) -> Changed {
+    judge::renumber(records, pool, ids, start, r, n, i)
+}
+
 fn right() -> Altered {
     Altered {
         updated: judge::update,
+        renumbered,
         changed: |answer, _, _| answer,
         found: |answer| answer,
         folded: judge::find_folded,
@@ -246,6 +260,158 @@ fn wrong_ways_to_refuse_a_dropped_parent_are_found() {
     for (what, updated) in wrong {
         assert!(failures(Altered { updated, ..right() }) > 0, "{what}");
     }
+}
+
+/// A wrong rule for identifiers: which of the conditions are passed over, in which tree.
+type Over = fn(Of, Broken) -> bool;
+
+/// Without the identifier that is refused, if all that it breaks is passed over.
+fn passed_over(case: &Case, identifiers: &[u8], over: Over) -> Option<Vec<u8>> {
+    let (of, place, all) = broken_in(case)?;
+    let mut others = identifiers.to_vec();
+    others.drain(place * ID_BYTES..(place + 1) * ID_BYTES);
+    all.iter().all(|broken| over(of, *broken)).then_some(others)
+}
+
+fn updated_over(call: &UpdateCall, r: &mut [u8], n: &mut [u8], over: Over) -> Changed {
+    let answer = judge::update(call, r, n);
+    let [records, pool, identifiers, deletions, additions, added_records, request_pool] =
+        call.lists().map(<[u8]>::to_vec);
+    let (last_id, out_records, out_names) = (call.last_id, r.len(), n.len());
+    let ask = Ask::Update {
+        identifiers,
+        last_id,
+        deletions,
+        additions,
+        added_records,
+        request_pool,
+        out_records,
+        out_names,
+    };
+    let case = Case { records, pool, ask };
+    match passed_over(&case, call.identifiers, over) {
+        Some(others) if answer.refusal == 9 => {
+            updated_over(&UpdateCall { identifiers: &others, ..*call }, r, n, over)
+        }
+        _ => answer,
+    }
+}
+
+fn renumbered_over(
+    [records, pool, identifiers]: [&[u8]; 3],
+    start: i32,
+    [r, n, i]: [&mut [u8]; 3],
+    over: Over,
+) -> Changed {
+    let answer = judge::renumber(records, pool, identifiers, start, r, n, i);
+    let (out_records, out_names, out_identifiers) = (r.len(), n.len(), i.len());
+    let identifiers = identifiers.to_vec();
+    let ask = Ask::Renumber { identifiers, start, out_records, out_names, out_identifiers };
+    let case = Case { records: records.to_vec(), pool: pool.to_vec(), ask };
+    let Ask::Renumber { identifiers, .. } = &case.ask else { return answer };
+    match passed_over(&case, identifiers, over) {
+        Some(others) if answer.refusal == 9 => {
+            renumbered_over([records, pool, &others], start, [r, n, i], over)
+        }
+        _ => answer,
+    }
+}
+
+/// 02, 4/13: each condition passed over, near, far, or in one of the trees alone.
+#[test]
+fn identifiers_that_are_wrongly_let_through_are_found() {
+    // a function without a name has nothing but its arguments, so each rule is one of a list
+    macro_rules! found {
+        ($($what:literal, $over:expr;)*) => {$(
+            let updated: Updated = |call, r, n| updated_over(call, r, n, $over);
+            let renumbered: Renumbered = |lent, start, out| renumbered_over(lent, start, out, $over);
+            let rebuilt = $what.contains("rebuilt");
+            let renumbering = $what.contains("renumbering");
+            let fails = failures(Altered { updated, ..right() });
+            assert!(fails > 0 || renumbering, "an update: {}", $what);
+            let fails = failures(Altered { renumbered, ..right() });
+            assert!(fails > 0 || rebuilt, "a renumbering: {}", $what);
+        )*};
+    }
+    found!(
+        "only the id is asked for", |_, broken| broken != Broken::Absent;
+        "the id alone is not asked for", |_, broken| broken == Broken::Absent;
+        "a list above", |_, broken| matches!(broken, Broken::UnderList(_));
+        "a list farther above", |_, broken| matches!(broken, Broken::UnderList(1..));
+        "an element", |_, broken| broken == Broken::UnderList(0);
+        "a key", |_, broken| broken == Broken::UnderKey(0);
+        "a value", |_, broken| broken == Broken::UnderValue(0);
+        "a key farther above", |_, broken| matches!(broken, Broken::UnderKey(1..));
+        "a value farther above", |_, broken| matches!(broken, Broken::UnderValue(1..));
+        "an optional struct above", |_, broken| matches!(broken, Broken::UnderOptional(_));
+        "an optional struct two levels above", |_, broken| {
+            matches!(broken, Broken::UnderOptional(1..))
+        };
+        "the first of 16 levels", |_, broken| broken == Broken::UnderOptional(14);
+        "a float", |_, broken| broken == Broken::Float;
+        "a double", |_, broken| broken == Broken::Double;
+        "an optional column", |_, broken| broken == Broken::Optional;
+        "a struct", |_, broken| broken == Broken::Struct;
+        "a list", |_, broken| broken == Broken::List;
+        "a map", |_, broken| broken == Broken::Map;
+        "a rebuilt tree", |of, _| of == Of::Rebuilt;
+        "a rebuilt tree: what the column is", |of, broken| {
+            of == Of::Rebuilt && broken != Broken::Absent
+        };
+        "a rebuilt tree: what is above", |of, broken| {
+            of == Of::Rebuilt && matches!(broken, Broken::UnderOptional(_) | Broken::UnderList(_))
+        };
+        "a rebuilt tree: a float", |of, broken| of == Of::Rebuilt && broken == Broken::Float;
+        "a base, where the rebuilt tree is asked", |of, _| of == Of::Base;
+        "a base of a renumbering", |of, _| of == Of::Renumbered;
+    );
+}
+
+/// Too strict a rule: an identifier that is refused though it passes.
+fn refused_if(
+    [records, pool, identifiers]: [&[u8]; 3],
+    answer: Changed,
+    wrong: fn(&Row) -> bool,
+) -> Changed {
+    let Ok(tree) = judge::read_tree(records, pool, judge::BASE) else { return answer };
+    let refused = |id: &[u8]| {
+        let id = i32::from_le_bytes(id.try_into().expect("four bytes"));
+        tree.rows.iter().any(|row| row.id == id && wrong(row))
+    };
+    match identifiers.chunks_exact(ID_BYTES).position(refused) {
+        Some(place) if answer.refusal == 0 => {
+            judge::Refusal::new(9, judge::IDENTIFIERS, place).into()
+        }
+        _ => answer,
+    }
+}
+
+#[test]
+fn identifiers_that_are_wrongly_refused_are_found() {
+    macro_rules! found {
+        ($($what:literal, $wrong:expr;)*) => {$(
+            let updated: Updated = |call, r, n| {
+                let lent = [call.records, call.pool, call.identifiers];
+                refused_if(lent, judge::update(call, r, n), $wrong)
+            };
+            let renumbering: Renumbered =
+                |lent, start, out| refused_if(lent, renumbered(lent, start, out), $wrong);
+            assert!(failures(Altered { updated, ..right() }) > 0, "an update: {}", $what);
+            let altered = Altered { renumbered: renumbering, ..right() };
+            assert!(failures(altered) > 0, "a renumbering: {}", $what);
+        )*};
+    }
+    found!(
+        "a code outside the table", |row| row.type_code == 0 || row.type_code > 9;
+        "a code whose lowest byte is 5", |row| row.type_code & 255 == 5;
+        "a code whose second byte is 5", |row| row.type_code >> 8 & 255 == 5;
+        "a code whose highest byte is 5", |row| row.type_code >> 24 == 5;
+        "an initial default", |row| row.flags & judge::DEFAULT != 0;
+        "level 16", |row| row.level == 16;
+        "any struct above", |row| row.parent.is_some();
+        "a negative id", |row| row.id < 0;
+        "a column that is called key", |row| row.name == b"key";
+    );
 }
 
 /// Is a record a root or a struct's member?

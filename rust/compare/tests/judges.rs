@@ -2,6 +2,7 @@
 
 use cases::{Answer, Generator, Named, OPERATIONS, Sizes, answer, named};
 use compare::{Agreement, LISTED, Run, absent, agreement, check, iceberg};
+use judge::Refusal;
 use oracle::Verdict;
 
 const SEED: u64 = 7;
@@ -44,7 +45,7 @@ fn a_run_that_says_too_little_is_told() {
         short.iter().any(|why| why.contains("accepted trees of more than 900 records, not 500"))
     );
     if iceberg().is_some() {
-        assert!(short.contains(&"never departure: An identifier's id handed out again".into()));
+        assert!(short.contains(&"never departure: only 26 letters fold".into()), "{short:?}");
     }
 }
 
@@ -92,6 +93,45 @@ fn a_word_that_differs_is_told() {
         assert_eq!(agreed == Agreement::Differ, says, "{title}: {said:?}");
         let right = agreement(&case, &answer(&case), &said);
         assert!(right != Agreement::Differ, "{title}");
+    }
+}
+
+/// 9 of the base is not 9 of the rebuilt tree, though number, list and place are the same.
+#[test]
+fn a_9_of_the_other_tree_is_told() {
+    let Some(iceberg) = iceberg() else { return };
+    let (mut bases, mut others) = (0, 0);
+    for Named { title, case, .. } in named() {
+        let paper = answer(&case);
+        let Verdict::Refused { number: 9, place, base, text } = iceberg.verdict(&case) else {
+            continue;
+        };
+        if case.update_call().is_none() || paper.refusal().is_none_or(|r| r.number != 9) {
+            continue;
+        }
+        let said = |base| Verdict::Refused { number: 9, place, base, text: text.clone() };
+        assert_eq!(agreement(&case, &paper, &said(base)), Agreement::Same, "{title}");
+        assert_eq!(agreement(&case, &paper, &said(!base)), Agreement::Differ, "{title}");
+        if base { bases += 1 } else { others += 1 }
+    }
+    assert!(bases > 20 && others > 10, "{bases} and {others}");
+}
+
+/// A base that the builder turns down for its identifiers must be turned down here, and one that
+/// it takes must be taken.
+#[test]
+fn an_identifier_that_one_of_them_takes_is_told() {
+    let Some(iceberg) = iceberg() else { return };
+    for Named { title, case, .. } in named().into_iter().filter(|one| one.title.contains("4/13")) {
+        let (paper, said) = (answer(&case), iceberg.verdict(&case));
+        let wrong = match paper.refusal() {
+            None => Answer::Refused(Refusal::new(9, judge::IDENTIFIERS, 0)),
+            Some(refusal) if refusal.number == 9 => {
+                Answer::Updated { records: vec![], names: vec![], last_id: 0 }
+            }
+            _ => continue,
+        };
+        assert_eq!(agreement(&case, &wrong, &said), Agreement::Differ, "{title}");
     }
 }
 

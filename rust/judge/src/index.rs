@@ -3,6 +3,7 @@
 use std::collections::{HashMap, HashSet};
 
 use crate::answer::{BASE, IDENTIFIERS, Refusal, refuse};
+use crate::layout::{DOUBLE, FLOAT, PRIMITIVE, REQUIRED, STRUCT};
 use crate::tree::Tree;
 
 /// refusal 7: an id equals an earlier one.
@@ -18,10 +19,26 @@ pub fn refusal_8(tree: &Tree, list: u32) -> Result<(), Refusal> {
     refuse(8, list, (0..tree.rows.len()).find(again))
 }
 
-/// refusal 9: an identifier id is not in the tree.
+/// refusal 9: an identifier's id is not in the tree, or its column can't be one (02, 4/13).
 pub fn refusal_9(tree: &Tree, identifiers: &[i32]) -> Result<(), Refusal> {
-    let ids: HashSet<i32> = tree.rows.iter().map(|row| row.id).collect();
-    refuse(9, IDENTIFIERS, identifiers.iter().position(|id| !ids.contains(id)))
+    let fits = |id: &i32| slot_of(tree, *id).is_some_and(|slot| can_identify(tree, slot));
+    refuse(9, IDENTIFIERS, identifiers.iter().position(|id| !fits(id)))
+}
+
+/// A primitive, required, not float or double, with no list or map above it and every struct
+/// above it required.
+fn can_identify(tree: &Tree, slot: usize) -> bool {
+    let column = &tree.rows[slot];
+    let mut above = column.parent;
+    while let Some(up) = above {
+        let record = &tree.rows[up];
+        if record.kind != STRUCT || record.flags & REQUIRED == 0 {
+            return false;
+        }
+        above = record.parent;
+    }
+    let float = column.type_code == FLOAT || column.type_code == DOUBLE;
+    column.kind == PRIMITIVE && column.flags & REQUIRED != 0 && !float
 }
 
 /// The slot of an id.

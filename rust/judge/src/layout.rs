@@ -24,6 +24,11 @@ pub const REQUIRED: u8 = 1;
 /// Bit 1 of the flags: the column has an initial default.
 pub const DEFAULT: u8 = 2;
 
+/// Type code 5.
+pub const FLOAT: u32 = 5;
+/// Type code 6.
+pub const DOUBLE: u32 = 6;
+
 /// The 24 bytes of a record, as they stand.
 #[derive(Clone, Copy, Debug)]
 pub struct Record {

@@ -24,7 +24,7 @@ mod write;
 pub use answer::{ADDED, ADDITIONS, BASE, DELETIONS, IDENTIFIERS, LAST_REFUSAL, REBUILT};
 pub use answer::{Changed, Found, Refusal, Searched};
 pub use index::{Names, alike};
-pub use layout::{DEFAULT, LIST, MAP, PRIMITIVE, REQUIRED, STRUCT};
+pub use layout::{DEFAULT, DOUBLE, FLOAT, LIST, MAP, PRIMITIVE, REQUIRED, STRUCT};
 pub use layout::{ENTRY_BYTES, ID_BYTES, NO_SLOT, RECORD_BYTES};
 pub use limits::{
     LEVELS, MOST_ADDITIONS, MOST_ASKED, MOST_DELETIONS, MOST_IDENTIFIERS, MOST_RECORDS,

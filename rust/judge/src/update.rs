@@ -26,37 +26,37 @@ pub struct UpdateCall<'a> {
     pub request_pool: &'a [u8],
 }
 
-/// Whose rules an update goes by.
+/// What becomes of an addition beneath a dropped member.
 #[derive(Clone, Copy, PartialEq, Eq)]
-enum Rules {
-    /// 01's alone: an addition beneath a dropped member vanishes, and its ids stay consumed.
-    First,
-    /// 02's amendments among them: such an addition is refused (3/13).
-    Amended,
+enum Beneath {
+    /// It vanishes, and its ids stay consumed: 01.
+    Vanishes,
+    /// It is refused: 02, 3/13.
+    Refused,
 }
 
 /// The tree after the deletions and additions, and the last id consumed.
 pub fn update(call: &UpdateCall, out_records: &mut [u8], out_names: &mut [u8]) -> Changed {
-    update_by(Rules::Amended, call, out_records, out_names)
+    update_by(Beneath::Refused, call, out_records, out_names)
 }
 
-/// The same by 01 as it was before 02 amended it, which is what Rust does: without 22.
+/// The same as it was before 3/13, which is what Rust does: without 22.
 pub fn update_before_22(
     call: &UpdateCall,
     out_records: &mut [u8],
     out_names: &mut [u8],
 ) -> Changed {
-    update_by(Rules::First, call, out_records, out_names)
+    update_by(Beneath::Vanishes, call, out_records, out_names)
 }
 
 fn update_by(
-    rules: Rules,
+    beneath: Beneath,
     call: &UpdateCall,
     out_records: &mut [u8],
     out_names: &mut [u8],
 ) -> Changed {
     let sizes = [(out_records.len(), OUT_RECORDS), (out_names.len(), OUT_NAMES)];
-    match refusal_1(&sizes).and_then(|()| call.updated(rules)) {
+    match refusal_1(&sizes).and_then(|()| call.updated(beneath)) {
         Err(refusal) => refusal.into(),
         Ok((tree, last_id)) => write(&tree, last_id, out_records, out_names),
     }
@@ -96,7 +96,7 @@ impl<'a> UpdateCall<'a> {
     /// The order of 01: 2 for everything; base 3 to 6; additions tree 3 to 6; deletion
     /// entries 3, 4; addition entries 3, 4; base 7 to 9; 10; deletions one at a time;
     /// additions one at a time; 19; rebuilt tree 7 to 9.
-    fn updated(&self, rules: Rules) -> Result<(Tree, i32), Refusal> {
+    fn updated(&self, beneath: Beneath) -> Result<(Tree, i32), Refusal> {
         self.limits()?;
         let base = read_tree(self.records, self.pool, BASE)?;
         let added = read_tree(self.added_records, self.request_pool, ADDED)?;
@@ -110,7 +110,7 @@ impl<'a> UpdateCall<'a> {
         let names = Names::of(&base);
         let dropped = dropped(&base, &names, &identifiers, &deletions)?;
         let last_id = self.last_id;
-        let mut plan = Plan { rules, base: &base, names, dropped, last_id, placed: vec![] };
+        let mut plan = Plan { beneath, base: &base, names, dropped, last_id, placed: vec![] };
         for (place, (path, column)) in additions.iter().zip(added.nodes()).enumerate() {
             plan.add(place, path.as_deref(), column)?;
         }
@@ -214,7 +214,7 @@ fn refusal_19(tree: &Tree) -> Result<(), Refusal> {
 
 /// What will stand in the rebuilt tree.
 struct Plan<'a> {
-    rules: Rules,
+    beneath: Beneath,
     base: &'a Tree,
     names: Names,
     dropped: HashSet<i32>,
@@ -234,7 +234,7 @@ impl Plan<'_> {
             Some(path) => {
                 let parent = refusal_15(self.names.find(path), place)?;
                 let receiver = refusal_16(self.base, parent, place)?;
-                if self.rules == Rules::Amended {
+                if self.beneath == Beneath::Refused {
                     self.refusal_22(receiver, place)?;
                 }
                 Some(receiver)

@@ -1,12 +1,13 @@
 //! 01's records and pool, and the two directions between them and the crate's fields. It
 //! reads and writes bytes by itself, so that a slip of the second judge shows.
 //!
-//! A type code c is `Fixed(c)`. Attribute 0 is no doc, n is the doc "n". The default flag is
-//! some default. So every record can be told again from its field.
+//! Type code 5 is `Float`, 6 is `Double`, and any other code c is `Fixed(c)`. Attribute 0 is no
+//! doc, n is the doc "n". The default flag is some default. So every record can be told again from
+//! its field.
 
 use std::sync::Arc;
 
-use judge::{DEFAULT, LIST, MAP, Node, PRIMITIVE, RECORD_BYTES, REQUIRED, STRUCT};
+use judge::{DEFAULT, DOUBLE, FLOAT, LIST, MAP, Node, PRIMITIVE, RECORD_BYTES, REQUIRED, STRUCT};
 
 use crate::spec::{
     ListType, Literal, MapType, NestedField, NestedFieldRef, PrimitiveType, StructType, Type,
@@ -91,10 +92,29 @@ pub fn fields(nodes: &[Node]) -> Result<Vec<NestedFieldRef>, Unfit> {
     nodes.iter().map(field).collect()
 }
 
+/// The crate's type for a type code; those that an identifier must not have are the crate's own.
+fn primitive(code: u32) -> PrimitiveType {
+    match code {
+        FLOAT => PrimitiveType::Float,
+        DOUBLE => PrimitiveType::Double,
+        other => PrimitiveType::Fixed(other.into()),
+    }
+}
+
+/// The type code of a type that [`primitive`] gives.
+fn code_of(given: &PrimitiveType) -> u32 {
+    match given {
+        PrimitiveType::Float => FLOAT,
+        PrimitiveType::Double => DOUBLE,
+        PrimitiveType::Fixed(length) if primitive(*length as u32) == *given => *length as u32,
+        other => panic!("no such type was given: {other}"),
+    }
+}
+
 /// The crate's field for a node.
 pub fn field(n: &Node) -> Result<NestedFieldRef, Unfit> {
     let field_type = match n.kind {
-        PRIMITIVE => Type::Primitive(PrimitiveType::Fixed(n.type_code.into())),
+        PRIMITIVE => Type::Primitive(primitive(n.type_code)),
         STRUCT => Type::Struct(StructType::new(fields(&n.inside)?)),
         LIST => Type::List(ListType { element_field: field(&n.inside[0])? }),
         _ => Type::Map(MapType {
@@ -120,8 +140,7 @@ pub fn nodes_of(fields: &[NestedFieldRef]) -> Vec<Node> {
 
 fn node_of(f: &NestedField) -> Node {
     let (kind, type_code, inside) = match f.field_type.as_ref() {
-        Type::Primitive(PrimitiveType::Fixed(code)) => (PRIMITIVE, *code as u32, vec![]),
-        Type::Primitive(other) => panic!("no such type was given: {other}"),
+        Type::Primitive(primitive) => (PRIMITIVE, code_of(primitive), vec![]),
         Type::Struct(s) => (STRUCT, 0, nodes_of(s.fields())),
         Type::List(l) => (LIST, 0, vec![node_of(&l.element_field)]),
         Type::Map(m) => (MAP, 0, vec![node_of(&m.key_field), node_of(&m.value_field)]),

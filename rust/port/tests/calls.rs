@@ -7,6 +7,7 @@ use cases::{
     Ask, ByJudge, Case, Generator, Sizes, answer, ask_of, ids_by, list_of, lists, outcome, packed,
     prim, prune_by, renumber_by, strukt, the_tree, update_of,
 };
+use judge::{DEFAULT, Node, REQUIRED};
 use port::{Guarded, absent, beside_paper};
 
 #[test]
@@ -20,6 +21,18 @@ fn fences_change_no_answer() {
     }
 }
 
+fn required(mut node: Node) -> Node {
+    node.flags |= REQUIRED;
+    node
+}
+
+/// T with a column that can be an identifier: `node` and `node.button` are required.
+fn keyed_t() -> Vec<Node> {
+    let mut t = the_tree();
+    t[0] = required(strukt(1, "node", vec![required(prim(4, "button")), prim(5, "cost")]));
+    t
+}
+
 /// Every entry on T: as the base of each, and as the additions tree of an update.
 fn asked_of_t() -> Vec<Case> {
     let base = || packed(&the_tree());
@@ -27,11 +40,11 @@ fn asked_of_t() -> Vec<Case> {
     let under = [strukt(20, "s", vec![prim(21, "m")])];
     let two = [(Some("visits"), prim(0, "hour")), (None, prim(0, "floor"))];
     vec![
-        update_of(&the_tree(), &[4], 10, &["node.cost"], &two),
+        update_of(&keyed_t(), &[4], 10, &["node.cost"], &two),
         update_of(&under, &[], 21, &["s.m"], &[(None, node), (Some("s"), visits), (None, parts)]),
         prune_by(base(), &[7, 9], false),
         prune_by(base(), &[2, 4], true),
-        renumber_by(base(), &[4, 10], 1),
+        renumber_by(packed(&keyed_t()), &[4, 4], 1),
         ask_of(base(), Ask::Name(b"visits.day".to_vec())),
         ask_of(base(), Ask::Folded(b"Visits.DAY".to_vec())),
         ask_of(base(), Ask::Id(7)),
@@ -66,7 +79,7 @@ fn one_byte_makes_two_columns_match() {
 /// Ids that share their low bits, and of which a byte can make two equal.
 fn nearly_equal() -> Vec<Case> {
     let ids = [1 << 10, 1 << 22, 1 << 31, 3 << 30, 0];
-    let base = packed(&ids.map(|id: i32| prim(id, &format!("{id}"))));
+    let base = packed(&ids.map(|id: i32| required(prim(id, &format!("{id}")))));
     vec![ids_by(base.clone(), &ids), ask_of(base.clone(), Ask::Id(0)), renumber_by(base, &[0], 1)]
 }
 
@@ -99,6 +112,43 @@ fn one_byte_makes_a_parent_go() {
     }
 }
 
+/// Identifiers of which a byte can break a condition: of a column or of what is above it, in a base
+/// and in a rebuilt tree, where an id is given again beneath two structs.
+fn nearly_broken() -> Vec<Case> {
+    let node = required(strukt(1, "n", vec![required(prim(9, "i"))]));
+    let held = required(strukt(2, "s", vec![required(strukt(3, "t", vec![]))]));
+    let mut column = required(prim(0, "x"));
+    column.flags |= DEFAULT;
+    let base = [node, held, required(prim(4, "j"))];
+    let again = [(Some("s.t"), column)];
+    vec![update_of(&base, &[4, 9], 8, &["n"], &again), renumber_by(packed(&base), &[9, 4], 1)]
+}
+
+#[test]
+fn one_byte_breaks_a_condition_of_an_identifier() {
+    let [update, renumbering] = nearly_broken().try_into().expect("two cases");
+    let nine = |case: &Case| answer(case).refusal().map(|r| (r.number, r.list, r.place));
+    // a byte of a record, its value, and the place: `s` and `t` stand above the new column alone
+    for (slot, byte, value, place) in
+        [(2, 10, 0, 1), (3, 10, 2, 1), (4, 10, 0, 0), (4, 16, 5, 0), (4, 9, 1, 0), (0, 10, 0, 1)]
+    {
+        let mut case = update.clone();
+        case.records[slot * 24 + byte] = value;
+        assert_eq!(nine(&case), Some((9, 5, place)), "byte {byte} of slot {slot}");
+    }
+    for (byte, value) in [(10, 2), (16, 5), (16, 6), (9, 1)] {
+        let mut case = update.clone();
+        let Ask::Update { added_records, .. } = &mut case.ask else { panic!("an update") };
+        added_records[byte] = value;
+        assert_eq!(nine(&case), Some((9, 5, 1)), "byte {byte} of the new column");
+    }
+    for (slot, byte, value, place) in [(0, 10, 2, 0), (1, 10, 0, 0), (1, 16, 6, 0), (4, 10, 0, 1)] {
+        let mut case = renumbering.clone();
+        case.records[slot * 24 + byte] = value;
+        assert_eq!(nine(&case), Some((9, 5, place)), "byte {byte} of slot {slot}");
+    }
+}
+
 /// Each byte of each list through all values, and each list cut after each byte.
 fn damaged_everywhere(case: &Case) {
     for at in 0..lists(&mut case.clone()).len() {
@@ -124,7 +174,8 @@ fn trees_damaged_in_every_byte_get_the_texts_answer_from_every_entry() {
         println!("T was not put to the port: {why}");
         return;
     }
-    let cases = [asked_of_t(), nearly_ambiguous(), nearly_equal(), vec![nearly_gone()]].concat();
+    let nearly = [nearly_ambiguous(), nearly_equal(), vec![nearly_gone()], nearly_broken()];
+    let cases = [asked_of_t(), nearly.concat()].concat();
     let next = AtomicUsize::new(0);
     let threads = std::thread::available_parallelism().map_or(1, usize::from);
     std::thread::scope(|scope| {

@@ -22,7 +22,7 @@ fn ids_again(all: &mut Cases) {
     let case = update(&[p(5, "a")], -2, &[], &[(None, p(0, "u")), (None, p(0, "v"))]);
     all.put("-1 and 0 are handed out", case, last(&[5, -1, 0], 0));
     let base = [p(1, "a"), required(s(2, "s", vec![required(p(3, "i"))]))];
-    let nested = required(with_default(s(0, "n", vec![p(0, "x")])));
+    let nested = required(with_default(s(0, "n", vec![required(p(0, "x"))])));
     let case = update_of(&base, &[3], 1, &["s"], &[(None, nested)]);
     all.put("an identifier's id handed out inside an added struct", case, last(&[1, 2, 3], 3));
     let case = update(&t, i32::MAX, &["node"], &[]);

@@ -4,6 +4,7 @@ mod dropped;
 mod faults;
 mod folded;
 mod found;
+mod identifiers;
 mod ids;
 mod limits;
 mod readings;
@@ -76,8 +77,8 @@ impl Expected {
 }
 
 /// Every named case: the worked tree, the readings, the limits, faults two at a time, what
-/// iceberg's own code decided, the look-up that forgets case, that of many ids, and additions
-/// beneath what is dropped.
+/// iceberg's own code decided, the look-up that forgets case, that of many ids, additions beneath
+/// what is dropped, and the columns that can be identifiers.
 pub fn named() -> Vec<Named> {
     let mut all = Cases(vec![]);
     worked::put(&mut all);
@@ -88,6 +89,7 @@ pub fn named() -> Vec<Named> {
     folded::put(&mut all);
     ids::put(&mut all);
     dropped::put(&mut all);
+    identifiers::put(&mut all);
     all.0
 }
 

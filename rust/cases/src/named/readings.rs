@@ -1,5 +1,6 @@
 //! Points where 01's text admits more than one reading, by number, each with the reading taken.
 
+use super::identifiers::keyed;
 use super::*;
 use crate::build::{entry, the_tree};
 
@@ -213,25 +214,21 @@ fn ids_and_names(all: &mut Cases) {
         update(&t, 1, &[], &under),
         refused(7, 4, 4),
     );
-    let gone = update_of(&t, &[1, 7], 10, &["visits"], &[]);
+    let gone = update_of(&keyed(), &[2, 5], 10, &["node"], &[]);
     all.put("reading 28: 9 of a rebuilt tree has list 5", gone, refused(9, 5, 1));
     let base = [required(s(1, "node", vec![required(p(5, "cost"))])), p(2, "z")];
     let gone = update_of(&base, &[5], 5, &["node"], &[]);
     all.put("9 on a rebuilt tree", gone, refused(9, 5, 0));
     let again = |x: Node| update_of(&base, &[5], 4, &["node"], &[(None, x)]);
-    all.put("reading 29: an identifier's id handed out again", again(p(0, "x")), last(&[2, 5], 5));
+    all.put("reading 29: an identifier's id handed out again", again(p(0, "x")), refused(9, 5, 0));
     let fits = required(with_default(p(0, "x")));
-    all.put(
-        "reading 29: handed out to a column that the builder takes",
-        again(fits),
-        last(&[2, 5], 5),
-    );
+    all.put("reading 29: handed out to a column that can be one", again(fits), last(&[2, 5], 5));
     all.put(
         "reading 30: the last id may be below every id",
         update(&t, 3, &[], &[]),
         last(&[1, 4, 5, 2, 6, 7, 3, 8, 9, 10], 3),
     );
-    all.put("9 of a base", renumber(&t, &[1, 11, 12], 1), refused(9, 5, 1));
+    all.put("9 of a base", renumber(&keyed(), &[2, 11, 12], 1), refused(9, 5, 1));
     all.put("7 of a base", id(&[p(1, "a"), p(2, "b"), p(1, "c"), p(2, "d")], 1), refused(7, 0, 2));
 }
 
