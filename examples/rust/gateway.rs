@@ -7,8 +7,8 @@ use std::{env, fs, process};
 use braidhurdle::files::{Over, Stored};
 use braidhurdle::{Field, FieldId, Mode, RefusalKind, Request, Tree, Updated};
 
-/// Type codes are the host's own, here those of all examples; the library looks at none but 5 and 6,
-/// which no identifier may have.
+/// Type codes are the host's own, here those of all examples; the library looks at none but 5 and
+/// 6, which no identifier may have.
 const INT: u32 = 2;
 const DATE: u32 = 4;
 

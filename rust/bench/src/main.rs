@@ -1,8 +1,9 @@
 //! The benchmark: for each schema, size and operation the port's time, the time of iceberg's
 //! own code from the same bytes (build and operation), how many times the port is faster, and
 //! a plain copy of the same bytes. Then the same for trees that are built to be bad, for the
-//! index, for the look-up that forgets case, for additions and for identifiers far down; searches by
-//! id beside a linear scan; the stack that each entry uses. Words behind the command choose parts of that.
+//! index, for the look-up that forgets case, for additions and for identifiers far down; searches
+//! by id beside a linear scan; the stack that each entry uses. Words behind the command choose
+//! parts of that.
 
 use std::hint::black_box;
 use std::process::ExitCode;

@@ -180,9 +180,10 @@ fn check() -> Command {
         .arg(path("IN", "The tree to check: IN.rec, IN.names and IN.last"))
         .arg(some(many("identifiers", "ID|PATH,..", "Identifiers, to be checked with the tree")))
         .after_help(
-            "An identifier is a required primitive, no float (type code 5) and no double (6), with\n\
-             nothing above it but required structs; else it is refused (9), here, by renumber and\n\
-             by update, and the reasons are told. Prints id, slot and full name of each.\n\n\
+            "An identifier is a required primitive, no float (type code 5) and no double (6),\n\
+             with nothing above it but required structs; else it is refused (9), here, by\n\
+             renumber and by update, and the reasons are told. Prints id, slot and full name of\n\
+             each.\n\n\
              A last id below an id of the tree is a fault of the files: status 3.\n\n\
              Example:\n  braid check examples/T\n  \
              braid check examples/node-4 --identifiers node.serial",
@@ -258,7 +259,8 @@ fn renumber() -> Command {
         .after_help(
             "Prints the last id that was given, and the identifiers' new ids. The old ids mean\n\
              nothing any more, so the last id begins anew too: OUT.last has the one printed.\n\n\
-             Example:\n  braid renumber examples/node-4 --from 100 --identifiers node.serial --out fresh",
+             Example:\n  \
+             braid renumber examples/node-4 --from 100 --identifiers node.serial --out fresh",
         )
 }
 

@@ -256,8 +256,8 @@ fn a_file_without_end_is_refused_too() {
 const NINE: &str = "an identifier id is not in the tree; or its column, or what stands above that, \
                     breaks a condition";
 
-/// The identifiers of a tree of this picture are refused at a place with these words, by a check, by
-/// a renumbering and by an update.
+/// The identifiers of a tree of this picture are refused at a place with these words, by a check,
+/// by a renumbering and by an update.
 #[track_caller]
 fn no_identifier(picture: &str, identifiers: &str, place: usize, words: &str) {
     let folder = Folder::new();
@@ -435,8 +435,8 @@ fn a_deletion_is_told_with_its_path_and_what_it_finds_or_may_have_meant() {
         refused(
             &folder,
             &format!("update K --identifiers 4,2 --drop node.cost {serial} --out U"),
-            "12 at 2 1: a deletion finds an identifier: deletion 1, path \"node.serial\": id 2 slot \
-             1 node.serial, which is identifier 1",
+            "12 at 2 1: a deletion finds an identifier: deletion 1, path \"node.serial\": id 2 \
+             slot 1 node.serial, which is identifier 1",
         );
     }
 }
