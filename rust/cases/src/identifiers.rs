@@ -137,7 +137,7 @@ fn parted(random: &mut Random, above: usize, wrong: Option<Broken>) -> (Node, Op
     }
     let mut receiver = strukt(RECEIVER, "", vec![]);
     receiver.name = name(random);
-    if random.chance(1, 2) && cut > 0 {
+    if random.chance(1, 2) {
         receiver.inside.push(sibling(random));
     }
     if wrong != Some(Broken::UnderOptional(cut)) {

@@ -320,11 +320,12 @@ fn renumbered_over(
 /// 02, 4/13: each condition passed over, near, far, or in one of the trees alone.
 #[test]
 fn identifiers_that_are_wrongly_let_through_are_found() {
-    // a function without a name has nothing but its arguments, so each rule is one of a list
+    // what captures a rule is no plain function, so each rule makes two of its own
     macro_rules! found {
         ($($what:literal, $over:expr;)*) => {$(
             let updated: Updated = |call, r, n| updated_over(call, r, n, $over);
-            let renumbered: Renumbered = |lent, start, out| renumbered_over(lent, start, out, $over);
+            let renumbered: Renumbered =
+                |lent, start, out| renumbered_over(lent, start, out, $over);
             let rebuilt = $what.contains("rebuilt");
             let renumbering = $what.contains("renumbering");
             let fails = failures(Altered { updated, ..right() });
