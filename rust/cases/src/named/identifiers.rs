@@ -2,6 +2,7 @@
 
 use super::*;
 use crate::build::id_bytes;
+use crate::shapes::ids_in;
 use judge::{DOUBLE, FLOAT};
 
 pub fn put(all: &mut Cases) {
@@ -48,9 +49,10 @@ fn breaks_at(all: &mut Cases, title: &str, place: u32, base: &[Node], identifier
 
 /// Accepted by an update that changes nothing, and by a renumbering.
 fn accepts(all: &mut Cases, title: &str, base: &[Node], identifiers: &[i32]) {
-    let count = packed(base).0.len() / judge::RECORD_BYTES;
-    all.put(title, update_of(base, identifiers, 10, &[], &[]), Expected::Count(count));
-    all.put(title, renumber(base, identifiers, 1), Expected::Count(count));
+    let known = ids_in(&packed(base).0);
+    let as_it_was = Expected::Last(known.clone(), 10);
+    all.put(title, update_of(base, identifiers, 10, &[], &[]), as_it_was);
+    all.put(title, renumber(base, identifiers, 1), Expected::Count(known.len()));
 }
 
 fn of_the_column(all: &mut Cases) {
