@@ -17,8 +17,8 @@ use Rattle.paper.specs.Rows.{Row, Start, top, below, beside, row, rows, dotted,
 use Rattle.paper.specs.Sound.{names, ids}
 use Rattle.laws.proofs.Finding.{eqb-flip}
 use Rattle.laws.proofs.Preorder.{size-mapped}
-use Rattle.laws.proofs.Runs.{from-append, map-append}
-use Rattle.laws.proofs.Ordered.{row-fulls}
+use Rattle.laws.proofs.Runs.{from-append}
+use Rattle.laws.proofs.Ordered.{row-ids, row-fulls}
 use Rattle.record.specs.Trees.{Trees}
 use Rattle.plan.specs.Named.{name-in}
 use Rattle.plan.specs.Plan.{kids-in, plan-fields, Plan}
@@ -45,14 +45,6 @@ module _ (fld : ℕ → Field) where
   unfolding names mapped fulls
   names-are name empty pre h = refl
   names-are name (node j f t) pre h = rw (h j, names-are name f (dotted pre (name j)) h, names-are name t pre h)
-
-  row-ids : (f : Forest ℕ) (s : Start) → map (λ (r : Row). r .field .id) (rows s (mapped fld f)) ≡ ids (mapped fld f)
-  unfolding rows ids mapped
-  row-ids empty s = refl
-  row-ids (node j f g) s =
-      ap (λ (z : List ℕ). fld j .id ∷ z)
-      (map-append (λ (r : Row). r .field .id) (rows (below s (fld j)) (mapped fld f)) (rows (beside s (mapped fld f)) (mapped fld g))
-      ∙ rw (row-ids f (below s (fld j)), row-ids g (beside s (mapped fld f))))
 
   length-rows : (f : Forest ℕ) (s : Start) → length (rows s (mapped fld f)) ≡ size f
   unfolding rows mapped size
@@ -117,7 +109,7 @@ module _ (fld : ℕ → Field) where
 
     module _ (f : Forest ℕ) (nd : Numbered 0 f) (c : Climbs us 0 f) where
       id-rel : (t : ℕ → Bool) → Rel (find (λ r. t (r .field .id)) (rows top (mapped fld f))) (place-of t 0 (ids (mapped fld f)))
-      id-rel t = rw (← (row-ids f top)) (find-runs t (λ r. r .field .id) (runs f top 0 nd c at-top))
+      id-rel t = rw (← (row-ids top (mapped fld f))) (find-runs t (λ r. r .field .id) (runs f top 0 nd c at-top))
 
       full-rel : (t : List ℕ → Bool) → Rel (find (λ r. t (r .full)) (rows top (mapped fld f))) (place-of t 0 (names [] (mapped fld f)))
       full-rel t = rw (← (row-fulls top (mapped fld f))) (find-runs t (λ r. r .full) (runs f top 0 nd c at-top))

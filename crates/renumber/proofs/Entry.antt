@@ -44,7 +44,7 @@ use Rattle.plan.specs.Table.{sources, numbers, members, PlanIn, fields-in}
 use Rattle.plan.proofs.Standing.{plan-is, fields-size}
 use Rattle.index_ids.specs.Ids.{ids-in}
 use Rattle.index.specs.Index.{Readable, BaseIndexed}
-use Rattle.index.proofs.Looking.{ids-in-order}
+use Rattle.index_names.proofs.Rows.{ids-in-order}
 use Rattle.renumber_id_reassigner.specs.declared.Reassigned.{Reassigned}
 use Rattle.renumber_id_reassigner.specs.Numbers.{Room, Given}
 use Rattle.renumber_identifiers.specs.Mapped.{Mappable, mapped-bytes, Mapped}
@@ -165,8 +165,14 @@ module _ (records pool identifiers : List ℕ) (lr ln li : ℕ) where
               let q : ltb highest (turned start + size tree) ≡ true = lt-ltb highest (turned start + size tree) (omega arith) in
               refuses (entry start) (refusal-of 18 0 0) (for-records out-r ∷ for-names out-n ∷ for-identifiers out-i ∷ []) (entry-is start ∙ rw (is-sound, q))
 
+          planned-ids : (table : List (List ℕ)) → PlanIn (alone records pool) table (slots records)
+              → ids (fields-in (alone records pool) table (slots records)) ≡ ids-in (numbers table) (slots records)
+          planned-ids table h =
+              ap ids (plan-is (alone records pool) _ _ _ _ h)
+              ∙ ids-in-order (alone records pool) (sources table) (numbers table) (members table) (slots records)
+
           ids-are : ids tree ≡ ids-in (numbers plan) (slots records)
-          ids-are = ap ids (plan-is (alone records pool) _ _ _ _ (b .planned)) ∙ ids-in-order (alone records pool) _ _ _ _ (b .planned)
+          ids-are = planned-ids plan (b .planned)
 
           pub mappable : (out : List ℕ) → li ≡ length out → Mappable identifiers (numbers plan) index (slots records) out
           mappable out e =
@@ -201,7 +207,7 @@ module _ (records pool identifiers : List ℕ) (lr ln li : ℕ) where
 
                 new-ids-are : ids new-tree ≡ ids-in new (slots records)
                 new-ids-are =
-                    sym (ap ids new-tree-is) ∙ ap ids (plan-is (alone records pool) _ _ _ _ planned) ∙ ids-in-order (alone records pool) _ _ _ _ planned
+                    sym (ap ids new-tree-is) ∙ planned-ids (set plan 1 new) planned
                     ∙ ap (λ (is : List ℕ). ids-in is (slots records)) (getD-set-same plan 1 new [] (let a = b .roomy .rows in omega arith))
 
                 pub done : (start : ℕ) (out-identifiers identifiers′ : List ℕ) → first ≡ turned start → Mapped identifiers (numbers plan) new (slots records) out-identifiers identifiers′
