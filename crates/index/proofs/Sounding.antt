@@ -9,7 +9,7 @@ use lib.Dec.{eqb}
 use Rattle.paper.specs.Answer.{Answer, _>>=_, fault, place-of, repeated, same}
 use Rattle.paper.specs.Lists.{id-list}
 use Rattle.paper.specs.Rows.{look-id}
-use Rattle.paper.specs.Sound.{ids, names, identifies, sound}
+use Rattle.paper.specs.Sound.{identifies, sound}
 use Rattle.record.specs.declared.Refusal.{Refusal}
 use Rattle.record.specs.declared.Check.{Check}
 use Rattle.record.specs.declared.Check.the-variants.{Fine, Refused}
@@ -18,7 +18,7 @@ use Rattle.record.proofs.Testing.{tested-fault, chain-goes, chain-stops}
 use Rattle.record.specs.Trees.{Trees}
 use Rattle.plan.specs.Plan.{kids-in}
 use Rattle.plan.specs.Table.{sources, numbers, members, PlanIn, fields-in}
-use Rattle.plan.proofs.Standing.{plan-is, plan-sources}
+use Rattle.plan.proofs.Standing.{plan-sources}
 use Rattle.index_ids.specs.Ids.{ids-in, rule-7}
 use Rattle.index_ids.specs.Table.{row, ups-in, lens-in, tags-in, Rooms}
 use Rattle.index_ids.specs.Path.{IdsChained, IndexedIn}
@@ -32,7 +32,7 @@ use Rattle.index_names.specs.Told.{Raised, Spelt, Tagged, rule-8}
 use Rattle.plan.specs.Named.{names-in, SourcesIn}
 use Rattle.plan.specs.Walk.{walk-in}
 use Rattle.index_names.specs.Table.{MarkedIn, UnequalIn}
-use Rattle.index_names.proofs.Rows.{ids-in-order, names-in-order}
+use Rattle.index_names.proofs.Rows.{plan-ids, plan-names}
 use Rattle.index_names.proofs.Telling.{ups-told, names-told, tags-told, fulls-are}
 use Rattle.index.specs.Index.{NamesIndexed, Indexing}
 
@@ -79,8 +79,7 @@ module _ (l : Trees) (plan : List (List ℕ)) (m list : ℕ) (identifiers : List
       let xs = sources plan in
       let is = numbers plan in
       let ks = members plan in
-      let e = plan-is l xs is ks m p in
-      rw (ap ids e ∙ ids-in-order l xs is ks m, ap (names []) e ∙ names-in-order l xs is ks m)
+      rw (plan-ids l xs is ks m p, plan-names l xs is ks m p)
 
   module _ (a : Check) (old mid : List (List ℕ)) (R : Rooms old) (ea : IndexedIn (numbers plan) m list a old mid) where
     pub ids-rooms : Rooms mid

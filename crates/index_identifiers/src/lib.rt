@@ -116,7 +116,7 @@ fn identifies<'a>(trees: &Trees<'a>, plan: &PlanRows, m: usize, index: &IndexRow
     held(trees, plan, m, index, k)
 }
 
-// Refusal 9: the lowest identifier that finds no such column.
+// Refusal 9: the lowest identifier that finds no column that may identify.
 pub fn check_identifiers<'a>(
     trees: &Trees<'a>,
     identifiers: &[u8],

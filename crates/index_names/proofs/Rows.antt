@@ -127,11 +127,18 @@ module _ (l : Trees) (xs is ks : List ℕ) (m : ℕ) where
   abbrev places : Forest ℕ
   places = trees-of (kids-in ks) m
 
-  pub ids-in-order : ids (mapped (field-in l xs is) (trees-of (kids-in ks) m)) ≡ from (id-in is) 0 m
+  ids-in-order : ids (mapped fld places) ≡ from (id-in is) 0 m
   ids-in-order = ids-are fld (id-in is) places 0 (field-id l xs is) (all-numbered (kids-in ks) m) ∙ ap (from (id-in is) 0) (all-there (kids-in ks) m)
 
-  pub names-in-order : names [] (mapped (field-in l xs is) (trees-of (kids-in ks) m)) ≡ fulls (name-in l xs) [] (trees-of (kids-in ks) m)
+  names-in-order : names [] (mapped fld places) ≡ fulls (name-in l xs) [] places
   names-in-order = names-are fld (name-in l xs) places [] (field-name l xs is)
+
+  module _ (p : Plan l xs is ks m) where
+    pub plan-ids : ids (plan-fields l xs is ks m) ≡ from (id-in is) 0 m
+    plan-ids = ap ids (plan-is l xs is ks m p) ∙ ids-in-order
+
+    pub plan-names : names [] (plan-fields l xs is ks m) ≡ fulls (name-in l xs) [] (trees-of (kids-in ks) m)
+    plan-names = ap (names []) (plan-is l xs is ks m p) ∙ names-in-order
 
   module _ (p : Plan l xs is ks m) (us : List ℕ) (c : Climbs us 0 (trees-of (kids-in ks) m)) where
     -- What an id finds is at the lowest slot that has it.

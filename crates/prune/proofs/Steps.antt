@@ -45,11 +45,11 @@ use Rattle.tree.proofs.Deciding.{decode-ok, decode-refused}
 use Rattle.tree_walk.specs.There.{row-of}
 use Rattle.tree_walk.proofs.Opening as standing
 use Rattle.plan.specs.Sources.{id-bits, Written}
-use Rattle.plan.specs.Table.{sources, numbers, members, Roomy, PlanIn, fields-in, TakenIn}
-use Rattle.plan.proofs.Standing.{plan-is, fields-size}
+use Rattle.plan.specs.Table.{numbers, Roomy, PlanIn, fields-in, TakenIn}
+use Rattle.plan.proofs.Standing.{fields-size}
 use Rattle.index_ids.specs.Ids.{ids-in}
 use Rattle.index.specs.Index.{Readable, BaseIndexed}
-use Rattle.index_names.proofs.Rows.{ids-in-order}
+use Rattle.index_names.proofs.Rows.{plan-ids}
 use Rattle.prune_columns.specs.declared.Step.{Step}
 use Rattle.prune_columns.specs.Split.{first-direct}
 use Rattle.prune_columns.specs.Projected.{marked, Checked, Row, Kept}
@@ -211,7 +211,7 @@ module _ {s p sel : List ℕ} {lr ln c : ℕ} (h : Passed s p sel lr ln c) where
       distinct : repeated eqb [] 0 (ids-in (numbers plan) (slots s)) ≡ none
       unfolding sound
       distinct =
-          let e = ap ids (plan-is (alone s p) _ _ _ _ (b .planned)) ∙ ids-in-order (alone s p) (sources plan) (numbers plan) (members plan) (slots s) in
+          let e = plan-ids (alone s p) _ _ _ _ (b .planned) in
           unbind _ _ was-sound λ _ e₁ _. rw (← e, base-is) (fault-ok 7 0 (repeated eqb [] 0 (ids (base s p c))) e₁)
 
       pub test-goes : Tested s c plan index

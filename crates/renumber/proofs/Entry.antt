@@ -20,8 +20,8 @@ use Rattle.paper.specs.Renumber.{numbered, renamed, renumber}
 use Rattle.paper.specs.Sound.{ids, sound}
 use Rattle.paper.specs.Entries.{Result, renumber-entry}
 use Rattle.paper.specs.Outcome.{for-records, for-names, for-identifiers, leaves, Answers}
-use Rattle.laws.proofs.Identified.{sound-known}
 use Rattle.laws.proofs.Basics.{unbind, ok-is, bind-not, passed}
+use Rattle.laws.proofs.Identified.{sound-known}
 use Rattle.laws.proofs.RoundTrip.{both, length-pool}
 use Rattle.laws.proofs.Fitting.{sized-slots, ids-sized, rooms-of}
 use Rattle.record.specs.declared.Refusal.{Refusal}
@@ -41,10 +41,10 @@ use Rattle.tree_walk.proofs.Opening as walk
 use Rattle.plan.specs.Plan.{Plan, plan-fields}
 use Rattle.plan.specs.Sources.{Written}
 use Rattle.plan.specs.Table.{sources, numbers, members, PlanIn, fields-in}
-use Rattle.plan.proofs.Standing.{plan-is, fields-size}
+use Rattle.plan.proofs.Standing.{fields-size}
 use Rattle.index_ids.specs.Ids.{ids-in}
 use Rattle.index.specs.Index.{Readable, BaseIndexed}
-use Rattle.index_names.proofs.Rows.{ids-in-order}
+use Rattle.index_names.proofs.Rows.{plan-ids}
 use Rattle.renumber_id_reassigner.specs.declared.Reassigned.{Reassigned}
 use Rattle.renumber_id_reassigner.specs.Numbers.{Room, Given}
 use Rattle.renumber_identifiers.specs.Mapped.{Mappable, mapped-bytes, Mapped}
@@ -165,14 +165,8 @@ module _ (records pool identifiers : List ℕ) (lr ln li : ℕ) where
               let q : ltb highest (turned start + size tree) ≡ true = lt-ltb highest (turned start + size tree) (omega arith) in
               refuses (entry start) (refusal-of 18 0 0) (for-records out-r ∷ for-names out-n ∷ for-identifiers out-i ∷ []) (entry-is start ∙ rw (is-sound, q))
 
-          planned-ids : (table : List (List ℕ)) → PlanIn (alone records pool) table (slots records)
-              → ids (fields-in (alone records pool) table (slots records)) ≡ ids-in (numbers table) (slots records)
-          planned-ids table h =
-              ap ids (plan-is (alone records pool) _ _ _ _ h)
-              ∙ ids-in-order (alone records pool) (sources table) (numbers table) (members table) (slots records)
-
           ids-are : ids tree ≡ ids-in (numbers plan) (slots records)
-          ids-are = planned-ids plan (b .planned)
+          ids-are = plan-ids (alone records pool) _ _ _ _ (b .planned)
 
           pub mappable : (out : List ℕ) → li ≡ length out → Mappable identifiers (numbers plan) index (slots records) out
           mappable out e =
@@ -207,7 +201,7 @@ module _ (records pool identifiers : List ℕ) (lr ln li : ℕ) where
 
                 new-ids-are : ids new-tree ≡ ids-in new (slots records)
                 new-ids-are =
-                    sym (ap ids new-tree-is) ∙ planned-ids (set plan 1 new) planned
+                    sym (ap ids new-tree-is) ∙ plan-ids (alone records pool) _ _ _ _ planned
                     ∙ ap (λ (is : List ℕ). ids-in is (slots records)) (getD-set-same plan 1 new [] (let a = b .roomy .rows in omega arith))
 
                 pub done : (start : ℕ) (out-identifiers identifiers′ : List ℕ) → first ≡ turned start → Mapped identifiers (numbers plan) new (slots records) out-identifiers identifiers′
