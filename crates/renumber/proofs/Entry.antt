@@ -20,8 +20,8 @@ use Rattle.paper.specs.Renumber.{numbered, renamed, renumber}
 use Rattle.paper.specs.Sound.{ids, sound}
 use Rattle.paper.specs.Entries.{Result, renumber-entry}
 use Rattle.paper.specs.Outcome.{for-records, for-names, for-identifiers, leaves, Answers}
-use Rattle.laws.proofs.Identified.{sound-known}
 use Rattle.laws.proofs.Basics.{unbind, ok-is, bind-not, passed}
+use Rattle.laws.proofs.Identified.{sound-known}
 use Rattle.laws.proofs.RoundTrip.{both, length-pool}
 use Rattle.laws.proofs.Fitting.{sized-slots, ids-sized, rooms-of}
 use Rattle.record.specs.declared.Refusal.{Refusal}

@@ -1,9 +1,9 @@
 -- The promise speaks of something: whatever is stored and lent there are calls that do what the functions ensure,
--- and of the calls that begin with T the first two are accepted.
+-- and of the calls that begin with T, or with a tree that has identifiers, the first two are accepted.
 use Prim.Native.Nat.{ℕ}
 use mathlib.Core.Path.{_≡_, refl, sym}
 use mathlib.Core.List.{List}
-use mathlib.Core.Option.{some}
+use mathlib.Core.Option.{none, some}
 use native.Mathlib.Omega.{arith}
 use lib.IntN.{ℤ}
 use lib.ListN.{replicate}
@@ -49,7 +49,7 @@ calls-run f reads s requests b =
           (record { told = refl; left = refl }));
     }
 
--- ---- T
+-- ---- what is shown
 
 -- A reply that shows a tree is of an acceptance.
 pub shown-accepted : (a : Answer Result) (ids : List ℤ) (last : ℤ) → update-reply a ≡ updated ids last
@@ -57,3 +57,7 @@ pub shown-accepted : (a : Answer Result) (ids : List ℤ) (last : ℤ) → updat
 unfolding changes
 shown-accepted (ok r) ids last e = (_, refl)
 shown-accepted (refused n l p) ids last e = absurd (let z : _≡_ {A = ℕ} 0 1 = cc in omega arith)
+
+pub refused-shown : (a : Answer Result) {n l p : ℕ} → a ≡ refused n l p → of-update .sizes (of-update .says a) ≡ none
+unfolding changes
+refused-shown a e = rw e

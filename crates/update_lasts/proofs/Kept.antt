@@ -76,15 +76,15 @@ module _ {A : Type 0} (f : Contract A) (reads : Reads f) where
       ))
   keeps-next s (refused n l p) c t h = rw (h .told, reads (refused n l p) t)
 
-  pub calls-last : (at : ℕ → Stored) (calls : ℕ → Call A) → BeginsStored (at 0) → Calls f at calls
-      → LastingCalls f at calls
-  calls-last at calls b c =
+  pub calls-last : (identifiers : List ℕ) (at : ℕ → Stored) (calls : ℕ → Call A) → BeginsStored (at 0) identifiers
+      → Calls f at calls → LastingCalls f identifiers at calls
+  calls-last identifiers at calls b c =
       let requests : ℕ → Lent = λ i. calls i .lent in
       let told : (i : ℕ) → Told (update-entry (at i) (requests i)) = λ i. refusals-are-told .update _ _ in
       let follows : (i : ℕ) → at (suc i) ≡ next-stored (at i) (update-entry (at i) (requests i)) =
       λ i. c .stores i ∙ keeps-next (at i) _ (calls i) (told i) (c .ensures i) in
-      let l = subst (λ (g : ℕ → Stored). LastingStored g requests) (sym (fun-ext (is-run at requests follows)))
-      (runs-last-stored (at 0) b requests (c .bytes)) in
+      let l = subst (λ (g : ℕ → Stored). LastingStored identifiers g requests) (sym (fun-ext (is-run at requests follows)))
+      (runs-last-stored (at 0) identifiers b requests (c .bytes)) in
       record {
         lasts = l;
         last-id = λ i z e.

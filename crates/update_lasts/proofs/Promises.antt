@@ -1,27 +1,28 @@
 -- Demand 3 of the functions, one statement each. What a statement says is defined in specs/Calls.antt.
 use Prim.Native.Nat.{ℕ}
 use mathlib.Core.Path.{_≡_}
-use mathlib.Core.Option.{some}
+use mathlib.Core.List.{List, []}
+use mathlib.Core.Option.{none, some}
 use Rattle.paper.specs.Lent.{Stored, Lent}
 use Rattle.theorems.specs.Stored.{LendsBytes, run-stored, BeginsStored}
-use Rattle.theorems.proofs.Beginning.{T-stored, T-requests}
-use Rattle.theorems.proofs.Promises.{runs-begin, runs-go-on}
+use Rattle.theorems.proofs.Beginning.{T-stored, T-requests, keyed-stored, keyed-by, keyed-requests}
+use Rattle.theorems.proofs.Promises.{runs-begin, runs-go-on, runs-begin-identified, runs-go-on-identified}
 use Rattle.record.specs.declared.Sizes.{Sizes}
 use Rattle.record.specs.declared.Changed.{Changed}
 use Rattle.braidhurdle.specs.declared.ChangedNumbers.{ChangedNumbers}
 use Rattle.update_lasts.specs.Calls.{Call, of-update, of-c-update, Calls, LastingCalls}
 use Rattle.update_lasts.proofs.Kept.{update-reads, c-update-reads, calls-last}
-use Rattle.update_lasts.proofs.Going.{calls-of, calls-run, shown-accepted}
+use Rattle.update_lasts.proofs.Going.{calls-of, calls-run, shown-accepted, refused-shown}
 
 -- Whoever calls `update` again and again and stores what it answers has demand 3 of all that was stored.
 -- That `of-update` is the function's own `ensures` is `update-says` (Tied.antt).
-pub update-lasts : (at : ℕ → Stored) (calls : ℕ → Call Changed) → BeginsStored (at 0) → Calls of-update at calls
-    → LastingCalls of-update at calls
+pub update-lasts : (identifiers : List ℕ) (at : ℕ → Stored) (calls : ℕ → Call Changed) → BeginsStored (at 0) identifiers
+    → Calls of-update at calls → LastingCalls of-update identifiers at calls
 update-lasts = calls-last of-update update-reads
 
 -- So has whoever calls the C function; `c-update-says` is the tie.
-pub c-update-lasts : (at : ℕ → Stored) (calls : ℕ → Call ChangedNumbers) → BeginsStored (at 0)
-    → Calls of-c-update at calls → LastingCalls of-c-update at calls
+pub c-update-lasts : (identifiers : List ℕ) (at : ℕ → Stored) (calls : ℕ → Call ChangedNumbers)
+    → BeginsStored (at 0) identifiers → Calls of-c-update at calls → LastingCalls of-c-update identifiers at calls
 c-update-lasts = calls-last of-c-update c-update-reads
 
 -- Neither is empty: whatever is stored and lent, there are such calls;
@@ -32,8 +33,21 @@ updates-run s requests b =
     (calls-run of-update update-reads s requests b, calls-run of-c-update c-update-reads s requests b)
 
 -- and T begins a run whose first two calls are accepted.
-pub updates-go-on : BeginsStored T-stored × LendsBytes T-requests
+pub updates-go-on : BeginsStored T-stored [] × LendsBytes T-requests
     × ((z : Sizes) × (of-update .sizes (calls-of of-update T-stored T-requests 0 .answer) ≡ some z))
     × ((z : Sizes) × (of-update .sizes (calls-of of-update T-stored T-requests 1 .answer) ≡ some z))
 updates-go-on =
     (runs-begin .1, runs-begin .2, shown-accepted _ _ _ (runs-go-on .0), shown-accepted _ _ _ (runs-go-on .1))
+
+-- So does a tree with identifiers: the first two calls are accepted, with other identifiers each, and the third is not.
+pub updates-go-on-identified : BeginsStored keyed-stored keyed-by × LendsBytes keyed-requests
+    × ((z : Sizes) × (of-update .sizes (calls-of of-update keyed-stored keyed-requests 0 .answer) ≡ some z))
+    × ((z : Sizes) × (of-update .sizes (calls-of of-update keyed-stored keyed-requests 1 .answer) ≡ some z))
+    × (of-update .sizes (calls-of of-update keyed-stored keyed-requests 2 .answer) ≡ none)
+updates-go-on-identified = (
+  runs-begin-identified .1,
+  runs-begin-identified .2,
+  shown-accepted _ _ _ (runs-go-on-identified .0),
+  shown-accepted _ _ _ (runs-go-on-identified .1),
+  refused-shown _ (runs-go-on-identified .2),
+)

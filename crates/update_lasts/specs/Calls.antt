@@ -84,9 +84,11 @@ pub record Calls {A : Type 0} (f : Contract A) (at : ℕ → Stored) (calls : �
 
 -- ---- demand 3
 
-pub record LastingCalls {A : Type 0} (f : Contract A) (at : ℕ → Stored) (calls : ℕ → Call A) : Type 0 where
+-- Of calls that begin with bytes of identifiers.
+pub record LastingCalls {A : Type 0} (f : Contract A) (identifiers : List ℕ) (at : ℕ → Stored) (calls : ℕ → Call A)
+    : Type 0 where
   -- All clauses of demand 3 over bytes hold of what is stored.
-  pub lasts : LastingStored at (λ i. calls i .lent)
+  pub lasts : LastingStored identifiers at (λ i. calls i .lent)
   -- The last id of an accepted answer is the given one plus the number of records that were added.
   pub last-id : (i : ℕ) (z : Sizes) → f .sizes (calls i .answer) ≡ some z
       → turned (z .«last_id») ≡ turned (at i .last) + slots (calls i .lent .added-records)
