@@ -99,13 +99,12 @@ pub fn update<'a>(
     match open_update(trees, lists, out_records.len(), out_names.len()) {
         Opened::Refused(r) => Changed::Refused(r),
         Opened::Roots(roots, columns) => {
-            let identifiers = lists[IDENTIFIERS];
             let mut plan = [[0u32; 1024]; 3];
             let mut index = [[0u16; 1024]; 8];
             let mut decisions = [[0u64; 64]; 4];
             // test
             let n = trees[RECORDS].len() / 24;
-            let sound = index_base(trees, n, identifiers, &mut plan, &mut index);
+            let sound = index_base(trees, n, lists[IDENTIFIERS], &mut plan, &mut index);
             if let Check::Refused(r) = sound {
                 return Changed::Refused(r);
             }
@@ -116,7 +115,7 @@ pub fn update<'a>(
                 // plan, test, write
                 Decided::Last(consumed) => write_rebuilt(
                     trees,
-                    identifiers,
+                    lists[IDENTIFIERS],
                     given_of(trees, lists, consumed),
                     roots,
                     &decisions,
