@@ -168,7 +168,9 @@ renumber-passes s p i start lr ln li r b e =
     let again = ids-again (r .identifiers) small in
     let long : length (id-bytes (r .identifiers)) ≡ length i = length-ids (r .identifiers) ∙ as-many in
     record {
-      in-buffer = λ old. rw (take-at (id-bytes (r .identifiers)) (drop (length (id-bytes (r .identifiers))) old) (length i) long) again;
+      reads = again;
+      in-buffer = λ old.
+          take-at (id-bytes (r .identifiers)) (drop (length (id-bytes (r .identifiers))) old) (length i) long;
       passes =
           passes-again (r .tree) (id-bytes (r .identifiers)) fit
           (as-few i (id-bytes (r .identifiers)) (sym long) (o .few)) (rw again passes);

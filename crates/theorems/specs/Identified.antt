@@ -41,8 +41,9 @@ pub record PassesAgain (tree : Forest Field) (identifiers : List ℕ) : Type 0 w
 
 -- Of what an accepted renumbering answers to so many bytes of identifiers.
 pub record IdentifiersAgain (identifiers : List ℕ) (result : Result) : Type 0 where
-  -- As many bytes as were lent, at the front of its buffer, are read as the identifiers that it answers;
-  pub in-buffer : (old : List ℕ)
-      → id-list (take (length identifiers) (leaves out-identifiers (ok result) old)) ≡ result .identifiers
-  -- with them its tree passes again.
+  -- Its bytes of identifiers are read as the identifiers that it answers,
+  pub reads : id-list (out-identifiers result) ≡ result .identifiers
+  -- and stand at the front of its buffer, as many as were lent.
+  pub in-buffer : (old : List ℕ) → take (length identifiers) (leaves out-identifiers (ok result) old) ≡ out-identifiers result
+  -- With them its tree passes again.
   pub passes : PassesAgain (result .tree) (out-identifiers result)
