@@ -127,8 +127,8 @@ pub fn check_identifiers<'a>(
     requires { ⌜ (length (now identifiers) ≤ 256) × PlanIn (trees-in (now trees)) (now plan) m
         × IdsChained (numbers (now plan)) (now index) m
         × Raised (members (now plan)) m (ups-in (now index)) ⌝ }
-    ensures { λ r. ⌜ r ≡ rule-9 (now (identifiers .entry)) (fields-in (trees-in (now (trees .entry)))
-        (now (plan .entry)) m) ⌝ }
+    ensures { λ r. ⌜ r ≡ rule-9 (now (identifiers .entry))
+        (fields-in (trees-in (now (trees .entry))) (now (plan .entry)) m) ⌝ }
 {
     let n = identifiers.len() / 4;
     let mut i = 0;
