@@ -14,12 +14,13 @@ use Rattle.paper.specs.Sound.{text, fitting, misnamed, names, ids, sound
 use Rattle.paper.specs.Prune.{prune}
 use Rattle.paper.specs.Renumber.{level, numbered, renumber}
 use Rattle.paper.specs.Gone.{gone}
+use Rattle.paper.specs.Edits.{edited-one, edited-all, edit-fields}
 use Rattle.paper.specs.Update.{deleted, member-taken, placed, placed-all, planned}
 use Rattle.paper.specs.Rebuild.{fresh, arrivals, arriving, rebuilt, carried-out, update}
 use Rattle.paper.specs.Bytes.{word16, word32, turned, ok-bytes, in-pool, kind-from, name-of, field-at}
 use Rattle.paper.specs.Bytes.{from}
-use Rattle.paper.specs.Lists.{ok-deletion, ok-addition, path-in, entries-ok, path-of, parent-path}
-use Rattle.paper.specs.Lists.{deletion-paths, addition-paths, id-list}
+use Rattle.paper.specs.Lists.{ok-deletion, ok-addition, path-in, ok-edit, edit-in, entries-ok, path-of, parent-path}
+use Rattle.paper.specs.Lists.{deletion-paths, addition-paths, edit-path, new-name, edit-of, edit-list, id-list}
 use Rattle.paper.specs.Layout.{deep, row-with, row, roots}
 use Rattle.paper.specs.Decode.{fields, decode}
 use Rattle.paper.specs.Encode.{row24, encode-records, encode-names, record-bytes, pool-bytes}
@@ -126,9 +127,10 @@ pub pins : Held
 unfolding answer answer-of signed-id _>>=_ lowest size siblings levels preorder counts mapped _then_
     rows entered look-name look-id look-parent fold folded matching look-folded
     fitting misnamed names ids sound name-bytes within prune level numbered renumber
-    gone deleted member-taken placed placed-all planned fresh arrivals arriving rebuilt carried-out update
+    gone edited-one edited-all edit-fields deleted member-taken placed placed-all planned fresh arrivals arriving rebuilt carried-out update
     word16 word32 turned ok-bytes in-pool kind-from name-of field-at from
-    ok-deletion ok-addition path-in entries-ok path-of parent-path deletion-paths addition-paths id-list
+    ok-deletion ok-addition path-in ok-edit edit-in entries-ok path-of parent-path deletion-paths addition-paths
+    edit-path new-name edit-of edit-list id-list
     deep row-with row roots fields decode row24 encode-records encode-names record-bytes pool-bytes Encode.id-bytes
     room whole sum-from name-sum tree-sized pool-sized sized sized-ids sized-update
     update-entry prune-entry renumber-entry read find-name find-folded find-id find-parent find-ids changed found searched out-slots leaves

@@ -9,6 +9,7 @@ use Rattle.paper.specs.Forest.{empty, node, size, siblings, levels, preo
 use Rattle.paper.specs.Rows.{rows, entered, look-name, look-id}
 use Rattle.paper.specs.Sound.{text, names, ids, sound, name-bytes, within}
 use Rattle.paper.specs.Renumber.{level, numbered}
+use Rattle.paper.specs.Edits.{edited-all, edit-fields}
 use Rattle.paper.specs.Update.{schema, request, deleted, placed-all, planned}
 use Rattle.paper.specs.Rebuild.{arrivals, arriving, rebuilt, carried-out, update}
 use Rattle.paper.specs.Pinned.{keyed}
@@ -26,12 +27,12 @@ id i = 2_147_483_648 + i
 -- The ids of a tree whose identifier is 5, without a column.
 abbrev without : (path : List ℕ) → Answer (List ℕ)
 without path =
-    update (schema keyed (id 10)) (request (id 5 ∷ []) (path ∷ []) [] empty) >>= λ u. ok (ids (u .tree))
+    update (schema keyed (id 10)) (request (id 5 ∷ []) (path ∷ []) [] empty []) >>= λ u. ok (ids (u .tree))
 
 -- 12 asks the found column itself: one beside an identifier goes; what holds one goes too, and is then missed by 9.
 pub barred-itself :
     without (text "node.cost") ∷ without (text "node.button") ∷ without (text "node") ∷ []
     ≡ refused 12 2 0 ∷ ok (map id (1 ∷ 5 ∷ 2 ∷ [])) ∷ refused 9 5 0 ∷ []
 unfolding _>>=_ size siblings levels mapped _then_ rows entered look-name look-id names ids sound name-bytes within
-    deleted placed-all planned arrivals arriving rebuilt carried-out update
+    deleted placed-all edited-all edit-fields planned arrivals arriving rebuilt carried-out update
 barred-itself = refl

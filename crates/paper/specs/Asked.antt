@@ -70,14 +70,28 @@ infix 30 _under_
 abbrev pub _under_ : String → String → New
 name under path = new (primitive name 0) (some path)
 
+-- An edit: a path and the new name of its column, if it gets one.
+pub record Editing : Type 0 where
+  pub path : String
+  pub name : Option String
+
+infix 70 _to_
+abbrev pub _to_ : String → String → Editing
+path to name = record { path = path; name = some name }
+
+abbrev pub relaxing : String → Editing
+relaxing path = record { path = path; name = none }
+
 -- The lists of a request, as bytes.
 pub record Lists : Type 0 where
   pub deletions : List ℕ
   pub additions : List ℕ
   pub added : List ℕ
+  pub edits : List ℕ
   pub request : List ℕ
 
 infix 20 drop_add_
+infix 20 edit_drop_add_
 infix 15 of_ask_
 pub data Ask : Type 0 where
   renumber-from : (start : ℕ) → Ask
@@ -89,6 +103,7 @@ pub data Ask : Type 0 where
   -- Ids as bytes, and room for so many bytes of slots.
   find-numbers : (ids : List ℕ) (room : ℕ) → Ask
   drop_add_ : List String → List New → Ask
+  edit_drop_add_ : List Editing → List String → List New → Ask
   request : Lists → Ask
   choose : List ℕ → Ask
   choose-full : List ℕ → Ask
@@ -104,11 +119,22 @@ find-each ids = find-numbers (id-bytes ids) (length (id-bytes ids))
 unfoldable pub signed-id : ℕ → ℤ
 signed-id id = cond (ltb id 2_147_483_648) (negsuc (2_147_483_647 - id)) (pos (id - 2_147_483_648))
 
--- What is answered: a tree's ids in slot order, and with an update's the last id; what is found; the slots of many ids; a refusal.
+-- A column as an update with edits leaves it: its id, its name and its flags.
+pub record Shown : Type 0 where
+  pub id : ℤ
+  pub name : List ℕ
+  pub flags : ℕ
+
+abbrev pub shows : (id : ℕ) → String → (flags : ℕ) → Shown
+shows id name flags = record { id = pos id; name = text name; flags = flags }
+
+-- What is answered: a tree's ids in slot order, and with an update's the last id, or with edits its columns; what is found; the
+-- slots of many ids; a refusal.
 infix 20 refusal_list_place_
 pub data Reply : Type 0 where
   tree : (ids : List ℤ) → Reply
   updated : (ids : List ℤ) (last : ℤ) → Reply
+  columns-are : List Shown → Reply
   found : ℤ → Reply
   nothing : Reply
   at-slots : List (Option ℕ) → Reply
@@ -121,7 +147,8 @@ infix 20 _with-last_
 abbrev pub _with-last_ : List ℕ → ℕ → Reply
 ids with-last last = updated (map pos ids) (pos last)
 
--- ---- the bytes of a request: its pool has the deletions' paths, then the parents' paths, then the new names
+-- ---- the bytes of a request: its pool has the deletions' paths, then the parents' paths, then the names of the added columns,
+-- then each edit's path with its new name behind it
 
 abbrev texts : List String → List (Option (List ℕ))
 texts = map (λ x. some (text x))
@@ -149,18 +176,42 @@ abbrev columns : List New → Forest Field
 columns [] = empty
 columns (a ∷ adds) = a .column then columns adds
 
--- The lists of a request, of what it drops and what it adds.
-abbrev pub lists : List String → List New → Lists
-lists drops adds =
+-- An edit's 16 bytes: what it does, a path's offset and length, a new name's offset and length.
+abbrev pub edit-entry : (what at len name-at name-len : ℕ) → List ℕ
+edit-entry what at len name-at name-len =
+    bytes32 at (bytes16 len (what ∷ 0 ∷ bytes32 name-at (name-len ∷ 0 ∷ 0 ∷ 0 ∷ [])))
+
+-- One whose path stands at an offset, its new name behind it.
+abbrev edit-bytes : ℕ → (path : List ℕ) → Option (List ℕ) → List ℕ
+edit-bytes at path none = edit-entry 2 at (length path) 0 0
+edit-bytes at path (some name) = edit-entry 1 at (length path) (at + length path) (length name)
+
+abbrev edit-texts : Editing → List ℕ
+edit-texts e = joined (some (text (e .path)) ∷ some-text (e .name) ∷ [])
+
+abbrev edit-entries : ℕ → List Editing → List ℕ
+edit-entries at [] = []
+edit-entries at (e ∷ es) =
+    edit-bytes at (text (e .path)) (some-text (e .name)) ++ edit-entries (at + length (edit-texts e)) es
+
+abbrev edits-pool : List Editing → List ℕ
+edits-pool [] = []
+edits-pool (e ∷ es) = edit-texts e ++ edits-pool es
+
+-- The lists of a request, of what it edits, what it drops and what it adds.
+abbrev pub lists : List Editing → List String → List New → Lists
+lists edits drops adds =
     let paths = texts drops in
     let parents = map (λ a. some-text (a .parent)) adds in
     let tree = columns adds in
     let at = length (joined paths) in
+    let added-at = at + length (joined parents) in
     record {
       deletions = path-entries 0 paths;
       additions = path-entries at parents;
-      added = encode-records (at + length (joined parents)) (preorder tree) (counts tree);
-      request = joined paths ++ joined parents ++ pool-bytes tree;
+      added = encode-records added-at (preorder tree) (counts tree);
+      edits = edit-entries (added-at + length (pool-bytes tree)) edits;
+      request = joined paths ++ joined parents ++ pool-bytes tree ++ edits-pool edits;
     }
 
 -- ---- the questions, put to an update or a pruner of the entries' types: T's last id is 10, no identifiers
@@ -179,6 +230,7 @@ put-update update given asked =
       deletions = asked .deletions;
       additions = asked .additions;
       added-records = asked .added;
+      edits = asked .edits;
       request-pool = asked .request;
       room-records = given .room-records;
       room-names = given .room-names;
@@ -194,7 +246,7 @@ put-renumber given start =
     (given .room-records) (given .room-names) (given .room-identifiers)
 
 abbrev pub asked-update : AnUpdate → List String → List New → Answer Result
-asked-update update drops adds = put-update update (T-lent [] 10) (lists drops adds)
+asked-update update drops adds = put-update update (T-lent [] 10) (lists [] drops adds)
 
 abbrev pub asked-prune : APruner → List ℕ → Bool → Answer Result
 asked-prune pruner selected full = put-prune pruner (T-lent [] 10) selected full
@@ -215,6 +267,13 @@ identifiers-reply (refused n l p) = refusal n list l place p
 abbrev pub update-reply : Answer Result → Reply
 update-reply (ok result) = updated (shown result) (signed-id (turned (result .last)))
 update-reply (refused n l p) = refusal n list l place p
+
+abbrev shown-column : Field → Shown
+shown-column f = record { id = signed-id (f .id); name = f .name; flags = f .flags }
+
+abbrev edits-reply : Answer Result → Reply
+edits-reply (ok result) = columns-are (map shown-column (preorder (result .tree)))
+edits-reply (refused n l p) = refusal n list l place p
 
 abbrev find-reply : Answer (Option Row) → Reply
 find-reply (ok none) = nothing
@@ -237,7 +296,9 @@ answer-of given (find-folding name) = find-reply (find-folded (given .records) (
 answer-of given (find-number id) = find-reply (find-id (given .records) (given .pool) id)
 answer-of given (find-above id) = find-reply (find-parent (given .records) (given .pool) id)
 answer-of given (find-numbers ids room) = slots-reply (find-ids (given .records) (given .pool) ids room)
-answer-of given (drop drops add adds) = update-reply (put-update update-entry given (lists drops adds))
+answer-of given (drop drops add adds) = update-reply (put-update update-entry given (lists [] drops adds))
+answer-of given (edit edits drop drops add adds) =
+    edits-reply (put-update update-entry given (lists edits drops adds))
 answer-of given (request asked) = update-reply (put-update update-entry given asked)
 answer-of given (choose selected) = tree-reply (put-prune prune-entry given selected false)
 answer-of given (choose-full selected) = tree-reply (put-prune prune-entry given selected true)

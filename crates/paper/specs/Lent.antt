@@ -14,6 +14,7 @@ pub record Lent : Type 0 where
   pub deletions : List ℕ
   pub additions : List ℕ
   pub added-records : List ℕ
+  pub edits : List ℕ
   pub request-pool : List ℕ
   pub room-records : ℕ
   pub room-names : ℕ

@@ -15,6 +15,7 @@ use Rattle.paper.specs.Bytes.{from}
 use Rattle.paper.specs.Encode.{row24, record-bytes, pool-bytes}
 use Rattle.paper.specs.Sample.{column, with-code, primitive, required, struct, listing, mapping, T-records}
 use Rattle.paper.specs.Asked.{Lending, lending, lent, T-lent, New, new, at-root, _under_, Lists, entry}
+use Rattle.paper.specs.Asked.{Editing, _to_, relaxing, edit_drop_add_, edit-entry, Shown, shows, columns-are}
 use Rattle.paper.specs.Asked.{Ask, renumber-from, identifiers-from, find, find-folding, find-number, find-above, find-numbers, find-each}
 use Rattle.paper.specs.Asked.{drop_add_, request}
 use Rattle.paper.specs.Asked.{choose, choose-full, of_ask_}
@@ -330,12 +331,106 @@ others =
     gives refusal 6 list 1 place 1)
     ∷ []
 
+-- ---- 02, 5/13: rename and relax
+
+-- `a` required with an initial default, and `b`.
+abbrev two : Lending
+two = tree-of (column Primitive 3 "a" 1 empty then primitive "b" 2)
+
+abbrev two-are : String → (flags : ℕ) → String → Reply
+two-are a flags b = columns-are (shows 1 a flags ∷ shows 2 b 0 ∷ [])
+
+-- `keyed` with these names and flags of `node`, `cost` and `site`.
+abbrev keyed-are : String → ℕ → String → ℕ → String → ℕ → Reply
+keyed-are node node-flags cost cost-flags site site-flags =
+    columns-are (shows 1 node node-flags ∷ shows 5 cost cost-flags ∷ shows 4 "button" 0 ∷ shows 2 site site-flags ∷ [])
+
+-- Of `two`, without deletions and additions.
+abbrev edited : List Editing → Reply → Example
+edited edits told = (of two ask edit edits drop [] add []) gives told
+
+-- Of T, without additions.
+abbrev refuses : List Editing → (drops : List String) → Reply → Example
+refuses edits drops told = (edit edits drop drops add []) gives told
+
+abbrev edits : List Example
+edits =
+    -- A rename keeps the flags, relaxing the name and the default; both on one column, in either order.
+    edited ("a" to "c" ∷ []) (two-are "c" 3 "b")
+    ∷ edited (relaxing "a" ∷ []) (two-are "a" 2 "b")
+    ∷ edited ("a" to "c" ∷ relaxing "a" ∷ []) (two-are "c" 2 "b")
+    ∷ edited (relaxing "a" ∷ "a" to "c" ∷ []) (two-are "c" 2 "b")
+    -- What is optional stays so; a column may be relaxed twice.
+    ∷ edited (relaxing "b" ∷ []) (two-are "a" 3 "b")
+    ∷ edited (relaxing "a" ∷ relaxing "a" ∷ []) (two-are "a" 2 "b")
+    -- The present name and the empty one are names; two columns exchange theirs.
+    ∷ edited ("a" to "a" ∷ []) (two-are "a" 3 "b")  -- 182
+    ∷ edited ("a" to "" ∷ []) (two-are "" 3 "b")  -- 187
+    ∷ edited ("a" to "b" ∷ "b" to "a" ∷ []) (two-are "b" 3 "a")  -- 184
+    -- Inner columns, by their full or short names; the name of a struct stands before its members' names.
+    ∷ (of lent keyed [] 10 ask edit ("node.cost" to "price" ∷ relaxing "node" ∷ "node" to "board" ∷ []) drop [] add []
+    gives keyed-are "board" 0 "price" 1 "site" 1)
+    ∷ (of tree-of (list-of (primitive "a" 3)) ask edit ("l.a" to "b" ∷ "l" to "k" ∷ []) drop [] add []
+    gives columns-are (shows 1 "k" 0 ∷ shows 2 "element" 0 ∷ shows 3 "b" 0 ∷ []))
+    -- Elements, values and their inside may be relaxed, no key, even an optional one.
+    ∷ (of tree-of (listing "l" 1 (required "element" 2)) ask edit (relaxing "l.element" ∷ []) drop [] add []
+    gives columns-are (shows 1 "l" 0 ∷ shows 2 "element" 0 ∷ []))
+    ∷ (of tree-of (mapping "m" 1 (required "key" 2 then required "value" 3)) ask edit (relaxing "m.value" ∷ []) drop [] add []
+    gives columns-are (shows 1 "m" 0 ∷ shows 2 "key" 1 ∷ shows 3 "value" 0 ∷ []))
+    ∷ (of tree-of (mapping "m" 1 (primitive "key" 2 then primitive "value" 3)) ask edit (relaxing "m.key" ∷ []) drop [] add []
+    gives refusal 24 list 6 place 0)  -- 181
+    -- None of the three is renamed, even to its own name; a root called `element` is.
+    ∷ refuses ("visits.element" to "element" ∷ []) [] (refusal 24 list 6 place 0)
+    ∷ refuses ("parts.key" to "key" ∷ []) [] (refusal 24 list 6 place 0)
+    ∷ refuses ("parts.value" to "value" ∷ []) [] (refusal 24 list 6 place 0)
+    ∷ (of tree-of (primitive "element" 1) ask edit ("element" to "a" ∷ []) drop [] add [] gives columns-are (shows 1 "a" 0 ∷ []))
+    -- A second rename, to whatever name, wherever the first stands.
+    ∷ edited ("a" to "c" ∷ "a" to "d" ∷ []) (refusal 24 list 6 place 1)
+    ∷ edited ("a" to "c" ∷ "a" to "c" ∷ []) (refusal 24 list 6 place 1)  -- 182
+    ∷ edited ("a" to "a" ∷ relaxing "a" ∷ "b" to "c" ∷ "a" to "a" ∷ []) (refusal 24 list 6 place 3)
+    -- A path finds nothing; what is dropped, or stands beneath it; what is added. A new name is no path.
+    ∷ edited (relaxing "c" ∷ []) (refusal 23 list 6 place 0)
+    ∷ edited ("a" to "c" ∷ relaxing "c" ∷ []) (refusal 23 list 6 place 1)  -- 183
+    ∷ refuses (relaxing "node" ∷ []) ("node" ∷ []) (refusal 23 list 6 place 0)
+    ∷ refuses ("node.cost" to "price" ∷ []) ("node" ∷ []) (refusal 23 list 6 place 0)
+    ∷ refuses (relaxing "parts.key" ∷ []) ("parts" ∷ []) (refusal 23 list 6 place 0)
+    ∷ (edit (relaxing "floor" ∷ []) drop [] add (at-root "floor" ∷ []) gives refusal 23 list 6 place 0)  -- 183
+    -- A dropped element that stays survives, and so does its inside.
+    ∷ (of tree-of (list-of (primitive "a" 3)) ask edit (relaxing "l.element" ∷ "l.a" to "b" ∷ []) drop ("l.element" ∷ []) add []
+    gives columns-are (shows 1 "l" 0 ∷ shows 2 "element" 0 ∷ shows 3 "b" 0 ∷ []))  -- 184
+    -- A dot in the new name.
+    ∷ edited (relaxing "a" ∷ "a" to "." ∷ []) (refusal 13 list 6 place 1)  -- 186
+    -- Additions come first: a name that a rename frees is taken, one that it takes is free and 8 finds it. A dropped one is free.
+    ∷ (of two ask edit ("a" to "c" ∷ []) drop [] add (at-root "a" ∷ []) gives refusal 17 list 3 place 0)  -- 185
+    ∷ (of two ask edit ("a" to "c" ∷ []) drop [] add (at-root "c" ∷ []) gives refusal 8 list 4 place 2)  -- 185
+    ∷ edited ("a" to "b" ∷ []) (refusal 8 list 4 place 1)
+    ∷ (of two ask edit ("b" to "a" ∷ []) drop ("a" ∷ []) add [] gives columns-are (shows 2 "a" 0 ∷ []))
+    -- Where an added column has the id of a dropped one, no edit meets it.
+    ∷ (of lent (primitive "a" 1 then primitive "b" 2) [] 0 ask edit ("b" to "c" ∷ []) drop ("a" ∷ []) add (at-root "d" ∷ [])
+    gives columns-are (shows 2 "c" 0 ∷ shows 1 "d" 0 ∷ []))
+    -- An identifier may be renamed. Relaxed, or with what stands above it relaxed, it is none.
+    ∷ (of lent keyed (2 ∷ 5 ∷ []) 10 ask edit ("site" to "place" ∷ "node.cost" to "price" ∷ []) drop [] add []
+    gives keyed-are "node" 1 "price" 1 "place" 1)
+    ∷ (of lent keyed (2 ∷ 5 ∷ []) 10 ask edit (relaxing "node.cost" ∷ []) drop [] add [] gives refusal 9 list 5 place 1)  -- 188
+    ∷ (of lent keyed (2 ∷ 5 ∷ []) 10 ask edit (relaxing "node" ∷ []) drop [] add [] gives refusal 9 list 5 place 1)
+    ∷ (of lent keyed (2 ∷ []) 10 ask edit (relaxing "node" ∷ []) drop [] add [] gives keyed-are "node" 0 "cost" 1 "site" 1)
+    ∷ []
+
 -- ---- bytes and limits
 
 -- A request of these bytes; the additions tree and the request pool are those of what is lent.
+abbrev asks-for : (deletions additions edits : List ℕ) → (added : Lending) → Ask
+asks-for deletions additions edits added =
+    request (record {
+      deletions = deletions;
+      additions = additions;
+      added = added .records;
+      edits = edits;
+      request = added .pool;
+    })
+
 abbrev lists-are : (deletions additions : List ℕ) → (added : Lending) → Ask
-lists-are deletions additions added =
-    request (record { deletions = deletions; additions = additions; added = added .records; request = added .pool })
+lists-are deletions additions = asks-for deletions additions []
 
 -- A record named `a`, with id 1, of a kind and so many direct children; and what is told of it, with 4 for one of its bytes.
 abbrev one : (kind kids : ℕ) → List ℕ
@@ -376,16 +471,27 @@ byte-rules =
     ++ (lists-are (entry 0 256 1) [] (lending [] (zeros 256) [] 0) gives refusal 11 list 2 place 0)
     ∷ (lists-are (entry 0 257 1) [] (lending [] (zeros 256) [] 0) gives refusal 4 list 2 place 0)
     ∷ (lists-are (entry 257 0 1) [] (lending [] (zeros 256) [] 0) gives refusal 4 list 2 place 0)
-    ∷ []
+    -- 02, 5/13: an edit is 1 or 2, its bytes 7 and 13 to 15 are 0; one that relaxes has no new name.
+    ∷ map (λ e. asks-for [] [] e (lending [] (zeros 9) [] 0) gives refusal 3 list 6 place 0)
+    (map (λ at. set (edit-entry 1 0 0 0 0) at 4) (6 ∷ 7 ∷ 13 ∷ 14 ∷ 15 ∷ [])
+    ++ edit-entry 0 0 0 0 0 ∷ edit-entry 3 0 0 0 0 ∷ edit-entry 2 0 0 1 0 ∷ edit-entry 2 0 0 0 1 ∷ [])
+    -- Its path and its new name lie in the pool, at any offset, of any length.
+    ++ map (λ e. asks-for [] [] e (lending [] (zeros 9) [] 0) gives refusal 4 list 6 place 0)
+    (edit-entry 1 9 1 0 0 ∷ edit-entry 1 10 0 0 0 ∷ edit-entry 1 0 256 0 0 ∷ edit-entry 2 0 10 0 0
+    ∷ edit-entry 1 0 0 9 1 ∷ edit-entry 1 0 0 10 0 ∷ edit-entry 1 0 0 16777216 0 ∷ edit-entry 1 0 0 0 10 ∷ [])
+    ++ map (λ e. asks-for [] [] e (lending [] (zeros 9) [] 0) gives refusal 23 list 6 place 0)
+    (edit-entry 1 9 0 0 9 ∷ edit-entry 1 0 9 9 0 ∷ edit-entry 2 8 1 0 0 ∷ [])
 
 -- The limits: what is still let through, and one more.
 abbrev pub limits : List Example
 limits =
-    -- 64 deletions, additions, identifiers; 1,024 selected ids, and as many asked for.
+    -- 64 deletions, additions, edits, identifiers; 1,024 selected ids, and as many asked for.
     (lists-are (zeros 512) [] (tree-of empty) gives refusal 3 list 2 place 0)
     ∷ (lists-are (zeros 520) [] (tree-of empty) gives refusal 2 list 0 place 0)
     ∷ (lists-are [] (zeros 512) (tree-of empty) gives refusal 10 list 3 place 0)
     ∷ (lists-are [] (zeros 520) (tree-of empty) gives refusal 2 list 0 place 0)
+    ∷ (asks-for [] [] (zeros 1024) (tree-of empty) gives refusal 3 list 6 place 0)
+    ∷ (asks-for [] [] (zeros 1040) (tree-of empty) gives refusal 2 list 0 place 0)
     ∷ (of lent empty (zeros 64) 0 ask renumber-from 1 gives refusal 9 list 5 place 0)
     ∷ (of lent empty (zeros 65) 0 ask drop [] add [] gives refusal 2 list 0 place 0)
     ∷ (of tree-of empty ask choose (zeros 1024) gives ids-are [])
@@ -401,6 +507,7 @@ limits =
     -- No whole number of records, entries, ids; the additions tree's too.
     ∷ (lists-are (zeros 7) [] (tree-of empty) gives refusal 2 list 0 place 0)
     ∷ (lists-are [] (zeros 7) (tree-of empty) gives refusal 2 list 0 place 0)
+    ∷ (asks-for [] [] (zeros 15) (tree-of empty) gives refusal 2 list 0 place 0)
     ∷ (lists-are [] [] (longer empty) gives refusal 2 list 0 place 0)
     ∷ []
 
@@ -408,7 +515,7 @@ limits =
 
 -- The lists of a request for one addition without a tree.
 abbrev no-tree : Lists
-no-tree = record { deletions = []; additions = entry 0 0 0; added = []; request = [] }
+no-tree = record { deletions = []; additions = entry 0 0 0; added = []; edits = []; request = [] }
 
 -- An addition that passes, then another.
 abbrev and-then : New → List New
@@ -418,6 +525,7 @@ and-then a = at-root "floor" ∷ a ∷ []
 abbrev pub number-told : Reply → ℕ
 number-told (tree i) = 0
 number-told (updated i last) = 0
+number-told (columns-are c) = 0
 number-told (found i) = 0
 number-told nothing = 0
 number-told (at-slots s) = 0
@@ -449,6 +557,8 @@ met =
     ∷ (choose (3 ∷ []) gives refusal 20 list 0 place 6)
     ∷ (of tree-of (primitive "b" 1 then primitive "A" 2 then primitive "a" 3) ask find-folding "a" gives refusal 21 list 0 place 2)
     ∷ (drop ("visits" ∷ []) add and-then ("fault" under "visits") gives refusal 22 list 3 place 1)
+    ∷ (edit (relaxing "node" ∷ "floor" to "a" ∷ []) drop [] add [] gives refusal 23 list 6 place 1)
+    ∷ (edit (relaxing "node" ∷ relaxing "parts.key" ∷ []) drop [] add [] gives refusal 24 list 6 place 1)
     ∷ []
 
 -- ---- the order: what is asked breaks two rules, and the first is told
@@ -503,7 +613,7 @@ own-order =
     ∷ []
 
 -- Of an update's lists: base 6 and additions tree 3; its 3 and 4; 4 and 5; 5 and 6; its 6 and deletions 3; their 3 and 4; their
--- 4 and additions 3; their 3 and 4; their 4 and base 7; base 8 and 9; 9 and 10.
+-- 4 and additions 3; their 3 and 4; their 4 and edits 3; their 3 and 4; their 4 and base 7; base 8 and 9; 9 and 10.
 abbrev lists-order : List Example
 lists-order =
     (of tree-of (listing "a" 1 (primitive "x" 2)) ask lists-are [] [] (tree-of (odd "b" 0))
@@ -516,8 +626,10 @@ lists-order =
     ∷ (lists-are (entry 0 9 1 ++ entry 0 0 0) [] (tree-of empty) gives refusal 3 list 2 place 1)  -- 14
     ∷ (lists-are (entry 0 9 1) (entry 1 0 0) (tree-of empty) gives refusal 4 list 2 place 0)
     ∷ (lists-are [] (entry 0 9 1 ++ entry 1 0 0) (tree-of empty) gives refusal 3 list 3 place 1)  -- 13
-    ∷ (of tree-of (primitive "a" 1 then primitive "b" 1) ask lists-are [] (entry 0 9 1) (tree-of empty)
-    gives refusal 4 list 3 place 0)
+    ∷ (asks-for [] (entry 0 9 1) (edit-entry 0 0 0 0 0) (tree-of empty) gives refusal 4 list 3 place 0)
+    ∷ (asks-for [] [] (edit-entry 1 0 9 0 0 ++ edit-entry 0 0 0 0 0) (tree-of empty) gives refusal 3 list 6 place 1)
+    ∷ (of tree-of (primitive "a" 1 then primitive "b" 1) ask asks-for [] [] (edit-entry 1 0 9 0 0) (tree-of empty)
+    gives refusal 4 list 6 place 0)  -- 178
     ∷ (of lent (primitive "a" 1 then primitive "a" 2) (99 ∷ []) 10 ask drop [] add [] gives refusal 8 list 0 place 1)
     ∷ (of T-lent (99 ∷ []) 10 ask request no-tree gives refusal 9 list 5 place 0)
     ∷ []
@@ -527,8 +639,8 @@ abbrev spent : Lending
 spent = T-lent [] 2_147_483_647
 
 -- Of what is decided: 10 and 11; 12 of the first deletion and 11 of the next; 11 and 12; 12 and 13; 13 and 14; 14 and 15, 16, 22, 17;
--- 16 and 22; 22 and 17; 15, 16, 22, 17 and 18; 18 of the first addition and 13 of the next; 18 and 19; 19 and 7; 7 and 8; 8 and 9 of
--- the rebuilt tree.
+-- 16 and 22; 22 and 17; 15, 16, 22, 17 and 18; 18 of the first addition and 13 of the next; 18 and 23; 13 of the first edit and 23 of
+-- the next; 24 and 13; 13 of an edit and 19; 18 and 19; 19 and 7; 7 and 8; 8 and 9 of the rebuilt tree.
 abbrev decided-order : List Example
 decided-order =
     (lists-are (entry 0 0 1) (entry 0 0 0) (tree-of empty) gives refusal 10 list 3 place 0)  -- 31
@@ -547,6 +659,12 @@ decided-order =
     ∷ (of spent ask drop ("node" ∷ []) add (("a" under "node") ∷ []) gives refusal 22 list 3 place 0)
     ∷ (of spent ask drop [] add (at-root "node" ∷ []) gives refusal 17 list 3 place 0)
     ∷ (of spent ask drop [] add and-then (at-root "a.b") gives refusal 18 list 3 place 0)
+    ∷ (of spent ask edit ("floor" to "a" ∷ []) drop [] add (at-root "x" ∷ []) gives refusal 18 list 3 place 0)
+    ∷ (edit ("node" to "a.b" ∷ "floor" to "a" ∷ []) drop [] add [] gives refusal 13 list 6 place 0)
+    ∷ (edit ("node" to "a" ∷ "node" to "a.b" ∷ []) drop [] add [] gives refusal 24 list 6 place 1)
+    ∷ (edit ("visits.element" to "a.b" ∷ []) drop [] add [] gives refusal 24 list 6 place 0)
+    ∷ (of tree-of (chain 16) ask edit ("a" to "a.b" ∷ []) drop [] add (("x" under "a.a.a.a.a.a.a.a.a.a.a.a.a.a.a.a") ∷ [])
+    gives refusal 13 list 6 place 0)
     ∷ (of lent (chain 16) [] 2_147_483_647 ask drop [] add (("x" under "a.a.a.a.a.a.a.a.a.a.a.a.a.a.a.a") ∷ [])
     gives refusal 18 list 3 place 0)
     ∷ (of lent (chain 16) [] 0 ask drop [] add (("x" under "a.a.a.a.a.a.a.a.a.a.a.a.a.a.a.a") ∷ [])
@@ -556,4 +674,4 @@ decided-order =
     ∷ []
 
 abbrev pub pinned : List Example
-pinned = names ++ folded-names ++ many-ids ++ updates ++ going ++ identifier-columns ++ others ++ byte-rules ++ met ++ base-order ++ own-order ++ lists-order ++ decided-order
+pinned = names ++ folded-names ++ many-ids ++ updates ++ going ++ identifier-columns ++ edits ++ others ++ byte-rules ++ met ++ base-order ++ own-order ++ lists-order ++ decided-order

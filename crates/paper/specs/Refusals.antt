@@ -1,6 +1,6 @@
 -- 01, Numbers given when a request is turned down: each number once, with its list and its place, in the order of 01's table;
 -- from 21 on, in the order of 02.
--- Lists: 0 base, 1 additions tree, 2 deletions, 3 additions, 4 rebuilt tree, 5 identifiers.
+-- Lists: 0 base, 1 additions tree, 2 deletions, 3 additions, 4 rebuilt tree, 5 identifiers, 6 edits.
 -- The last number and the last list stand here alone; `tools/refusals` and the theorems read them.
 use Prim.Native.Nat.{ℕ}
 use mathlib.Core.Bool.{Bool, not}
@@ -8,10 +8,10 @@ use mathlib.Core.Option.{Option}
 use Rattle.paper.specs.Answer.{Answer, refused, fault, fault-if, demand}
 
 abbrev pub last-refusal : ℕ
-last-refusal = 22
+last-refusal = 24
 
 abbrev pub last-list : ℕ
-last-list = 5
+last-list = 6
 
 -- refusal 1: an output buffer is below its size
 abbrev pub roomy : (enough : Bool) → Answer (Unit {0})
@@ -61,9 +61,9 @@ found-column place column = demand 11 2 place column
 abbrev pub no-identifier : (place : ℕ) → (identifier : Bool) → Answer (Unit {0})
 no-identifier place identifier = fault-if 12 2 place identifier
 
--- refusal 13: the added column's own name has a dot
-abbrev pub dotless : (place : ℕ) → (dot : Bool) → Answer (Unit {0})
-dotless place dot = fault-if 13 3 place dot
+-- refusal 13: the added column's own name (list 3) or (02, 5/13) the new name of a rename (list 6) has a dot
+abbrev pub dotless : (list place : ℕ) → (dot : Bool) → Answer (Unit {0})
+dotless list place dot = fault-if 13 list place dot
 
 -- refusal 14: the added column is required, without initial default
 abbrev pub fillable : (place : ℕ) → (bare : Bool) → Answer (Unit {0})
@@ -102,3 +102,12 @@ ambiguous second = refused 21 0 second
 -- refusal 22: the receiving struct, or a record above it, is dropped as a member of a struct or of the root
 abbrev pub standing : (place : ℕ) → (gone : Bool) → Answer (Unit {0})
 standing place gone = fault-if 22 3 place gone
+
+-- 02, 5/13: of an edit, after 18 of the last addition, before 13.
+-- refusal 23: an edit finds no column that stays
+abbrev pub surviving : {A : Type 0} → (place : ℕ) → Option A → Answer A
+surviving place column = demand 23 6 place column
+
+-- refusal 24: its column's role forbids it, or it is a second rename of a column
+abbrev pub permitted : (place : ℕ) → (forbidden : Bool) → Answer (Unit {0})
+permitted place forbidden = fault-if 24 6 place forbidden
