@@ -1,16 +1,19 @@
 -- A plan: what will stand in an answer, in slot order. It lies in three rows of 1,024 numbers: where each planned record comes from,
--- its id as 32 bits, and how many members it has. A source below 1,024 is a slot of the base, one from 1,024 on is a slot of the
--- additions tree. The base is a plan of itself.
-use Prim.Native.Nat.{ℕ, _+_, _-_, _*_, _<_, _≤_}
+-- its id as 32 bits, and how many members it has. A source below 1,024 is a slot of the base, one from 1,024 to 2,047 a slot of the
+-- additions tree, one from 2,048 on a slot of the base as edits leave it: 2,048 + slot + 1,024 * mark. The mark is 1 if the column is
+-- relaxed, and 2 * (k + 1) more if edit k renames it. The base is a plan of itself.
+use Prim.Native.Nat.{ℕ, _+_, _-_, _*_, _/_, _%_, _<_, _≤_}
 use mathlib.Core.Path.{_≡_}
 use mathlib.Core.Bool.{true, cond}
 use mathlib.Core.List.{List}
-use lib.Dec.{ltb}
+use lib.Dec.{eqb, ltb}
 use lib.ListN.{length, getD}
 use Rattle.paper.specs.Forest.{Forest, mapped}
-use Rattle.paper.specs.Field.{Field, with-id}
+use Rattle.paper.specs.Field.{Field, with-id, with-name, with-flags}
 use Rattle.paper.specs.Sound.{name-bytes}
-use Rattle.paper.specs.Bytes.{turned, field-at, in-pool}
+use Rattle.paper.specs.Bytes.{turned, rec-at, name-of, field-at, in-pool}
+use Rattle.paper.specs.Lists.{edit-in, new-name}
+use Rattle.paper.specs.Edits.{relaxed}
 use Rattle.paper.specs.Layout.{roots}
 use Rattle.record.specs.Trees.{Trees}
 use Rattle.tree.specs.Read.{got, fine}
@@ -26,8 +29,33 @@ slot-of a = a .slot
 abbrev pub bits-of : Source → ℕ
 bits-of a = a .id
 
+abbrev pub edited-slot : ℕ → ℕ
+edited-slot x = (x - 2048) % 1024
+
+abbrev pub mark-of : ℕ → ℕ
+mark-of x = (x - 2048) / 1024
+
+-- The edit that a mark names, where it is 2 or more.
+abbrev pub renaming : (mark : ℕ) → ℕ
+renaming mark = mark / 2 - 1
+
+-- A record of the base as a mark leaves it: its name, its flags, all of it.
+unfoldable pub marked-name : Trees → (mark slot : ℕ) → List ℕ
+marked-name l mark slot =
+    cond (ltb mark 2) (name-of (l .pool) (l .records) slot) (new-name (l .request-pool) (l .edits) (renaming mark))
+
+unfoldable pub marked-flags : (records : List ℕ) (mark slot : ℕ) → ℕ
+marked-flags records mark slot =
+    cond (eqb (mark % 2) 1) (relaxed (rec-at records slot .flags)) (rec-at records slot .flags)
+
+unfoldable pub marked-field : Trees → (mark slot : ℕ) → Field
+marked-field l mark slot =
+    with-name (marked-name l mark slot) (with-flags (marked-flags (l .records) mark slot) (field-at (l .pool) (l .records) slot))
+
 unfoldable pub source-field : Trees → ℕ → Field
-source-field l x = cond (ltb x 1024) (field-at (l .pool) (l .records) x) (field-at (l .request-pool) (l .added-records) (x - 1024))
+source-field l x =
+    cond (ltb x 1024) (field-at (l .pool) (l .records) x)
+    (cond (ltb x 2048) (field-at (l .request-pool) (l .added-records) (x - 1024)) (marked-field l (mark-of x) (edited-slot x)))
 
 unfoldable pub planned-field : Trees → Source → Field
 planned-field l a = with-id (turned (a .id)) (source-field l (a .slot))
@@ -52,8 +80,12 @@ plan-fields l xs is ks m = mapped (planned-field l) (plan-tree xs is ks m)
 pub record Sits (l : Trees) (x : ℕ) : Type 0 where
   pub base-in : x < 1024 → x * 24 + 24 ≤ length (l .records)
   pub base-named : x < 1024 → in-pool (length (l .pool)) (l .records) x ≡ true
-  pub added-in : 1024 ≤ x → (x - 1024) * 24 + 24 ≤ length (l .added-records)
-  pub added-named : 1024 ≤ x → in-pool (length (l .request-pool)) (l .added-records) (x - 1024) ≡ true
+  pub added-in : 1024 ≤ x → x < 2048 → (x - 1024) * 24 + 24 ≤ length (l .added-records)
+  pub added-named : 1024 ≤ x → x < 2048 → in-pool (length (l .request-pool)) (l .added-records) (x - 1024) ≡ true
+  pub edited-in : 2048 ≤ x → edited-slot x * 24 + 24 ≤ length (l .records)
+  pub edited-named : 2048 ≤ x → in-pool (length (l .pool)) (l .records) (edited-slot x) ≡ true
+  pub renamed-in : 2048 ≤ x → 2 ≤ mark-of x → renaming (mark-of x) * 16 + 16 ≤ length (l .edits)
+  pub renamed-named : 2048 ≤ x → 2 ≤ mark-of x → edit-in (length (l .request-pool)) (l .edits) (renaming (mark-of x)) ≡ true
 
 -- A plan that may be read: its sources are there, and its records stand in trees within the limits.
 pub record Plan (l : Trees) (xs is ks : List ℕ) (m : ℕ) : Type 0 where

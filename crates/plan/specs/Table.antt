@@ -39,12 +39,12 @@ abbrev pub fields-in : Trees → (plan : List (List ℕ)) (m : ℕ) → Forest F
 fields-in l plan m = plan-fields l (sources plan) (numbers plan) (members plan) m
 
 abbrev pub InsideIn : Trees → (plan : List (List ℕ)) (m : ℕ) → Type 0
-InsideIn l plan m = Inside (l .records) (l .added-records) (sources plan) m
+InsideIn l plan m = Inside (l .records) (l .added-records) (l .edits) (sources plan) m
 
 -- The bytes that the record at a place becomes, its name at offset `at` of the answer.
 abbrev pub planned-row : Trees → (plan : List (List ℕ)) (i at : ℕ) → List ℕ
 planned-row l plan i at =
-    source-row (l .records) (l .added-records) (getD (sources plan) i 0) (getD (numbers plan) i 0) (getD (members plan) i 0) at
+    source-row (l .records) (l .added-records) (l .edits) (getD (sources plan) i 0) (getD (numbers plan) i 0) (getD (members plan) i 0) at
 
 -- One record was planned at a place.
 abbrev pub planned-at : (plan : List (List ℕ)) (at source id kids : ℕ) → List (List ℕ)

@@ -27,7 +27,8 @@ ghost use Rattle.plan.specs.Named.{names-in, SourcesIn};
 ghost use Rattle.plan.specs.Table.{sources, PlanIn, fields-in, InsideIn, planned-row, planned-at, CopiedIn, TakenIn};
 
 // A plan's rows: where each planned record comes from, its id as 32 bits, how many members it has. A source below 1,024 is a slot of
-// the base, one from 1,024 on a slot of the additions tree.
+// the base, one from 1,024 to 2,047 a slot of the additions tree, one from 2,048 on a slot of the base as edits leave it:
+// 2,048 + slot + 1,024 * mark. The mark is 1 if the column is relaxed, and 2 * (k + 1) more if edit k renames it.
 pub type PlanRows = [[u32; 1024]; 3];
 
 pub const SOURCES: usize = 0;

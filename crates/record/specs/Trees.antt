@@ -1,4 +1,4 @@
--- What is lent as one array of slices: the two trees of an update, each with its pool, and the lists of its request.
+-- What is lent as one array of slices: the two trees of an update, each with its pool, and the edits; and the lists of its request.
 use Prim.Native.Nat.{ℕ}
 use mathlib.Core.List.{List, []}
 use lib.ListN.{getD}
@@ -10,6 +10,7 @@ pub record Trees : Type 0 where
   pub pool : List ℕ
   pub added-records : List ℕ
   pub request-pool : List ℕ
+  pub edits : List ℕ
 
 pub record Lists : Type 0 where
   pub identifiers : List ℕ
@@ -26,6 +27,7 @@ trees-in slices =
       pool = now (slice-at slices 1);
       added-records = now (slice-at slices 2);
       request-pool = now (slice-at slices 3);
+      edits = now (slice-at slices 4);
     }
 
 abbrev pub lists-in : List (RefT (List ℕ)) → Lists
@@ -36,13 +38,19 @@ lists-in slices =
       additions = now (slice-at slices 2);
     }
 
-abbrev pub lent-trees : (records pool added-records request-pool : List ℕ) → Trees
-lent-trees records pool added-records request-pool =
-    record { records = records; pool = pool; added-records = added-records; request-pool = request-pool }
+abbrev pub lent-trees : (records pool added-records request-pool edits : List ℕ) → Trees
+lent-trees records pool added-records request-pool edits =
+    record {
+      records = records;
+      pool = pool;
+      added-records = added-records;
+      request-pool = request-pool;
+      edits = edits;
+    }
 
--- One tree, lent as both.
+-- One tree, lent as both, with no edits.
 abbrev pub alone : (records pool : List ℕ) → Trees
-alone records pool = lent-trees records pool records pool
+alone records pool = lent-trees records pool records pool []
 
 -- The same as the paper has them.
 abbrev pub stored-in : Trees → (last : ℕ) → Stored
@@ -55,6 +63,7 @@ lent-in trees lists room-records room-names =
       deletions = lists .deletions;
       additions = lists .additions;
       added-records = trees .added-records;
+      edits = trees .edits;
       request-pool = trees .request-pool;
       room-records = room-records;
       room-names = room-names;

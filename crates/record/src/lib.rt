@@ -16,8 +16,9 @@ pub struct FieldId(pub u32);
 // A place in today's list of records.
 pub struct Slot(pub usize);
 
-// What is lent as trees: the base's records and their pool, the added records and the request's pool. Who has one tree lends it twice.
-pub type Trees<'a> = [&'a [u8]; 4];
+// What is lent as trees: the base's records and their pool, the added records and the request's pool, and the edits, whose new names
+// are parts of that pool. Who has one tree lends it twice, with no edits.
+pub type Trees<'a> = [&'a [u8]; 5];
 
 pub const RECORDS: usize = 0;
 
@@ -26,6 +27,8 @@ pub const POOL: usize = 1;
 pub const ADDED_RECORDS: usize = 2;
 
 pub const REQUEST_POOL: usize = 3;
+
+pub const EDITS: usize = 4;
 
 // The lists of an update's request.
 pub type Lists<'a> = [&'a [u8]; 3];

@@ -1,4 +1,4 @@
--- Refusals 3 and 4 over a list of entries, once for both lists: whatever the rule is. `search listing`.
+-- Refusals 3 and 4 over a list of entries, once for all lists: whatever their width and their rules are. `search listing`.
 use mathlib.Core.Path.{_≡_, sym, ap, _∙_}
 use mathlib.Core.List.{List}
 use mathlib.Core.Bool.{Bool, true}
@@ -15,17 +15,17 @@ use Rattle.record.specs.declared.Check.the-variants.{Fine, Refused}
 use Rattle.record.specs.Says.{tested, checked}
 use Rattle.record.proofs.Testing.{tested-fault, chain-goes, chain-stops}
 
-module _ (list : ℕ) (rule : List ℕ → ℕ → Bool) (s pool : List ℕ) (number : ℕ) (en : number ≡ list) where
+module _ (list width : ℕ) (rule : List ℕ → ℕ → Bool) (inside : ℕ → List ℕ → ℕ → Bool) (s pool : List ℕ) (number n : ℕ) (en : number ≡ list) (e : n ≡ entries width s) where
   -- 3, then 4
-  module _ (a : Check) (ea : a ≡ tested 3 number (lowest (rule s) 0 (entries s))) where
-    pub rule-stops : (x : Refusal) → a ≡ Refused x → Refused x ≡ checked (entries-ok list rule s pool)
+  module _ (a : Check) (ea : a ≡ tested 3 number (lowest (rule s) 0 n)) where
+    pub rule-stops : (x : Refusal) → a ≡ Refused x → Refused x ≡ checked (entries-ok list width rule inside s pool)
     unfolding checked entries-ok
-    rule-stops x d = rw (← en) (sym (ap checked (chain-stops 3 number (lowest (rule s) 0 (entries s)) a _ x ea d)))
+    rule-stops x d = rw (← en, ← e) (sym (ap checked (chain-stops 3 number (lowest (rule s) 0 n) a _ x ea d)))
 
-    pub rule-goes : (b : Check) → a ≡ Fine → b ≡ tested 4 number (lowest (path-in (length pool) s) 0 (entries s)) → b ≡ checked (entries-ok list rule s pool)
+    pub rule-goes : (b : Check) → a ≡ Fine → b ≡ tested 4 number (lowest (inside (length pool) s) 0 n) → b ≡ checked (entries-ok list width rule inside s pool)
     unfolding entries-ok
     rule-goes b d eb =
-        rw (← en) (eb ∙ tested-fault 4 number (lowest (path-in (length pool) s) 0 (entries s)) ∙ sym (ap checked (chain-goes 3 number (lowest (rule s) 0 (entries s)) a _ ea d)))
+        rw (← en, ← e) (eb ∙ tested-fault 4 number (lowest (inside (length pool) s) 0 n) ∙ sym (ap checked (chain-goes 3 number (lowest (rule s) 0 n) a _ ea d)))
 
 pub ruleset listing = (rule-stops, rule-goes)
 

@@ -1,15 +1,27 @@
--- The number of a list of path entries, and the byte rule of its entries.
+-- A list of entries with paths: its number, the width of an entry, its byte rule, and what 4 asks of its entries.
 use Prim.Native.Nat.{ℕ}
 use mathlib.Core.List.{List}
 use mathlib.Core.Bool.{Bool}
-use Rattle.paper.specs.Lists.{ok-deletion, ok-addition}
+use Rattle.paper.specs.Lists.{ok-deletion, ok-addition, path-in, ok-edit, edit-in}
 use Rattle.record_entries.specs.declared.PathList.{PathList}
-use Rattle.record_entries.specs.declared.PathList.the-variants.{Deletions, Additions}
+use Rattle.record_entries.specs.declared.PathList.the-variants.{Deletions, Additions, Edits}
 
 abbrev pub number-of : PathList → ℕ
 number-of Deletions = 2
 number-of Additions = 3
+number-of Edits = 6
+
+abbrev pub width-of : PathList → ℕ
+width-of Deletions = 8
+width-of Additions = 8
+width-of Edits = 16
 
 abbrev pub rule-of : PathList → List ℕ → ℕ → Bool
 rule-of Deletions = ok-deletion
 rule-of Additions = ok-addition
+rule-of Edits = ok-edit
+
+abbrev pub inside-of : PathList → ℕ → List ℕ → ℕ → Bool
+inside-of Deletions = path-in
+inside-of Additions = path-in
+inside-of Edits = edit-in
