@@ -87,8 +87,8 @@ trees-first l lists =
     go (decode 0 (l .records) (l .pool)) (decode 1 (l .added-records) (l .request-pool)) (deletions-ok l lists) (additions-ok l lists) (edits-ok l lists)
   where
     go : (x y : Answer (Forest Field)) (u v w : Answer (Unit {0})) → (x >>= λ t. y >>= λ n. u >>= λ _. v >>= λ _. w >>= λ _. ok (both-trees t n)) ≡ ((x >>= λ t. y >>= λ n. ok (both-trees t n)) >>= λ t. (u >>= λ _. v >>= λ _. w) >>= λ _. ok t)
-    go (ok t) (ok n) (ok tt) (ok tt) w = refl
-    go (ok t) (ok n) (ok tt) (refused i l k) w = refl
+    go (ok t) (ok n) (ok a) (ok b) w = refl
+    go (ok t) (ok n) (ok a) (refused i l k) w = refl
     go (ok t) (ok n) (refused i l k) v w = refl
     go (ok t) (refused i l k) u v w = refl
     go (refused i l k) y u v w = refl
