@@ -98,7 +98,7 @@ pub fn wide(x: u8) -> u32
 }
 
 // A byte as a length.
-fn length_of(x: u8) -> usize
+pub fn length_of(x: u8) -> usize
     ensures { λ r. ⌜ (r ≡ x) × (r ≤ 255) ⌝ }
 {
     x as usize

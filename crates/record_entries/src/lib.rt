@@ -3,6 +3,7 @@ use record::Check;
 use record::Refusal;
 use record::le16;
 use record::le32;
+use record::length_of;
 ghost use mathlib.Core.Path.{_≡_};
 ghost use mathlib.Core.Bool.{true};
 ghost use Prim.Native.Nat.{_+_, _*_, _≤_, _<_};
@@ -122,7 +123,7 @@ pub fn new_name_len(edits: &[u8], k: usize) -> usize
     requires { ⌜ k * 16 + 16 ≤ length (now edits) ⌝ }
     ensures { λ r. ⌜ (r ≡ edit-at (now (edits .entry)) k .name-len) × (r ≤ 255) ⌝ }
 {
-    edits[k * 16 + 12] as usize
+    length_of(edits[k * 16 + 12])
 }
 
 // An edit's path: the very part of the request pool that holds it.
@@ -158,8 +159,7 @@ fn edit_ok(edits: &[u8], k: usize) -> bool
     let from = new_name_from(edits, k);
     let len = new_name_len(edits, k);
     ((what == 1) | (what == 2) & (from == 0) & (len == 0))
-        & ((edits[k * 16 + 7] == 0)
-            & ((edits[k * 16 + 13] == 0) & (le16(edits, k * 16 + 14) == 0)))
+        & ((edits[k * 16 + 7] == 0) & ((edits[k * 16 + 13] == 0) & (le16(edits, k * 16 + 14) == 0)))
 }
 
 // The number of a list in a refusal.

@@ -38,16 +38,22 @@ pub ruleset ids-within = (ids-tree, ids-most, ids-sized)
 
 -- where `sized_update` said yes: `search update-within`
 module _ (stored : Stored) (lent : Lent) (t : Bool) (e : t ≡ sized-update stored lent) (f : not t ≡ false) where
+  abbrev paths : Bool
+  paths = whole 8 64 (lent .deletions) && whole 8 64 (lent .additions)
+
   abbrev entries : Bool
-  entries = whole 8 64 (lent .deletions) && whole 8 64 (lent .additions)
+  entries = paths && whole 16 64 (lent .edits)
 
   halves : (sized-ids 64 (stored .records) (stored .pool) (lent .identifiers) ≡ true)
       × ((entries && sized (lent .added-records) (lent .request-pool)) ≡ true)
   unfolding sized-update
   halves = both (sized-ids 64 (stored .records) (stored .pool) (lent .identifiers)) _ (sym e ∙ not-false t f)
 
+  all : (paths ≡ true) × (whole 16 64 (lent .edits) ≡ true)
+  all = both paths _ (both entries _ (halves .1) .0)
+
   lists : (whole 8 64 (lent .deletions) ≡ true) × (whole 8 64 (lent .additions) ≡ true)
-  lists = both (whole 8 64 (lent .deletions)) _ (both entries _ (halves .1) .0)
+  lists = both (whole 8 64 (lent .deletions)) _ (all .0)
 
   pub update-sized : sized (stored .records) (stored .pool) ≡ true
   update-sized = ids-sized 64 (stored .records) (stored .pool) (lent .identifiers) true (sym (halves .0)) refl
@@ -70,7 +76,10 @@ module _ (stored : Stored) (lent : Lent) (t : Bool) (e : t ≡ sized-update stor
   pub additions-most : length (lent .additions) ≤ 512
   additions-most = whole-most 8 64 (lent .additions) (lists .1)
 
-pub ruleset update-within = (update-sized, added-sized, base-most, added-most, identifiers-most, deletions-most, additions-most)
+  pub edits-most : length (lent .edits) ≤ 1024
+  edits-most = whole-most 16 64 (lent .edits) (all .1)
+
+pub ruleset update-within = (update-sized, added-sized, base-most, added-most, identifiers-most, deletions-most, additions-most, edits-most)
 
 -- a tree: a whole number of records first, then its name sum. `search sizing`
 module _ (s : List ℕ) (b : Bool) (e : b ≡ whole 24 1024 s) where

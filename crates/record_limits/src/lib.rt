@@ -2,6 +2,7 @@
 use record::ADDED_RECORDS;
 use record::ADDITIONS;
 use record::DELETIONS;
+use record::EDITS;
 use record::IDENTIFIERS;
 use record::Lists;
 use record::POOL;
@@ -87,12 +88,12 @@ pub fn sized_selected(recs: &[u8], pool: &[u8], selected: &[u8]) -> bool
     sized(recs, pool) & whole_list(selected, 4, 1024)
 }
 
-// At most 64 deletions and 64 additions.
-fn sized_entries(deletions: &[u8], additions: &[u8]) -> bool
-    ensures { λ r. ⌜ r ≡ (whole 8 64 (now (deletions .entry)) && whole 8 64
-        (now (additions .entry))) ⌝ }
+// At most 64 deletions, 64 additions and 64 edits.
+fn sized_entries(deletions: &[u8], additions: &[u8], edits: &[u8]) -> bool
+    ensures { λ r. ⌜ r ≡ ((whole 8 64 (now (deletions .entry)) && whole 8 64
+        (now (additions .entry))) && whole 16 64 (now (edits .entry))) ⌝ }
 {
-    whole_list(deletions, 8, 64) & whole_list(additions, 8, 64)
+    whole_list(deletions, 8, 64) & whole_list(additions, 8, 64) & whole_list(edits, 16, 64)
 }
 
 // The limits on all that an update is lent; where one is passed, refusal 2. The rooms are no part of it.
@@ -101,6 +102,6 @@ pub fn sized_update<'a>(trees: &Trees<'a>, lists: &Lists<'a>) -> bool
         ⌝ }
 {
     sized_identifiers(trees[RECORDS], trees[POOL], lists[IDENTIFIERS])
-        & (sized_entries(lists[DELETIONS], lists[ADDITIONS])
+        & (sized_entries(lists[DELETIONS], lists[ADDITIONS], trees[EDITS])
             & sized(trees[ADDED_RECORDS], trees[REQUEST_POOL]))
 }

@@ -7,7 +7,7 @@ use lib.ListN.{length}
 use Rattle.paper.specs.Answer.{Answer, ok, refused, _>>=_}
 use Rattle.paper.specs.Forest.{Forest}
 use Rattle.paper.specs.Field.{Field}
-use Rattle.paper.specs.Lists.{ok-deletion, ok-addition, entries-ok}
+use Rattle.paper.specs.Lists.{ok-deletion, ok-addition, path-in, ok-edit, edit-in, entries-ok}
 use Rattle.paper.specs.Decode.{decode}
 use Rattle.paper.specs.Limits.{room}
 use Rattle.laws.proofs.Basics.{bind-is, bind-not}
@@ -18,14 +18,14 @@ use Rattle.record.specs.Says.{refusal-of, checked}
 use Rattle.record.specs.Trees.{Trees, Lists}
 use Rattle.record.proofs.Testing.{checked-refused, checked-ok}
 use Rattle.record_limits.specs.Update.{SizedUpdate}
-use Rattle.record_limits.proofs.Within.{base-most, added-most, deletions-most, additions-most}
+use Rattle.record_limits.proofs.Within.{base-most, added-most, deletions-most, additions-most, edits-most}
 use Rattle.tree.specs.Says.{decoded}
 use Rattle.tree.specs.declared.Shaped.{Shaped}
 use Rattle.tree.specs.declared.Shaped.the-variants as shaped
 use Rattle.tree.proofs.Deciding.{decode-refused, decode-ok}
 use Rattle.update_request.specs.declared.Opened.{Opened}
 use Rattle.update_request.specs.declared.Opened.the-variants as it
-use Rattle.update_request.specs.Opened.{Forests, both-trees, trees-read, both-lists, listed, readable, opening, opened, Opens}
+use Rattle.update_request.specs.Opened.{Forests, both-trees, trees-read, all-lists, listed, readable, opening, opened, Opens}
 
 -- ---- what an answer of the code says of the paper's
 
@@ -36,14 +36,29 @@ open-refused (refused n l p) w f e q = let z : f ≡ refusal-of n l p = cc in rw
 
 -- ---- the lists
 
-module _ (l : Trees) (lists : Lists) (u : Check) (eu : u ≡ checked (entries-ok 2 ok-deletion (lists .deletions) (l .request-pool))) where
-  pub list-stops : (f : Refusal) → u ≡ check.Refused f → check.Refused f ≡ listed l lists
-  unfolding listed _>>=_ checked
-  list-stops f q = rw (checked-refused (entries-ok 2 ok-deletion (lists .deletions) (l .request-pool)) u f eu q)
+module _ (l : Trees) (lists : Lists) where
+  abbrev deletions-ok : Answer (Unit {0})
+  deletions-ok = entries-ok 2 8 ok-deletion path-in (lists .deletions) (l .request-pool)
 
-  pub list-goes : (v : Check) → u ≡ check.Fine → v ≡ checked (entries-ok 3 ok-addition (lists .additions) (l .request-pool)) → v ≡ listed l lists
-  unfolding listed _>>=_
-  list-goes v q e = rw (checked-ok (entries-ok 2 ok-deletion (lists .deletions) (l .request-pool)) u eu q) e
+  abbrev additions-ok : Answer (Unit {0})
+  additions-ok = entries-ok 3 8 ok-addition path-in (lists .additions) (l .request-pool)
+
+  abbrev edits-ok : Answer (Unit {0})
+  edits-ok = entries-ok 6 16 ok-edit edit-in (l .edits) (l .request-pool)
+
+  module _ (u : Check) (eu : u ≡ checked deletions-ok) where
+    pub list-stops : (f : Refusal) → u ≡ check.Refused f → check.Refused f ≡ listed l lists
+    unfolding listed _>>=_ checked
+    list-stops f q = rw (checked-refused deletions-ok u f eu q)
+
+    module _ (q : u ≡ check.Fine) (v : Check) (ev : v ≡ checked additions-ok) where
+      pub next-stops : (f : Refusal) → v ≡ check.Refused f → check.Refused f ≡ listed l lists
+      unfolding listed _>>=_ checked
+      next-stops f h = rw (checked-ok deletions-ok u eu q, checked-refused additions-ok v f ev h)
+
+      pub list-goes : (w : Check) → v ≡ check.Fine → w ≡ checked edits-ok → w ≡ listed l lists
+      unfolding listed _>>=_
+      list-goes w h e = rw (checked-ok deletions-ok u eu q, checked-ok additions-ok v ev h) e
 
 -- ---- the trees
 
@@ -66,17 +81,17 @@ module _ (l : Trees) (w : Shaped) (ew : w ≡ decoded (decode 0 (l .records) (l 
 
 -- ---- the contents
 
-trees-first : (l : Trees) (lists : Lists) → readable l lists ≡ (trees-read l >>= λ t. both-lists l lists >>= λ _. ok t)
+trees-first : (l : Trees) (lists : Lists) → readable l lists ≡ (trees-read l >>= λ t. all-lists l lists >>= λ _. ok t)
 unfolding readable trees-read _>>=_
 trees-first l lists =
-    go (decode 0 (l .records) (l .pool)) (decode 1 (l .added-records) (l .request-pool))
-    (entries-ok 2 ok-deletion (lists .deletions) (l .request-pool)) (entries-ok 3 ok-addition (lists .additions) (l .request-pool))
+    go (decode 0 (l .records) (l .pool)) (decode 1 (l .added-records) (l .request-pool)) (deletions-ok l lists) (additions-ok l lists) (edits-ok l lists)
   where
-    go : (x y : Answer (Forest Field)) (u v : Answer (Unit {0})) → (x >>= λ t. y >>= λ n. u >>= λ _. v >>= λ _. ok (both-trees t n)) ≡ ((x >>= λ t. y >>= λ n. ok (both-trees t n)) >>= λ t. (u >>= λ _. v) >>= λ _. ok t)
-    go (ok t) (ok n) (ok tt) v = refl
-    go (ok t) (ok n) (refused i l k) v = refl
-    go (ok t) (refused i l k) u v = refl
-    go (refused i l k) y u v = refl
+    go : (x y : Answer (Forest Field)) (u v w : Answer (Unit {0})) → (x >>= λ t. y >>= λ n. u >>= λ _. v >>= λ _. w >>= λ _. ok (both-trees t n)) ≡ ((x >>= λ t. y >>= λ n. ok (both-trees t n)) >>= λ t. (u >>= λ _. v >>= λ _. w) >>= λ _. ok t)
+    go (ok t) (ok n) (ok a) (ok b) w = refl
+    go (ok t) (ok n) (ok a) (refused i l k) w = refl
+    go (ok t) (ok n) (refused i l k) v w = refl
+    go (ok t) (refused i l k) u v w = refl
+    go (refused i l k) y u v w = refl
 
 open-ok : (P : Type 0) (x : Answer Forests) (w : Opened) (c c′ : ℕ) → w ≡ opened x → w ≡ it.Roots c c′ → ((t : Forests) → x ≡ ok t → it.Roots c c′ ≡ opened (ok t) → P) → P
 unfolding opened
@@ -96,15 +111,15 @@ module _ (l : Trees) (lists : Lists) (w : Opened) (ew : w ≡ opened (trees-read
     unfolding listed opened
     lists-stop f h =
         open-ok _ (trees-read l) w c c′ ew q λ t et eo.
-        let z = checked-refused (both-lists l lists) v f ev h in
-        sym (ap opened (trees-first l lists ∙ bind-is (trees-read l) _ t et ∙ bind-not (both-lists l lists) _ _ _ _ z))
+        let z = checked-refused (all-lists l lists) v f ev h in
+        sym (ap opened (trees-first l lists ∙ bind-is (trees-read l) _ t et ∙ bind-not (all-lists l lists) _ _ _ _ z))
 
     pub contents-fine : v ≡ check.Fine → it.Roots c c′ ≡ opened (readable l lists)
     unfolding listed
     contents-fine h =
         open-ok _ (trees-read l) w c c′ ew q λ t et eo.
-        let z = checked-ok (both-lists l lists) v ev h in
-        eo ∙ sym (ap opened (trees-first l lists ∙ bind-is (trees-read l) _ t et ∙ bind-is (both-lists l lists) _ tt z))
+        let z = checked-ok (all-lists l lists) v ev h in
+        eo ∙ sym (ap opened (trees-first l lists ∙ bind-is (trees-read l) _ t et ∙ bind-is (all-lists l lists) _ tt z))
 
 -- ---- 1 and 2
 
@@ -124,9 +139,9 @@ module _ (l : Trees) (lists : Lists) (rr rn : ℕ) (g : Bool) (eg : g ≡ room r
 
 -- what passed 2 is short enough for what follows
 pub most : (l : Trees) (lists : Lists) (h : Bool) → SizedUpdate l lists h → not h ≡ false
-    → (length (l .records) ≤ 24576) × (length (l .added-records) ≤ 24576) × (length (lists .deletions) ≤ 512) × (length (lists .additions) ≤ 512)
+    → (length (l .records) ≤ 24576) × (length (l .added-records) ≤ 24576) × (length (lists .deletions) ≤ 512) × (length (lists .additions) ≤ 512) × (length (l .edits) ≤ 1024)
 most l lists h sized f =
     let e = sized .says 0 0 0 in
-    (base-most _ _ h e f, added-most _ _ h e f, deletions-most _ _ h e f, additions-most _ _ h e f)
+    (base-most _ _ h e f, added-most _ _ h e f, deletions-most _ _ h e f, additions-most _ _ h e f, edits-most _ _ h e f)
 
-pub ruleset openings = (list-stops, list-goes, base-stops, added-stops, both-read, contents-stop, lists-stop, contents-fine, no-room, no-limits, opens-on)
+pub ruleset openings = (list-stops, next-stops, list-goes, base-stops, added-stops, both-read, contents-stop, lists-stop, contents-fine, no-room, no-limits, opens-on)

@@ -5,7 +5,7 @@ use Rattle.paper.specs.Answer.{Answer, ok, refused, _>>=_, _>>_}
 use Rattle.paper.specs.Refusals.{roomy, limited}
 use Rattle.paper.specs.Forest.{Forest, siblings}
 use Rattle.paper.specs.Field.{Field}
-use Rattle.paper.specs.Lists.{ok-deletion, ok-addition, entries-ok}
+use Rattle.paper.specs.Lists.{ok-deletion, ok-addition, path-in, ok-edit, edit-in, entries-ok}
 use Rattle.paper.specs.Decode.{decode}
 use Rattle.paper.specs.Limits.{room, sized-update}
 use Rattle.record.specs.declared.Check.{Check}
@@ -28,20 +28,22 @@ trees-read l = do
   added ← decode 1 (l .added-records) (l .request-pool)
   ok (both-trees base added)
 
-abbrev pub both-lists : Trees → Lists → Answer (Unit {0})
-both-lists l lists =
-    entries-ok 2 ok-deletion (lists .deletions) (l .request-pool)
-    >>= λ _. entries-ok 3 ok-addition (lists .additions) (l .request-pool)
+abbrev pub all-lists : Trees → Lists → Answer (Unit {0})
+all-lists l lists = do
+  entries-ok 2 8 ok-deletion path-in (lists .deletions) (l .request-pool)
+  entries-ok 3 8 ok-addition path-in (lists .additions) (l .request-pool)
+  entries-ok 6 16 ok-edit edit-in (l .edits) (l .request-pool)
 
 unfoldable pub listed : Trees → Lists → Check
-listed l lists = checked (both-lists l lists)
+listed l lists = checked (all-lists l lists)
 
 unfoldable pub readable : Trees → Lists → Answer Forests
 readable l lists = do
   base ← decode 0 (l .records) (l .pool)
   added ← decode 1 (l .added-records) (l .request-pool)
-  entries-ok 2 ok-deletion (lists .deletions) (l .request-pool)
-  entries-ok 3 ok-addition (lists .additions) (l .request-pool)
+  entries-ok 2 8 ok-deletion path-in (lists .deletions) (l .request-pool)
+  entries-ok 3 8 ok-addition path-in (lists .additions) (l .request-pool)
+  entries-ok 6 16 ok-edit edit-in (l .edits) (l .request-pool)
   ok (both-trees base added)
 
 unfoldable pub opening : Trees → Lists → (last room-records room-names : ℕ) → Answer Forests

@@ -3,6 +3,7 @@ use record::ADDED_RECORDS;
 use record::ADDITIONS;
 use record::Check;
 use record::DELETIONS;
+use record::EDITS;
 use record::Lists;
 use record::POOL;
 use record::RECORDS;
@@ -27,10 +28,11 @@ pub enum Opened {
     Refused(Refusal),
 }
 
-// Refusals 3 and 4 of the two lists of entries.
+// Refusals 3 and 4 of the three lists of entries.
 fn check_lists<'a>(trees: &Trees<'a>, lists: &Lists<'a>) -> Check
     requires { ⌜ (length (lists-in (now lists) .deletions) ≤ 512)
-        × (length (lists-in (now lists) .additions) ≤ 512) ⌝ }
+        × (length (lists-in (now lists) .additions) ≤ 512)
+        × (length (trees-in (now trees) .edits) ≤ 1024) ⌝ }
     ensures { λ r. ⌜ r ≡ listed (trees-in (now (trees .entry))) (lists-in (now (lists .entry))) ⌝ }
 {
     let request_pool = trees[REQUEST_POOL];
@@ -38,7 +40,11 @@ fn check_lists<'a>(trees: &Trees<'a>, lists: &Lists<'a>) -> Check
     if let Check::Refused(r) = deletions {
         return Check::Refused(r);
     }
-    check_entries(lists[ADDITIONS], request_pool, PathList::Additions)
+    let additions = check_entries(lists[ADDITIONS], request_pool, PathList::Additions);
+    if let Check::Refused(r) = additions {
+        return Check::Refused(r);
+    }
+    check_entries(trees[EDITS], request_pool, PathList::Edits)
 }
 
 // Refusals 3 to 6 of the base, then of the additions tree.
@@ -56,12 +62,13 @@ fn check_trees<'a>(trees: &Trees<'a>) -> Opened
     }
 }
 
-// Refusals 3 to 6 of both trees, 3 and 4 of both lists.
+// Refusals 3 to 6 of both trees, 3 and 4 of the three lists.
 fn check_contents<'a>(trees: &Trees<'a>, lists: &Lists<'a>) -> Opened
     requires { ⌜ (length (trees-in (now trees) .records) ≤ 24576)
         × (length (trees-in (now trees) .added-records) ≤ 24576)
         × (length (lists-in (now lists) .deletions) ≤ 512)
-        × (length (lists-in (now lists) .additions) ≤ 512) ⌝ }
+        × (length (lists-in (now lists) .additions) ≤ 512)
+        × (length (trees-in (now trees) .edits) ≤ 1024) ⌝ }
     ensures { λ r. ⌜ r ≡ opened (readable (trees-in (now (trees .entry)))
         (lists-in (now (lists .entry)))) ⌝ }
 {

@@ -8,6 +8,8 @@ pub check-entries-spec : {M : Type 1} → statement M
 check-entries-spec =
     tie.close
     (tie.spec
+    (λ c κs. search (listing, needs))  -- width-of-requires
+    (λ c. search (listing, needs))  -- div-n
     (λ c κs. search (listing, needs))  -- number-of-requires
     (λ c κs. search (listing, needs))  -- check-rules-requires
     (λ c. search (listing, needs))  -- enum-known-r

@@ -4,6 +4,7 @@ use mathlib.Core.Path.{_≡_}
 use Prim.Native.Nat.{_≤_, _-_}
 use Rattle.paper.specs.Answer.{lowest}
 use Rattle.record_entries.specs.Rule.{rule-of}
+use Rattle.record_entries.proofs.Entries.{listing}
 use borrow.Author.Needs.{needs}
 use Rattle.record_entries.proofs.check_rules.Statement.{statement}
 use Rattle.record_entries.proofs.check_rules.Tie as tie
@@ -21,7 +22,7 @@ check-rules-spec =
     Inv-loop
     μ-loop
     (λ c. search (looking, needs))  -- loop-holds
-    (λ c κs. search (looking, needs))  -- entry-ok-requires
+    (λ c κs. search (listing, needs))  -- entry-ok-requires
     (λ c. search (looking, needs))  -- cast-t8
     (λ c. search (looking, needs))  -- returns
     (λ c. search (looking, needs))  -- add-i

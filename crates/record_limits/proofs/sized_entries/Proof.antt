@@ -9,5 +9,6 @@ sized-entries-spec =
     (tie.spec
     (λ c κs. search needs)  -- whole-list-requires
     (λ c κs. search needs)  -- whole-list-requires-2
+    (λ c κs. search needs)  -- whole-list-requires-3
     (λ c. cc)  -- returns
     )

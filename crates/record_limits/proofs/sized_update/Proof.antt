@@ -15,6 +15,7 @@ sized-update-spec =
     (λ c κs. search needs)  -- sized-identifiers-requires
     (λ c. search needs)  -- element-copy-out-sized-entries
     (λ c. search needs)  -- element-copy-out-sized-entries-2
+    (λ c. search needs)  -- element-copy-out-sized-entries-3
     (λ c κs. search needs)  -- sized-entries-requires
     (λ c. search needs)  -- element-copy-out-sized
     (λ c. search needs)  -- element-copy-out-sized-2

@@ -1,4 +1,4 @@
--- The deletions refuse, or the additions tell.
+-- The deletions refuse, or the additions, or the edits tell.
 use Rattle.update_request.proofs.Opening.{openings}
 use borrow.Author.Needs.{needs}
 use Rattle.update_request.proofs.check_lists.Statement.{statement}
@@ -16,5 +16,10 @@ check-lists-spec =
     (λ c. search needs)  -- enum-told
     (λ c. search needs)  -- element-copy-out-check-entries-2
     (λ c κs. search needs)  -- check-entries-requires-2
+    (λ c. search needs)  -- enum-known-additions
     (λ c. search (openings, needs))  -- returns-2
+    (λ c. search needs)  -- enum-told-2
+    (λ c. search needs)  -- element-copy-out-check-entries-3
+    (λ c κs. search needs)  -- check-entries-requires-3
+    (λ c. search (openings, needs))  -- returns-3
     )
