@@ -13,7 +13,8 @@ use Rattle.paper.specs.Forest.{Forest, siblings}
 use Rattle.paper.specs.Field.{Field, id-of, kind-of, with-id}
 use Rattle.paper.specs.Bytes.{turned, slots}
 use Rattle.paper.specs.Decode.{decode}
-use Rattle.paper.specs.Lists.{ok-deletion, ok-addition, entries, entries-ok, id-list}
+use Rattle.paper.specs.Lists.{ok-deletion, ok-addition, path-in, ok-edit, edit-in, entries, entries-ok, id-list}
+use Rattle.paper.specs.Edits.{edited-tree}
 use Rattle.paper.specs.Limits.{room, sized-update}
 use Rattle.paper.specs.Sound.{sound, within}
 use Rattle.paper.specs.Update.{Schema, schema, planned}
@@ -34,6 +35,7 @@ use Rattle.record_limits.proofs.Within.{update-sized, identifiers-most, deletio
 use Rattle.plan.specs.Table.{Roomy}
 use Rattle.index_ids.specs.Table.{Rooms}
 use Rattle.index.specs.Index.{Readable, BaseIndexed}
+use Rattle.update_edits.specs.Marks.{Unmarked}
 use Rattle.update_rebuild.specs.declared.Given.{Given}
 use Rattle.update_rebuild.specs.Planned.{drops-in, unders-in}
 use Rattle.update_request.specs.declared.Opened.{Opened}
@@ -99,8 +101,8 @@ module _ (l : Trees) (lists : Lists) (rr rn : ℕ) (w : Opened) (o : Opens l lis
   )
 
   pub decide-asks : (x : Check) (plan plan′ index : List (List ℕ)) → BaseIndexed l (slots (l .records)) (lists .identifiers) x plan plan′ index → x ≡ check.Fine
-      → (g last : ℕ) → (g ≡ turned last) × (g < 4294967296) → (decisions : List (List ℕ)) → DecisionsRoom decisions → Decidable l lists g columns plan′ index decisions
-  decide-asks x plan plan′ index b d g last eg decisions r =
+      → (g last : ℕ) → (g ≡ turned last) × (g < 4294967296) → (decisions : List (List ℕ)) → DecisionsRoom decisions → (marks : List ℕ) → Unmarked marks → Decidable l lists g columns plan′ index decisions marks
+  decide-asks x plan plan′ index b d g last eg decisions r marks u =
       record {
         passed = through .passed;
         count = through .column-count;
@@ -110,6 +112,7 @@ module _ (l : Trees) (lists : Lists) (rr rn : ℕ) (w : Opened) (o : Opens l lis
         is-sound = checked-ok (sound 0 _ (id-list (lists .identifiers))) x (b .answer) d;
         has-index = b .indexed d;
         room = r;
+        unmarked = u;
       }
 
 -- ---- the entry
@@ -136,17 +139,19 @@ module _ (l : Trees) (lists : Lists) (last : ℕ) (out text : List ℕ) where
   entry-is =
       go (roomy (room (length out) (length text))) (limited (sized-update (stored-in l last) (lent-in l lists (length out) (length text))))
       (decode 0 (l .records) (l .pool)) (decode 1 (l .added-records) (l .request-pool))
-      (entries-ok 2 ok-deletion (lists .deletions) (l .request-pool)) (entries-ok 3 ok-addition (lists .additions) (l .request-pool)) (carried (turned last))
+      (entries-ok 2 8 ok-deletion path-in (lists .deletions) (l .request-pool)) (entries-ok 3 8 ok-addition path-in (lists .additions) (l .request-pool))
+      (entries-ok 6 16 ok-edit edit-in (l .edits) (l .request-pool)) (carried (turned last))
     where
-      go : (w z : Answer (Unit {0})) (x y : Answer (Forest Field)) (u v : Answer (Unit {0})) (f : Forest Field → Forest Field → Answer Result)
-          → (w >>= λ _. z >>= λ _. x >>= λ t. y >>= λ n. u >>= λ _. v >>= λ _. f t n) ≡ ((w >>= λ _. z >>= λ _. x >>= λ t. y >>= λ n. u >>= λ _. v >>= λ _. ok (both-trees t n)) >>= λ t. f (t .base) (t .added))
-      go (refused n l k) z x y u v f = refl
-      go (ok e) (refused n l k) x y u v f = refl
-      go (ok e) (ok g) (refused n l k) y u v f = refl
-      go (ok e) (ok g) (ok t) (refused n l k) u v f = refl
-      go (ok e) (ok g) (ok t) (ok m) (refused n l k) v f = refl
-      go (ok e) (ok g) (ok t) (ok m) (ok j) (refused n l k) f = refl
-      go (ok e) (ok g) (ok t) (ok m) (ok j) (ok q) f = refl
+      go : (w z : Answer (Unit {0})) (x y : Answer (Forest Field)) (u v s : Answer (Unit {0})) (f : Forest Field → Forest Field → Answer Result)
+          → (w >>= λ _. z >>= λ _. x >>= λ t. y >>= λ n. u >>= λ _. v >>= λ _. s >>= λ _. f t n) ≡ ((w >>= λ _. z >>= λ _. x >>= λ t. y >>= λ n. u >>= λ _. v >>= λ _. s >>= λ _. ok (both-trees t n)) >>= λ t. f (t .base) (t .added))
+      go (refused n l k) z x y u v s f = refl
+      go (ok e) (refused n l k) x y u v s f = refl
+      go (ok e) (ok g) (refused n l k) y u v s f = refl
+      go (ok e) (ok g) (ok t) (refused n l k) u v s f = refl
+      go (ok e) (ok g) (ok t) (ok m) (refused n l k) v s f = refl
+      go (ok e) (ok g) (ok t) (ok m) (ok j) (refused n l k) s f = refl
+      go (ok e) (ok g) (ok t) (ok m) (ok j) (ok q) (refused n l k) f = refl
+      go (ok e) (ok g) (ok t) (ok m) (ok j) (ok q) (ok i) f = refl
 
   module _ (w : Opened) (o : Opens l lists (length out) (length text) w) where
     pub open-stops : (y : Refusal) → w ≡ it.Refused y → Ends-so (changed.Refused y) out text
@@ -181,16 +186,16 @@ module _ (l : Trees) (lists : Lists) (last : ℕ) (out text : List ℕ) where
           goes-at : entry ≡ carried g base added
           goes-at = goes ∙ ap (λ (z : ℕ). carried z base added) (sym (eg .0))
 
-          module _ (y : Decided) (decisions′ : List (List ℕ)) (v : Settles l lists g y decisions′) where
+          module _ (y : Decided) (decisions′ : List (List ℕ)) (marks′ : List ℕ) (v : Settles l lists g y decisions′ marks′) where
             pub decide-stops : (f : Refusal) → y ≡ decided.Refused f → Ends-so (changed.Refused f) out text
             unfolding update _>>=_
             decide-stops f z = refuses _ f buffers (goes-at ∙ rw (v .refusal base added (opened-as .passed .read) f z))
 
             module _ (consumed : ℕ) (z : y ≡ decided.Last consumed) (given : Given) (eg′ : given ≡ given-in l lists consumed) where
-              the-plan : Settled l lists g base added decisions′ consumed
+              the-plan : Settled l lists g base added decisions′ marks′ consumed
               the-plan = v .accepted base added (opened-as .passed .read) consumed z
 
-              pub write-asks : Rebuildable l (lists .identifiers) given roots decisions′ plan′ index out text
+              pub write-asks : Rebuildable l (lists .identifiers) given roots decisions′ marks′ plan′ index out text
               write-asks =
                   let w = rooms-of (length out) (length text) (opened-as .rooms) in
                   let f = deletions-most _ _ true (sym (opened-as .passed .limits 0 0 0)) refl in
@@ -207,6 +212,9 @@ module _ (l : Trees) (lists : Lists) (last : ℕ) (out text : List ℕ) where
                     few = identifiers-most _ _ true (sym (opened-as .passed .limits 0 0 0)) refl;
                     few-drops = omega arith;
                     resolved = the-plan .resolved;
+                    edits = the-plan .edits;
+                    carries = the-plan .carries;
+                    unmarked = v .unmarked;
                     plan-room = b .roomy;
                     index-room = b .rooms;
                     records-room = w .0;
@@ -215,10 +223,10 @@ module _ (l : Trees) (lists : Lists) (last : ℕ) (out text : List ℕ) where
 
               abbrev paper-tree : Forest Field
               paper-tree =
-                  rebuilt id-of kind-of (row-ids (drops-in decisions′) (entries (lists .deletions)))
-                  (arrivals with-id g (parents-in (unders-in decisions′) (entries (lists .additions))) added) none true base
+                  rebuilt id-of kind-of (row-ids (drops-in decisions′) (entries 8 (lists .deletions)))
+                  (arrivals with-id g (parents-in (unders-in decisions′) (entries 8 (lists .additions))) added) none true (edited-tree (the-plan .edits) base)
 
-              tree-is : rebuilt-tree l (given-in l lists consumed) decisions′ base ≡ paper-tree
+              tree-is : rebuilt-tree l (given-in l lists consumed) decisions′ (the-plan .edits) base ≡ paper-tree
               unfolding rebuilt-tree
               tree-is = rw (the-plan .arrive)
 
@@ -229,9 +237,9 @@ module _ (l : Trees) (lists : Lists) (last : ℕ) (out text : List ℕ) where
                   rw (the-plan .is)
                   (end-joined (rebuilt-within (within paper-tree)) (sound 4 paper-tree (id-list (lists .identifiers))) (record { tree = paper-tree; last = consumed }) (λ u. ok (result-of u)))
 
-              pub all-written : (r : Changed) (out′ text′ : List ℕ) → Ends l (lists .identifiers) given decisions′ out text r out′ text′ → Ends-so r out′ text′
+              pub all-written : (r : Changed) (out′ text′ : List ℕ) → Ends l (lists .identifiers) given decisions′ marks′ out text r out′ text′ → Ends-so r out′ text′
               all-written r out′ text′ n =
-                  rw (goes-at ∙ carried-is) (rw tree-is at ((rw eg′ at n) .ends base (read-as .base-read)))
+                  rw (goes-at ∙ carried-is) (rw tree-is at ((rw eg′ at n) .ends base (read-as .base-read) (the-plan .edits) (the-plan .carries)))
 
 -- The table of decisions, fresh.
 pub fresh-decisions : DecisionsRoom (replicate 4 (replicate 64 0))

@@ -83,15 +83,15 @@ fn decide<'a>(
             place: 0,
         });
     }
-    let decided = decide_changes(trees, lists, given, plan, index, decisions);
-    if let Decided::Refused(r) = decided {
-        return Decided::Refused(r);
+    match decide_changes(trees, lists, given, plan, index, decisions) {
+        Decided::Refused(r) => Decided::Refused(r),
+        Decided::Last(consumed) => {
+            match edit_columns(trees, given, plan, index, decisions, marks) {
+                Check::Refused(r) => Decided::Refused(r),
+                Check::Fine => Decided::Last(consumed),
+            }
+        }
     }
-    let edited = edit_columns(trees, given, plan, index, decisions, marks);
-    if let Check::Refused(r) = edited {
-        return Decided::Refused(r);
-    }
-    decided
 }
 
 // Updates a schema: drops, adds and edits columns, rebuilds it. On a refusal no byte changes.

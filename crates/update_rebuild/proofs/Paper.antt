@@ -8,8 +8,8 @@ use native.Mathlib.Omega.{arith}
 use borrow.Author.Tests.{lt-ltb, le-ltb}
 use Rattle.paper.specs.Answer.{ok, among}
 use Rattle.paper.specs.Forest.{Forest, empty, node, size, mapped}
-use Rattle.paper.specs.Field.{id-of, kind-of, with-id}
-use Rattle.paper.specs.Bytes.{kids-at, field-at}
+use Rattle.paper.specs.Field.{Field, id-of, kind-of, with-id}
+use Rattle.paper.specs.Bytes.{turned, rec-at, kids-at, kind-at, field-at}
 use Rattle.paper.specs.Layout.{Part, roots}
 use Rattle.paper.specs.Decode.{fields}
 use Rattle.paper.specs.Rebuild.{Addition, fresh, rebuilt}
@@ -23,49 +23,40 @@ use Rattle.plan.specs.Plan.{Source, source-field, planned-field}
 use Rattle.update_rebuild.specs.Sources.{base-source, added-source, source-id, source-kind, rebuilt-row, rebuilt-base}
 
 module _ (l : Trees) where
-  -- ---- a source is its record
-
-  base-field : (k : ℕ) → k < 1024 → planned-field l (base-source (l .records) k) ≡ field-at (l .pool) (l .records) k
-  unfolding planned-field source-field field-at
-  base-field k h = rw (lt-ltb k 1024 h)
-
-  source-id-is : (a : Source) → source-id a ≡ id-of (planned-field l a)
-  unfolding planned-field
-  source-id-is a = refl
-
-  source-kind-is : (k : ℕ) → k < 1024 → source-kind (l .records) (base-source (l .records) k) ≡ kind-of (planned-field l (base-source (l .records) k))
-  unfolding field-at
-  source-kind-is k h = ap kind-of (sym (base-field k h))
-
-  added-field : (i k : ℕ) → i < 4294967296 → planned-field l (added-source i k) ≡ with-id i (field-at (l .request-pool) (l .added-records) k)
-  unfolding planned-field source-field
-  added-field i k h = let e : 1024 + k - 1024 ≡ k = omega arith in rw (le-ltb (1024 + k) 1024 (omega arith), e, turned-twice i h)
-
   -- ---- an added tree
 
-  pub fresh-fields : (c : ℕ) (t : Forest ℕ) → c + size t ≤ 4294967296 → mapped (planned-field l) (fresh added-source c t) ≡ fresh with-id c (fields (l .request-pool) (l .added-records) t)
+  added-field : (i k : ℕ) → i < 4294967296 → k < 1024 → planned-field l (added-source i k) ≡ with-id i (field-at (l .request-pool) (l .added-records) k)
+  unfolding planned-field source-field
+  added-field i k h b = let e : 1024 + k - 1024 ≡ k = omega arith in rw (le-ltb (1024 + k) 1024 (omega arith), lt-ltb (1024 + k) 2048 (omega arith), e, turned-twice i h)
+
+  pub fresh-fields : (c : ℕ) (t : Forest ℕ) → c + size t ≤ 4294967296 → Each (λ k. k < 1024) t → mapped (planned-field l) (fresh added-source c t) ≡ fresh with-id c (fields (l .request-pool) (l .added-records) t)
   unfolding fields mapped fresh size
-  fresh-fields c empty h = refl
-  fresh-fields c (node k m n) h = rw (added-field c k (omega arith), fresh-fields (suc c) m (omega arith), fresh-fields (suc (c + size m)) n (omega arith), size-fields m)
+  fresh-fields c empty h b = refl
+  fresh-fields c (node k m n) h b = rw (added-field c k (omega arith) (b .0), fresh-fields (suc c) m (omega arith) (b .1), fresh-fields (suc (c + size m)) n (omega arith) (b .2), size-fields m)
     where
       size-fields : (t : Forest ℕ) → size (mapped (field-at (l .request-pool) (l .added-records)) t) ≡ size t
       size-fields empty = refl
       size-fields (node j a b) = rw (size-fields a, size-fields b)
 
-  -- ---- the base
+-- ---- the base
 
-  pub rebuilt-fields : (n : ℕ) (p : Part) (ds ds′ : List ℕ) (adds : List (Addition Source)) → n ≤ 1024 → roots 0 (kids-at (l .records)) n n 0 ≡ ok p → ((x : ℕ) → among x ds ≡ among x ds′)
-      → mapped (planned-field l) (rebuilt-base (l .records) n ds adds) ≡ rebuilt id-of kind-of ds′ (mapped-all (planned-field l) adds) none true (fields (l .pool) (l .records) (p .trees))
-  unfolding rebuilt-base rebuilt-row fields
-  rebuilt-fields n p ds ds′ adds h e drops =
-      let s = l .records in
-      let g = planned-field l in
-      let t = p .trees in
-      let small : Each (λ j. j < n) t = each-slot (kids-at s) n 0 t (roots-take 0 (kids-at s) n n 0 p e .laid) in
-      let asked : Each (λ a. (source-id a ≡ id-of (g a)) × (source-kind s a ≡ kind-of (g a))) (mapped (base-source s) t)
-      = each-mapped _ (base-source s) t (each-more _ _ (λ k i. (source-id-is (base-source s k), source-kind-is k (omega arith))) t small) in
-      let there : mapped g (mapped (base-source s) t) ≡ mapped (field-at (l .pool) s) t
-      = mapped-mapped (base-source s) g t ∙ mapped-same (λ k. g (base-source s k)) (field-at (l .pool) s) t (each-more _ _ (λ k i. base-field k (omega arith)) t small) in
-      rw e (ap (mapped g) (rebuilt-same source-id (λ a. id-of (g a)) (source-kind s) (λ a. kind-of (g a)) ds ds′ adds drops none true (mapped (base-source s) t) asked)
-      ∙ sym (rebuilt-mapped g id-of kind-of ds′ adds none true (mapped (base-source s) t))
-      ∙ ap (rebuilt id-of kind-of ds′ (mapped-all g adds) none true) there)
+-- What stands for each slot: a field, with the slot's own id and kind.
+pub record StandsFor (s : List ℕ) (n : ℕ) (g : Source → Field) (f : ℕ → Field) : Type 0 where
+  pub field : (k : ℕ) → k < n → g (base-source s k) ≡ f k
+  pub id : (k : ℕ) → k < n → turned (rec-at s k .id) ≡ f k .id
+  pub kind : (k : ℕ) → k < n → kind-at s k ≡ f k .kind
+
+pub rebuilt-fields : (s : List ℕ) (n : ℕ) (g : Source → Field) (f : ℕ → Field) (p : Part) (ds ds′ : List ℕ) (adds : List (Addition Source))
+    → StandsFor s n g f → roots 0 (kids-at s) n n 0 ≡ ok p → ((x : ℕ) → among x ds ≡ among x ds′)
+    → mapped g (rebuilt-base s n ds adds) ≡ rebuilt id-of kind-of ds′ (mapped-all g adds) none true (mapped f (p .trees))
+unfolding rebuilt-base rebuilt-row
+rebuilt-fields s n g f p ds ds′ adds h e drops =
+    let t = p .trees in
+    let small : Each (λ j. j < n) t = each-slot (kids-at s) n 0 t (roots-take 0 (kids-at s) n n 0 p e .laid) in
+    let asked : Each (λ a. (source-id a ≡ id-of (g a)) × (source-kind s a ≡ kind-of (g a))) (mapped (base-source s) t)
+    = each-mapped _ (base-source s) t (each-more _ _ (λ k i. (h .id k i ∙ sym (ap id-of (h .field k i)), h .kind k i ∙ sym (ap kind-of (h .field k i)))) t small) in
+    let there : mapped g (mapped (base-source s) t) ≡ mapped f t
+    = mapped-mapped (base-source s) g t ∙ mapped-same (λ k. g (base-source s k)) f t (each-more _ _ (λ k i. h .field k i) t small) in
+    rw e (ap (mapped g) (rebuilt-same source-id (λ a. id-of (g a)) (source-kind s) (λ a. kind-of (g a)) ds ds′ adds drops none true (mapped (base-source s) t) asked)
+    ∙ sym (rebuilt-mapped g id-of kind-of ds′ adds none true (mapped (base-source s) t))
+    ∙ ap (rebuilt id-of kind-of ds′ (mapped-all g adds) none true) there)

@@ -19,8 +19,11 @@ use Rattle.paper.specs.Bytes.{turned, kids-at, field-at, in-pool, from}
 use Rattle.paper.specs.Decode.{fields}
 use Rattle.paper.specs.Layout.{Part, before, nothing, row}
 use Rattle.paper.specs.Lists.{parent-path}
+use Rattle.record_entries.specs.declared.PathList.the-variants.{Additions}
 use Rattle.paper.specs.Update.{placed, Placed, placed-all}
 use Rattle.laws.proofs.Fitting.{lowest-none, size-mapped}
+use Rattle.laws.proofs.Pointwise.{Each, each-more, each-slot}
+use Rattle.laws.proofs.Taken.{row-take}
 use Rattle.laws.proofs.Runs.{from-step, from-done, from-append, from-same}
 use Rattle.record.specs.declared.Refusal.{Refusal}
 use Rattle.tree.specs.Read.{part, reads, Standing}
@@ -117,7 +120,7 @@ pub record Placing (t : Forest Field) (ds request added additions : List ℕ) (t
   pub under : (j : ℕ) → j < k → getD us j 0 ≤ 4294967296
   pub first : (j : ℕ) → j < k → getD fs j 0 ≤ m
   pub tree : (j : ℕ) → j < k → reads 1 (kids-at added) m 16 1 (getD fs j 0) ≡ true
-  pub arrive : (pool base : List ℕ) (qs : List (Option ℕ)) → arrivals with-id last (parents-in us k ++ qs) (fields request added (part 1 (kids-at added) m 16 total 0 .trees)) ≡ mapped-all (planned-field (lent-trees base pool added request)) (from (addition-at added m us fs st) 0 k) ++ arrivals with-id end qs (fields request added (part 1 (kids-at added) m 16 (total - k) slot .trees))
+  pub arrive : (pool base edits : List ℕ) (qs : List (Option ℕ)) → arrivals with-id last (parents-in us k ++ qs) (fields request added (part 1 (kids-at added) m 16 total 0 .trees)) ≡ mapped-all (planned-field (lent-trees base pool added request edits)) (from (addition-at added m us fs st) 0 k) ++ arrivals with-id end qs (fields request added (part 1 (kids-at added) m 16 (total - k) slot .trees))
   pub goes : (r : Placed) → rest t ds request added additions total m end k slot ≡ ok r → all-placed t ds request added additions total m last ≡ ok (record { parents = parents-in us k ++ r .parents; last = r .last })
   pub stops : (i j s : ℕ) → rest t ds request added additions total m end k slot ≡ refused i j s → all-placed t ds request added additions total m last ≡ refused i j s
 
@@ -132,14 +135,14 @@ place-starts t ds request added additions total m last us fs st h b =
       under = λ j c. absurd (omega arith);
       first = λ j c. absurd (omega arith);
       tree = λ j c. absurd (omega arith);
-      arrive = λ pool base qs. rw z;
+      arrive = λ pool base edits qs. rw z;
       goes = λ r e. rw z at e;
       stops = λ i j s e. rw z at e;
     }
 
 module _ (t : Forest Field) (ds request added additions : List ℕ) (total m last k slot end : ℕ) (us fs st : List ℕ) (H : Placing t ds request added additions total m last k slot end us fs st) where
-  arrive-none : (pool base : List ℕ) → mapped-all (planned-field (lent-trees base pool added request)) (from (addition-at added m us fs st) 0 k) ++ arrivals with-id end [] (fields request added (part 1 (kids-at added) m 16 (total - k) slot .trees)) ≡ mapped-all (planned-field (lent-trees base pool added request)) (from (addition-at added m us fs st) 0 k)
-  arrive-none pool base = ap (λ (z : List (Addition Field)). mapped-all (planned-field (lent-trees base pool added request)) (from (addition-at added m us fs st) 0 k) ++ z) (arrivals-none end _) ∙ append-nil _
+  arrive-none : (pool base edits : List ℕ) → mapped-all (planned-field (lent-trees base pool added request edits)) (from (addition-at added m us fs st) 0 k) ++ arrivals with-id end [] (fields request added (part 1 (kids-at added) m 16 (total - k) slot .trees)) ≡ mapped-all (planned-field (lent-trees base pool added request edits)) (from (addition-at added m us fs st) 0 k)
+  arrive-none pool base edits = ap (λ (z : List (Addition Field)). mapped-all (planned-field (lent-trees base pool added request edits)) (from (addition-at added m us fs st) 0 k) ++ z) (arrivals-none end _) ∙ append-nil _
 
   pub place-ends : total ≤ k → PlacesAll t ds request added additions total m last (decided.Last end) us fs st
   unfolding sources.additions
@@ -147,11 +150,11 @@ module _ (t : Forest Field) (ds request added additions : List ℕ) (total m las
       let w = H .within in
       let e : k ≡ total = omega arith in
       let z = H .goes (record { parents = []; last = end }) (ap (λ (y : List (Option (List ℕ))). placed-all t ds end k y (fields request added (part 1 (kids-at added) m 16 (total - k) slot .trees))) (from-done (parent-path request additions) k total l) ∙ none-left t ds end k _) in
-      record { by = record { is = z ∙ rw (append-nil (parents-in us k), e); most = H .most; under = rw e at (H .under); first = rw e at (H .first); tree = rw e at (H .tree); arrive = λ pool base. arrived pool base e l } }
+      record { by = record { is = z ∙ rw (append-nil (parents-in us k), e); most = H .most; under = rw e at (H .under); first = rw e at (H .first); tree = rw e at (H .tree); arrive = λ pool base edits. arrived pool base edits e l } }
     where
-      arrived : (pool base : List ℕ) → k ≡ total → total ≤ k → mapped-all (planned-field (lent-trees base pool added request)) (sources.additions added m us fs st total) ≡ arrivals with-id last (parents-in us total) (fields request added (part 1 (kids-at added) m 16 total 0 .trees))
-      arrived pool base e l =
-          sym (subst (λ (i : ℕ). arrivals with-id last (parents-in us i) (fields request added (part 1 (kids-at added) m 16 total 0 .trees)) ≡ mapped-all (planned-field (lent-trees base pool added request)) (from (addition-at added m us fs st) 0 i)) e (ap (λ (z : List (Option ℕ)). arrivals with-id last z (fields request added (part 1 (kids-at added) m 16 total 0 .trees))) (sym (append-nil (parents-in us k))) ∙ H .arrive pool base [] ∙ arrive-none pool base))
+      arrived : (pool base edits : List ℕ) → k ≡ total → total ≤ k → mapped-all (planned-field (lent-trees base pool added request edits)) (sources.additions added m us fs st total) ≡ arrivals with-id last (parents-in us total) (fields request added (part 1 (kids-at added) m 16 total 0 .trees))
+      arrived pool base edits e l =
+          sym (subst (λ (i : ℕ). arrivals with-id last (parents-in us i) (fields request added (part 1 (kids-at added) m 16 total 0 .trees)) ≡ mapped-all (planned-field (lent-trees base pool added request edits)) (from (addition-at added m us fs st) 0 i)) e (ap (λ (z : List (Option ℕ)). arrivals with-id last z (fields request added (part 1 (kids-at added) m 16 total 0 .trees))) (sym (append-nil (parents-in us k))) ∙ H .arrive pool base edits [] ∙ arrive-none pool base edits))
 
   module _ (l : k < total) where
     pub column-here : Columns request added additions total m → Standing 1 added m 15 slot
@@ -165,7 +168,7 @@ module _ (t : Forest Field) (ds request added additions : List ℕ) (total m las
         let th = c .there in
         let wh = c .whole in
         let ef = h .entries .few in
-        let e = entry-here request additions total k (h .entries) l in
+        let e = entry-here Additions request additions total k (h .entries) l in
         record { few = omega arith; entry = e .0; pathed = e .1; column = omega arith; named = lowest-none (in-pool (length request) added) 0 m (h .named) slot (omega arith) (omega arith) }
 
     abbrev inner : Part
@@ -221,30 +224,37 @@ module _ (t : Forest Field) (ds request added additions : List ℕ) (total m las
       spot-joined : (r : Placed) → k < length us → _≡_ {A = Placed} (record { parents = parents-in us k ++ (parent (s .under) ∷ r .parents); last = r .last }) (record { parents = parents-in (set us k (s .under)) (k + 1) ++ r .parents; last = r .last })
       spot-joined r b = ap (λ (z : List (Option ℕ)). record { parents = z; last = r .last }) (sym (ap (λ (z : List (Option ℕ)). z ++ r .parents) (parents-more us k (s .under) b) ∙ append-assoc (parents-in us k) (parent (s .under) ∷ []) (r .parents)))
 
-      -- the column, with its ids
-      column-tree : (pool base : List ℕ) → mapped (planned-field (lent-trees base pool added request)) (added-tree added m slot (s .start)) ≡ fresh with-id (suc end) (node (field-at request added slot) (fields request added (inner .trees)) empty)
-      unfolding added-tree column-size
-      column-tree pool base =
+      -- its slots are below 1,024
+      below : Each (λ k. k < 1024) (node slot (inner .trees) empty)
+      below =
           let th = column-here h .there in
-          let g = planned-field (lent-trees base pool added request) in
+          let small = h .small in
+          each-more _ _ (λ k b. omega arith) (node slot (inner .trees) empty) (each-slot (kids-at added) m slot (node slot (inner .trees) empty) (row-take 1 (kids-at added) m 16 1 slot (before slot inner (nothing (inner .next))) (row-alone th) .took .laid))
+
+      -- the column, with its ids
+      column-tree : (pool base edits : List ℕ) → mapped (planned-field (lent-trees base pool added request edits)) (added-tree added m slot (s .start)) ≡ fresh with-id (suc end) (node (field-at request added slot) (fields request added (inner .trees)) empty)
+      unfolding added-tree column-size
+      column-tree pool base edits =
+          let th = column-here h .there in
+          let g = planned-field (lent-trees base pool added request edits) in
           let e = d .end in
           let b = d .most in
           let id : turned (s .start) ≡ suc end = ap turned (d .start) ∙ turned-twice (suc end) (omega arith) in
           let one : part 1 (kids-at added) m 16 1 slot .trees ≡ node slot (inner .trees) empty = ap (λ (p : Part). p .trees) (part-is 1 (kids-at added) m 16 1 slot (before slot inner (nothing (inner .next))) (row-alone th)) in
-          ap₂ (λ (i : ℕ) (z : Forest ℕ). mapped g (fresh added-source i z)) id one ∙ fresh-fields (lent-trees base pool added request) (suc end) (node slot (inner .trees) empty) (size-node (omega arith)) ∙ ap (fresh with-id (suc end)) (fields-node slot (inner .trees))
+          ap₂ (λ (i : ℕ) (z : Forest ℕ). mapped g (fresh added-source i z)) id one ∙ fresh-fields (lent-trees base pool added request edits) (suc end) (node slot (inner .trees) empty) (size-node (omega arith)) below ∙ ap (fresh with-id (suc end)) (fields-node slot (inner .trees))
 
-      arrive-on : (pool base : List ℕ) (qs : List (Option ℕ)) → k < length us → k < length fs → k < length st
+      arrive-on : (pool base edits : List ℕ) (qs : List (Option ℕ)) → k < length us → k < length fs → k < length st
           → arrivals with-id last (parents-in (set us k (s .under)) (k + 1) ++ qs) (fields request added (part 1 (kids-at added) m 16 total 0 .trees))
-          ≡ mapped-all (planned-field (lent-trees base pool added request)) (from (addition-at added m (set us k (s .under)) (set fs k slot) (set st k (s .start))) 0 (k + 1)) ++ arrivals with-id (s .last) qs (fields request added (part 1 (kids-at added) m 16 (total - (k + 1)) (s .next) .trees))
+          ≡ mapped-all (planned-field (lent-trees base pool added request edits)) (from (addition-at added m (set us k (s .under)) (set fs k slot) (set st k (s .start))) 0 (k + 1)) ++ arrivals with-id (s .last) qs (fields request added (part 1 (kids-at added) m 16 (total - (k + 1)) (s .next) .trees))
       unfolding fields mapped
-      arrive-on pool base qs lu lf ls =
-          let g = planned-field (lent-trees base pool added request) in
+      arrive-on pool base edits qs lu lf ls =
+          let g = planned-field (lent-trees base pool added request edits) in
           let q = parent (s .under) in
           let old = mapped-all g (from (addition-at added m us fs st) 0 k) in
           ap (λ (z : List (Option ℕ)). arrivals with-id last z (fields request added (part 1 (kids-at added) m 16 total 0 .trees))) (ap (λ (z : List (Option ℕ)). z ++ qs) (parents-more us k (s .under) lu) ∙ append-assoc (parents-in us k) (q ∷ []) qs)
-          ∙ H .arrive pool base (q ∷ qs)
+          ∙ H .arrive pool base edits (q ∷ qs)
           ∙ ap (λ (z : Part). old ++ arrivals with-id end (q ∷ qs) (fields request added (z .trees))) (part-in 1 (kids-at added) m 16 (total - k) slot (H .read) (kids-at added slot) (λ z. omega arith) refl)
-          ∙ ap (λ (z : List (Addition Field)). old ++ z) (arrivals-step end q qs (field-at request added slot) (fields request added (inner .trees)) (fields request added (part 1 (kids-at added) m 16 (total - k - 1) (inner .next) .trees)) ∙ rw (end-is, next-is, left-is, ← (column-tree pool base)))
+          ∙ ap (λ (z : List (Addition Field)). old ++ z) (arrivals-step end q qs (field-at request added slot) (fields request added (inner .trees)) (fields request added (part 1 (kids-at added) m 16 (total - k - 1) (inner .next) .trees)) ∙ rw (end-is, next-is, left-is, ← (column-tree pool base edits)))
           ∙ sym (append-assoc old (record { parent = q; tree = mapped g (added-tree added m slot (s .start)) } ∷ []) (arrivals with-id (s .last) qs (fields request added (part 1 (kids-at added) m 16 (total - (k + 1)) (s .next) .trees))))
           ∙ ap (λ (z : List (Addition Field)). z ++ arrivals with-id (s .last) qs (fields request added (part 1 (kids-at added) m 16 (total - (k + 1)) (s .next) .trees))) (sym (ap (mapped-all g) (adds-more added m us fs st k (s .under) slot (s .start) lu lf ls) ∙ all-append g (from (addition-at added m us fs st) 0 k) (record { parent = q; tree = added-tree added m slot (s .start) } ∷ [])))
 
@@ -262,7 +272,7 @@ module _ (t : Forest Field) (ds request added additions : List ℕ) (total m las
             under = stored (λ v. v ≤ 4294967296) us k (s .under) (omega arith) (H .under) (d .under);
             first = stored (λ v. v ≤ m) fs k slot (omega arith) (H .first) (omega arith);
             tree = stored (λ v. reads 1 (kids-at added) m 16 1 v ≡ true) fs k slot (omega arith) (H .tree) (alone th);
-            arrive = λ pool base qs. arrive-on pool base qs (omega arith) (omega arith) (omega arith);
+            arrive = λ pool base edits qs. arrive-on pool base edits qs (omega arith) (omega arith) (omega arith);
             goes = λ r e. H .goes (joined (parent (s .under)) r) (onward (ok r) e ∙ bind-is (ok r) _ r refl) ∙ ap ok (spot-joined r (omega arith));
             stops = λ i j v e. H .stops i j v (onward (refused i j v) e ∙ bind-not (refused i j v) _ i j v refl);
           }

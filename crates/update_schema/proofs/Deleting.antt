@@ -13,7 +13,10 @@ use Rattle.paper.specs.Forest.{Forest}
 use Rattle.paper.specs.Field.{Field}
 use Rattle.paper.specs.Rows.{Row, look-name}
 use Rattle.paper.specs.Bytes.{turned, from}
-use Rattle.paper.specs.Lists.{path-of, path-in}
+use Rattle.paper.specs.Lists.{path-of}
+use Rattle.record_entries.specs.declared.PathList.{PathList}
+use Rattle.record_entries.specs.Rule.{width-of, inside-of}
+use Rattle.record_entries.proofs.Entries.{entry-whole}
 use Rattle.paper.specs.Update.{deleted}
 use Rattle.laws.proofs.Fitting.{lowest-none}
 use Rattle.laws.proofs.Words.{turned-twice}
@@ -83,8 +86,10 @@ one-dropped P (some r) ids k x h e f = go (among (r .field .id) ids) refl e f
 
 -- ---- the loop
 
-pub entry-here : (request entries : List ℕ) (total k : ℕ) → Entries request entries total → k < total → (k * 8 + 8 ≤ length entries) × (path-in (length request) entries k ≡ true)
-entry-here request entries total k h l = let w = h .whole in (omega arith, lowest-none (path-in (length request) entries) 0 total (h .pathed) k (omega arith) (omega arith))
+pub entry-here : (list : PathList) (request entries : List ℕ) (total k : ℕ) → Entries list request entries total → k < total
+    → (k * width-of list + width-of list ≤ length entries) × (inside-of list (length request) entries k ≡ true)
+entry-here list request entries total k h l =
+    (entry-whole list total k (length entries) (h .whole) l, lowest-none (inside-of list (length request) entries) 0 total (h .pathed) k (omega arith) (omega arith))
 
 abbrev rest : (t : Forest Field) (ids request deletions : List ℕ) (total k : ℕ) → Answer (List ℕ)
 rest t ids request deletions total k = deleted t ids k (from (path-of request deletions) k (total - k))

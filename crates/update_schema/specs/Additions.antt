@@ -15,6 +15,7 @@ use Rattle.paper.specs.Decode.{fields}
 use Rattle.paper.specs.Lists.{parent-path}
 use Rattle.paper.specs.Update.{placed, Placed, placed-all}
 use Rattle.record.specs.Says.{refusal-of}
+use Rattle.record_entries.specs.declared.PathList.the-variants.{Additions}
 use Rattle.tree.specs.Read.{part, reads}
 use Rattle.paper.specs.Rebuild.{arrivals}
 use Rattle.laws.proofs.Natural.{mapped-all}
@@ -71,7 +72,7 @@ pub record OneSpotted (t : Forest Field) (dropped request added additions : List
 
 -- The m added records of which so many roots were read, one for each entry.
 pub record Columns (request added additions : List ℕ) (total m : ℕ) : Type 0 where
-  pub entries : Entries request additions total
+  pub entries : Entries Additions request additions total
   pub whole : m * 24 ≤ length added
   pub small : m ≤ 1024
   pub read : reads 1 (kids-at added) m 16 total 0 ≡ true
@@ -92,7 +93,7 @@ pub record Placings (a : Answer Placed) (request added : List ℕ) (total m give
   pub under : (j : ℕ) → j < total → getD unders j 0 ≤ 4294967296
   pub first : (j : ℕ) → j < total → getD firsts j 0 ≤ m
   pub tree : (j : ℕ) → j < total → reads 1 (kids-at added) m 16 1 (getD firsts j 0) ≡ true
-  pub arrive : (pool base : List ℕ) → mapped-all (planned-field (lent-trees base pool added request)) (additions added m unders firsts starts total) ≡ arrivals with-id given (parents-in unders total) (fields request added (part 1 (kids-at added) m 16 total 0 .trees))
+  pub arrive : (pool base edits : List ℕ) → mapped-all (planned-field (lent-trees base pool added request edits)) (additions added m unders firsts starts total) ≡ arrivals with-id given (parents-in unders total) (fields request added (part 1 (kids-at added) m 16 total 0 .trees))
 
 abbrev pub PlacesBy : Decided → Answer Placed → (request added : List ℕ) (total m given : ℕ) (unders firsts starts : List ℕ) → Type 0
 PlacesBy (decided.Last e) a request added total m given unders firsts starts = Placings a request added total m given e unders firsts starts

@@ -13,6 +13,8 @@ use Rattle.paper.specs.Lists.{path-in}
 use Rattle.paper.specs.Sound.{ids}
 use Rattle.laws.proofs.Basics.{Distinct}
 use Rattle.record.specs.Trees.{Trees}
+use Rattle.record_entries.specs.declared.PathList.{PathList}
+use Rattle.record_entries.specs.Rule.{width-of, inside-of}
 use Rattle.plan.specs.Plan.{plan-fields, Plan}
 use Rattle.plan.specs.Table.{sources, numbers, members}
 use Rattle.update_rebuild.specs.Planned.{drops-in, unders-in, firsts-in, starts-in}
@@ -28,11 +30,11 @@ pub record Based (l : Trees) (xs is ks : List ℕ) (n : ℕ) : Type 0 where
   pub named : lowest (in-pool (length (l .pool)) (l .records)) 0 n ≡ none
   pub own : Distinct (ids (plan-fields l xs is ks n))
 
--- So many entries, whose paths are in the request pool.
-pub record Entries (request entries : List ℕ) (total : ℕ) : Type 0 where
-  pub whole : total * 8 ≤ length entries
+-- So many entries of a list, and what they point to is in the request pool.
+pub record Entries (list : PathList) (request entries : List ℕ) (total : ℕ) : Type 0 where
+  pub whole : total * width-of list ≤ length entries
   pub few : total ≤ 64
-  pub pathed : lowest (path-in (length request) entries) 0 total ≡ none
+  pub pathed : lowest (inside-of list (length request) entries) 0 total ≡ none
 
 -- The addition k, with its path in the request pool, and its column at a slot of the additions tree.
 pub record Addition (request added additions : List ℕ) (k slot : ℕ) : Type 0 where

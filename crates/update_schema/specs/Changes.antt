@@ -8,6 +8,7 @@ use Rattle.paper.specs.Forest.{Forest}
 use Rattle.paper.specs.Field.{Field}
 use Rattle.paper.specs.Bytes.{from}
 use Rattle.paper.specs.Lists.{path-of, id-list}
+use Rattle.record_entries.specs.declared.PathList.the-variants.{Deletions}
 use Rattle.paper.specs.Update.{deleted, Placed}
 use Rattle.update_schema.specs.declared.Decided.{Decided}
 use Rattle.update_schema.specs.declared.Decided.the-variants as decided
@@ -33,7 +34,7 @@ pub record Asked (l : Trees) (lists : Lists) (given : Given) (plan index : List 
   pub based : BasedIn l plan (given .base)
   pub indexed : Index l plan (given .base) index
   pub identifiers-few : length (lists .identifiers) ≤ 256
-  pub deletions-there : Entries (l .request-pool) (lists .deletions) (given .deletions)
+  pub deletions-there : Entries Deletions (l .request-pool) (lists .deletions) (given .deletions)
   pub columns : ColumnsIn l (lists .additions) given
   pub low : given .last < 4294967296
 

@@ -14,6 +14,7 @@ use Rattle.paper.specs.Decode.{decode}
 use Rattle.paper.specs.Limits.{sized}
 use Rattle.paper.specs.Lists.{id-list}
 use Rattle.paper.specs.Sound.{sound, within}
+use Rattle.paper.specs.Edits.{Edited, edited-tree}
 use Rattle.paper.specs.Rebuild.{rebuilt}
 use Rattle.paper.specs.Entries.{Result}
 use Rattle.paper.specs.Outcome.{for-records, for-names, Answers}
@@ -24,6 +25,7 @@ use Rattle.record.specs.Trees.{Trees}
 use Rattle.plan.specs.Plan.{planned-field}
 use Rattle.plan.specs.Table.{Roomy}
 use Rattle.index_ids.specs.Table.{Rooms}
+use Rattle.update_edits.specs.Marks.{Unmarked, Carries}
 use Rattle.update_rebuild.specs.declared.Given.{Given}
 use Rattle.update_rebuild.specs.Planned.{drops-in, ResolvedIn, additions-in}
 use Rattle.update_dropped.specs.Gathered.{row-ids}
@@ -40,8 +42,9 @@ limited-sounded tree identifiers last = do
   rebuilt-within (within tree)
   sounded tree identifiers last
 
--- Both trees passed 2 to 6, the base with so many roots; the additions are resolved; the tables have their room; the buffers passed 1.
-pub record Rebuildable (l : Trees) (identifiers : List ℕ) (given : Given) (roots : ℕ) (decisions plan index : List (List ℕ)) (out-records out-names : List ℕ) : Type 0 where
+-- Both trees passed 2 to 6, the base with so many roots; the additions are resolved, and the marks carry edits; the tables have their
+-- room; the buffers passed 1.
+pub record Rebuildable (l : Trees) (identifiers : List ℕ) (given : Given) (roots : ℕ) (decisions : List (List ℕ)) (marks : List ℕ) (plan index : List (List ℕ)) (out-records out-names : List ℕ) : Type 0 where
   pub base : Forest Field
   pub added : Forest Field
   pub base-limits : sized (l .records) (l .pool) ≡ true
@@ -53,19 +56,22 @@ pub record Rebuildable (l : Trees) (identifiers : List ℕ) (given : Given) (roo
   pub few : length identifiers ≤ 256
   pub few-drops : given .deletions ≤ 64
   pub resolved : ResolvedIn (l .added-records) given decisions
+  pub edits : List Edited
+  pub carries : Carries l (given .base) marks edits
+  pub unmarked : given .edits ≡ 0 → Unmarked marks
   pub plan-room : Roomy plan
   pub index-room : Rooms index
   pub records-room : 24576 ≤ length out-records
   pub names-room : 32768 ≤ length out-names
 
 -- The base rebuilt by what was decided.
-unfoldable pub rebuilt-tree : Trees → Given → (decisions : List (List ℕ)) → (base : Forest Field) → Forest Field
-rebuilt-tree l given decisions base =
+unfoldable pub rebuilt-tree : Trees → Given → (decisions : List (List ℕ)) → List Edited → (base : Forest Field) → Forest Field
+rebuilt-tree l given decisions edits base =
     rebuilt id-of kind-of (row-ids (drops-in decisions) (given .deletions))
-    (mapped-all (planned-field l) (additions-in (l .added-records) given decisions)) none true base
+    (mapped-all (planned-field l) (additions-in (l .added-records) given decisions)) none true (edited-tree edits base)
 
--- It is what is answered and written.
-pub record Ends (l : Trees) (identifiers : List ℕ) (given : Given) (decisions : List (List ℕ)) (out-records out-names : List ℕ) (r : Changed) (out-records′ out-names′ : List ℕ) : Type 0 where
-  pub ends : (base : Forest Field) → decode 0 (l .records) (l .pool) ≡ ok base
-      → Answers changes (limited-sounded (rebuilt-tree l given decisions base) (id-list identifiers) (turned (given .last)))
+-- It is what is answered and written, with the edits that the marks carry.
+pub record Ends (l : Trees) (identifiers : List ℕ) (given : Given) (decisions : List (List ℕ)) (marks out-records out-names : List ℕ) (r : Changed) (out-records′ out-names′ : List ℕ) : Type 0 where
+  pub ends : (base : Forest Field) → decode 0 (l .records) (l .pool) ≡ ok base → (edits : List Edited) → Carries l (given .base) marks edits
+      → Answers changes (limited-sounded (rebuilt-tree l given decisions edits base) (id-list identifiers) (turned (given .last)))
       (for-records out-records ∷ for-names out-names ∷ []) r (out-records′ ∷ out-names′ ∷ [])

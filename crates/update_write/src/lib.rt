@@ -19,7 +19,14 @@ use update_rebuild::Decisions;
 use update_rebuild::Given;
 use update_rebuild::Step;
 use update_rebuild::rebuild;
+ghost use mathlib.Core.Path.{_≡_};
+ghost use Rattle.paper.specs.Forest.{mapped};
 ghost use Rattle.record.specs.Trees.{trees-in};
+ghost use Rattle.plan.specs.Table.{Roomy};
+ghost use Rattle.update_dropped.specs.Set.{dropped-ids, set-of, Good};
+ghost use Rattle.update_edits.specs.Marks.{Unmarked, remark};
+ghost use Rattle.update_rebuild.specs.Sources.{rebuilt-base};
+ghost use Rattle.update_rebuild.specs.Planned.{ResolvedIn, additions-in, Based, Rebuilds};
 ghost use Rattle.update_write.specs.Ending.{Rebuildable, Ends};
 
 // The base rebuilt, its columns as the edits leave them.
@@ -36,8 +43,8 @@ fn rebuild_edited<'a>(
     requires { ⌜ Based (trees-in (now trees) .records) (given .base) roots
         × Good (set-of (now dropped) drops)
         × ResolvedIn (trees-in (now trees) .added-records) given (now decisions)
-        × Roomy (now plan) × Marking given (now marks) ⌝ }
-    ensures { λ r. ⌜ Rebuilds (mapped (marked-source (now (marks .entry)))
+        × Roomy (now plan) × (given .edits ≡ 0 → Unmarked (now marks)) ⌝ }
+    ensures { λ r. ⌜ Rebuilds (mapped (remark (now (marks .entry)))
         (rebuilt-base (trees-in (now (trees .entry)) .records) (given .base)
         (dropped-ids (set-of (now (dropped .entry)) drops))
         (additions-in (trees-in (now (trees .entry)) .added-records) given
@@ -69,10 +76,10 @@ pub fn write_rebuilt<'a>(
     out_names: &mut [u8],
 ) -> Changed
     requires { ⌜ Rebuildable (trees-in (now trees)) (now identifiers) given roots (now decisions)
-        (now plan) (now index) (now «out_records») (now «out_names») ⌝ }
+        (now marks) (now plan) (now index) (now «out_records») (now «out_names») ⌝ }
     ensures { λ r. ⌜ Ends (trees-in (now (trees .entry))) (now (identifiers .entry)) given
-        (now (decisions .entry)) (now («out_records» .entry)) (now («out_names» .entry)) r
-        (now («out_records» .exit)) (now («out_names» .exit)) ⌝ }
+        (now (decisions .entry)) (now (marks .entry)) (now («out_records» .entry))
+        (now («out_names» .entry)) r (now («out_records» .exit)) (now («out_names» .exit)) ⌝ }
 {
     // plan
     let mut dropped = Dropped { ids: [0; 64], n: 0 };

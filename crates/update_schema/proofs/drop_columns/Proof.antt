@@ -29,7 +29,7 @@ drop-columns-spec =
     (λ c. search needs)  -- element-copy-out-deletions
     (λ c. (delete-starts _ _ _ _ _ _, c .before .pre .1))  -- loop-holds
     (λ c. search needs)  -- element-copy-out-path-at
-    (λ c κs. entry-here _ _ _ _ (c .before .before .before .before .before .pre .0 .deletions-there) (c .before .if1 .taken))  -- path-at-requires
+    (λ c κs. entry-here _ _ _ _ _ (c .before .before .before .before .before .pre .0 .deletions-there) (c .before .if1 .taken))  -- path-at-requires
     (λ c κs. search needs)  -- look-name-requires
     (λ c. search needs)  -- element-copy-out-drop-one
     (λ c. search needs)  -- cast-drop-one
