@@ -1,5 +1,5 @@
--- The rebuilt tree is a plan where it fits: its sources are slots of the two trees that were read. Where it does not fit it passes a limit.
--- Then the index answers 7 to 9 of it, and the writer leaves its bytes.
+-- The rebuilt tree is a plan where it fits: its sources are slots of the two trees that were read, as their marks leave them. Where it
+-- does not fit it passes a limit. Then the index answers 7 to 9 of it, and the writer leaves its bytes.
 use mathlib.Core.Path.{_≡_, refl, sym, ap, _∙_}
 use mathlib.Core.Bool.{Bool, true, false, not, _&&_}
 use mathlib.Core.List.{List, [], _∷_}
@@ -13,11 +13,12 @@ use lib.ListN.{length, getD}
 use Rattle.paper.specs.Answer.{ok, _>>=_}
 use Rattle.paper.specs.Forest.{Forest, empty, node, size, siblings, levels, mapped}
 use Rattle.paper.specs.Field.{Field}
-use Rattle.paper.specs.Bytes.{turned, kids-at, from}
+use Rattle.paper.specs.Bytes.{turned, kids-at, field-at, from}
+use Rattle.paper.specs.Edits.{Edited, edit-fields}
 use Rattle.paper.specs.Layout.{Part, roots}
 use Rattle.paper.specs.Decode.{fields, decode}
 use Rattle.paper.specs.Lists.{id-list}
-use Rattle.paper.specs.Rebuild.{fresh}
+use Rattle.paper.specs.Rebuild.{Addition, fresh}
 use Rattle.paper.specs.Sound.{name-bytes, within, sound}
 use Rattle.paper.specs.Outcome.{for-records, for-names, leaves}
 use Rattle.record.specs.declared.Refusal.{Refusal}
@@ -30,8 +31,9 @@ use Rattle.record.specs.Trees.{Trees}
 use Rattle.record.proofs.Testing.{checked-ok, checked-refused, refuses}
 use Rattle.laws.proofs.Basics.{unbind, ok-is}
 use Rattle.laws.proofs.Fitting.{sized-slots}
-use Rattle.laws.proofs.Preorder.{size-mapped, siblings-mapped, levels-mapped}
-use Rattle.laws.proofs.Pointwise.{Each, each-more, each-mapped, each-slot, All, each-rebuilt}
+use Rattle.laws.proofs.Natural.{mapped-all}
+use Rattle.laws.proofs.Preorder.{size-mapped, siblings-mapped, levels-mapped, mapped-mapped}
+use Rattle.laws.proofs.Pointwise.{Each, each-more, each-mapped, each-slot, mapped-same, All, each-rebuilt}
 use Rattle.laws.proofs.RoundTrip.{length-pool}
 use Rattle.laws.proofs.Taken as taken
 use Rattle.tree.specs.Read.{part, got}
@@ -41,11 +43,11 @@ use Rattle.tree.proofs.Steps.{was-read}
 use Rattle.plan.specs.Plan.{Source, planned-field, Sits}
 use Rattle.plan.specs.Draft.{Drawn}
 use Rattle.plan.specs.Sources.{Summed, Written}
-use Rattle.plan.specs.Table.{sources, PlanIn, DraftIn, InsideIn, fields-in}
+use Rattle.plan.specs.Table.{sources, Roomy, PlanIn, DraftIn, InsideIn, fields-in}
 use Rattle.plan.proofs.Laying.{laid-fields, laid-draft}
 use Rattle.plan.proofs.Standing.{fields-size}
 use Rattle.plan.proofs.Summing.{draft-inside, summed-plan, summed-over}
-use Rattle.plan.proofs.Taking.{base-sits, added-sits}
+use Rattle.plan.proofs.Taking.{added-sits}
 use Rattle.index_ids.specs.Table.{Rooms}
 use Rattle.index.specs.Index.{Indexing}
 use Rattle.update_dropped.specs.declared.Dropped.{Dropped}
@@ -56,7 +58,8 @@ use Rattle.update_rebuild.specs.declared.Step.{Step}
 use Rattle.update_rebuild.specs.declared.Step.the-variants.{Went, Full}
 use Rattle.update_rebuild.specs.Sources.{base-source, added-source, source-id, source-kind, added-tree, addition-at, additions, rebuilt-row, rebuilt-base}
 use Rattle.update_rebuild.specs.Planned.{unders-in, firsts-in, starts-in, drops-in, ResolvedIn, additions-in, Based, fits, verdict, Rebuilds}
-use Rattle.update_rebuild.proofs.Paper.{rebuilt-fields}
+use Rattle.update_edits.specs.Marks.{remark, Unmarked, Carries}
+use Rattle.update_rebuild.proofs.Paper.{StandsFor, rebuilt-fields}
 use Rattle.update_rebuild.proofs.Whole.{of-fits}
 use Rattle.update_dropped.specs.Gathered.{row-ids, Gathered}
 use Rattle.update_write.specs.Ending.{sounded, limited-sounded, Rebuildable, rebuilt-tree, Ends}
@@ -70,10 +73,10 @@ drawn-each : (l : Trees) (t : Forest Source) → Each (Seated l) t → Drawn l t
 drawn-each l empty h = tt
 drawn-each l (node a m n) h = (h .0, drawn-each l m (h .1), drawn-each l n (h .2))
 
-each-fresh : (l : Trees) (c : ℕ) (t : Forest ℕ) → Each (λ k. Sits l (1024 + k)) t → Each (Seated l) (fresh added-source c t)
+each-fresh : (P : Source → Type 0) (c : ℕ) (t : Forest ℕ) → Each (λ k. (i : ℕ) → P (added-source i k)) t → Each P (fresh added-source c t)
 unfolding fresh
-each-fresh l c empty h = tt
-each-fresh l c (node k m n) h = (h .0, each-fresh l (suc c) m (h .1), each-fresh l (suc (c + size m)) n (h .2))
+each-fresh P c empty h = tt
+each-fresh P c (node k m n) h = (h .0 c, each-fresh P (suc c) m (h .1), each-fresh P (suc (c + size m)) n (h .2))
 
 -- ---- the verdict
 
@@ -101,9 +104,16 @@ within-fits : (g : Source → Field) (t : Forest Source) → within (mapped g t)
 unfolding within fits
 within-fits g t = rw (size-mapped g t, levels-mapped g t) (and-and (leb (size t) 1024) (leb (levels t) 16) (leb (name-bytes (mapped g t)) 32768))
 
-module _ (l : Trees) (i : List ℕ) (given : Given) (c : ℕ) (decisions plan index : List (List ℕ)) (out text : List ℕ) (h : Rebuildable l i given c decisions plan index out text) where
+module _ (l : Trees) (i : List ℕ) (given : Given) (c : ℕ) (decisions : List (List ℕ)) (marks : List ℕ) (plan index : List (List ℕ)) (out text : List ℕ) (h : Rebuildable l i given c decisions marks plan index out text) where
   abbrev Ending : Changed → List ℕ → List ℕ → Type 0
-  Ending r out′ text′ = Ends l i given decisions out text r out′ text′
+  Ending r out′ text′ = Ends l i given decisions marks out text r out′ text′
+
+  -- a source as its mark leaves it, and as a field
+  abbrev Remarked : Source → Type 0
+  Remarked a = Seated l (remark marks a)
+
+  abbrev remarked-field : Source → Field
+  remarked-field a = planned-field l (remark marks a)
 
   few : given .base ≤ 1024
   few = let e = h .base-count in let w = sized-slots (l .records) (l .pool) (h .base-limits) .0 in omega arith
@@ -121,53 +131,89 @@ module _ (l : Trees) (i : List ℕ) (given : Given) (c : ℕ) (decisions plan in
       let z : c ≡ siblings (u .trees) = h .root-count ∙ ap siblings (sym q) ∙ siblings-mapped _ (u .trees) in
       record { whole = omega arith; small = few; rooted = rw (e, z) (ap Roots (sym (zero-add (siblings (u .trees))))) }
 
-  base-seated : Each (Seated l) (mapped (base-source (l .records)) (got (roots 0 (kids-at (l .records)) (given .base) (given .base) 0) .trees))
+  base-seated : Each Remarked (mapped (base-source (l .records)) (got (roots 0 (kids-at (l .records)) (given .base) (given .base) 0) .trees))
   base-seated = read _ λ u e q.
       let n = h .base-count in
       rw e
-      (each-mapped (Seated l) (base-source (l .records)) (u .trees) (each-more _ _ (λ j k. base-sits 0 l (h .base) (h .base-read) (omega (arith, few)) j (omega arith)) (u .trees)
+      (each-mapped Remarked (base-source (l .records)) (u .trees) (each-more _ _ (λ j k. rw (remarked-base marks j (omega (arith, few))) (h .carries .sits j k)) (u .trees)
       (each-slot (kids-at (l .records)) (given .base) 0 (u .trees) (taken.roots-take 0 (kids-at (l .records)) (given .base) (given .base) 0 u e .laid))))
 
-  tree-seated : (j : ℕ) → j < given .additions → Each (Seated l) (added-tree (l .added-records) (given .added) (getD (firsts-in decisions) j 0) (getD (starts-in decisions) j 0))
+  -- no added source has a mark
+  abbrev tree-at : ℕ → Forest Source
+  tree-at j = added-tree (l .added-records) (given .added) (getD (firsts-in decisions) j 0) (getD (starts-in decisions) j 0)
+
+  each-added : (P : Source → Type 0) → ((x : ℕ) → x < given .added → (i : ℕ) → P (added-source i x)) → (j : ℕ) → j < given .additions → Each P (tree-at j)
   unfolding added-tree
-  tree-seated j k =
-      let n = h .added-count in
+  each-added P f j k =
       let b = l .added-records in
       let first = getD (firsts-in decisions) j 0 in
       let e = was-read 1 (kids-at b) (given .added) 16 1 first (h .resolved .tree j k) in
       let u = part 1 (kids-at b) (given .added) 16 1 first .trees in
-      each-fresh l _ u (each-more _ _ (λ x y. added-sits 1 l (h .added) (h .added-read) x (omega arith)) u
-      (each-slot (kids-at b) (given .added) first u (taken.row-take 1 (kids-at b) (given .added) 16 1 first _ e .took .laid)))
+      each-fresh P _ u (each-more _ _ f u (each-slot (kids-at b) (given .added) first u (taken.row-take 1 (kids-at b) (given .added) 16 1 first _ e .took .laid)))
 
-  all-seated : (ds : List ℕ) (j k : ℕ) → j + k ≤ given .additions → All (Seated l) source-id (source-kind (l .records)) ds (from (addition-at (l .added-records) (given .added) (unders-in decisions) (firsts-in decisions) (starts-in decisions)) j k)
+  tree-seated : (j : ℕ) → j < given .additions → Each Remarked (tree-at j)
+  tree-seated =
+      let n = h .added-count in
+      each-added Remarked (λ x y i. rw (remarked-added marks (1024 + x) (omega arith)) (added-sits 1 l (h .added) (h .added-read) x (omega arith)))
+
+  abbrev adds-from : (j k : ℕ) → List (Addition Source)
+  adds-from = from (addition-at (l .added-records) (given .added) (unders-in decisions) (firsts-in decisions) (starts-in decisions))
+
+  all-seated : (ds : List ℕ) (j k : ℕ) → j + k ≤ given .additions → All Remarked source-id (source-kind (l .records)) ds (adds-from j k)
   unfolding from
   all-seated ds j zero q = tt
   all-seated ds j (suc k) q = (tree-seated j (omega arith), all-seated ds (suc j) k (omega arith))
 
+  adds-same : (j k : ℕ) → j + k ≤ given .additions → mapped-all remarked-field (adds-from j k) ≡ mapped-all (planned-field l) (adds-from j k)
+  unfolding from
+  adds-same j zero q = refl
+  adds-same j (suc k) q =
+      rw (
+        mapped-same remarked-field (planned-field l) (tree-at j) (each-added (λ a. remarked-field a ≡ planned-field l a) (λ x y i. rw (remarked-added marks (1024 + x) (omega arith))) j (omega arith)),
+        adds-same (suc j) k (omega arith),
+      )
+
   module _ (held : Dropped) (g : Gathered (drops-in decisions) (given .deletions) held) where
+    abbrev unmarked-tree : Forest Source
+    unmarked-tree = rebuilt-base (l .records) (given .base) (dropped-ids held) (additions-in (l .added-records) given decisions)
+
     abbrev t : Forest Source
-    t = rebuilt-base (l .records) (given .base) (dropped-ids held) (additions-in (l .added-records) given decisions)
+    t = mapped (remark marks) unmarked-tree
 
     drawn : Drawn l t
     unfolding rebuilt-base rebuilt-row additions
     drawn =
         drawn-each l t
-        (each-rebuilt (Seated l) source-id (source-kind (l .records)) (dropped-ids held) _ (all-seated (dropped-ids held) 0 (given .additions) (omega arith)) none true
-        (mapped (base-source (l .records)) (got (roots 0 (kids-at (l .records)) (given .base) (given .base) 0) .trees)) base-seated)
+        (each-mapped (Seated l) (remark marks) unmarked-tree
+        (each-rebuilt Remarked source-id (source-kind (l .records)) (dropped-ids held) _ (all-seated (dropped-ids held) 0 (given .additions) (omega arith)) none true
+        (mapped (base-source (l .records)) (got (roots 0 (kids-at (l .records)) (given .base) (given .base) 0) .trees)) base-seated))
 
-    pub rebuild-asks : Based (l .records) (given .base) c × Good held × ResolvedIn (l .added-records) given decisions × (length plan ≡ 3)
-    rebuild-asks = (based, g .good, h .resolved, h .plan-room .rows)
+    pub rebuild-asks : Based (l .records) (given .base) c × Good held × ResolvedIn (l .added-records) given decisions × Roomy plan × (given .edits ≡ 0 → Unmarked marks)
+    rebuild-asks = (based, g .good, h .resolved, h .plan-room, h .unmarked)
+
+    -- each slot stands for its column as the edits leave it
+    stands-for : (edits : List Edited) → Carries l (given .base) marks edits → StandsFor (l .records) (given .base) remarked-field (λ k. edit-fields edits (field-at (l .pool) (l .records) k))
+    unfolding field-at
+    stands-for edits w =
+        record {
+          field = λ k b. carried-field l (given .base) marks edits w k b (omega (arith, few));
+          id = λ k b. sym (edits-keep-id edits (field-at (l .pool) (l .records) k));
+          kind = λ k b. sym (edits-keep-kind edits (field-at (l .pool) (l .records) k));
+        }
 
     -- the planned tree is the paper's
-    tree-is : (base : Forest Field) → decode 0 (l .records) (l .pool) ≡ ok base → mapped (planned-field l) t ≡ rebuilt-tree l given decisions base
-    unfolding rebuilt-tree
-    tree-is base e =
-        read _ λ u r q. rebuilt-fields l (given .base) u (dropped-ids held) (row-ids (drops-in decisions) (given .deletions)) (additions-in (l .added-records) given decisions) few r (g .holds)
-        ∙ rw (q ∙ ok-is (sym (h .base-read) ∙ e))
+    tree-is : (base : Forest Field) → decode 0 (l .records) (l .pool) ≡ ok base → (edits : List Edited) → Carries l (given .base) marks edits
+        → mapped (planned-field l) t ≡ rebuilt-tree l given decisions edits base
+    unfolding rebuilt-tree additions fields
+    tree-is base e edits w =
+        read _ λ u r q.
+        mapped-mapped (remark marks) (planned-field l) unmarked-tree
+        ∙ rebuilt-fields (l .records) (given .base) remarked-field (λ k. edit-fields edits (field-at (l .pool) (l .records) k)) u (dropped-ids held) (row-ids (drops-in decisions) (given .deletions)) (additions-in (l .added-records) given decisions) (stands-for edits w) r (g .holds)
+        ∙ rw (adds-same 0 (given .additions) (omega arith), ← (mapped-mapped (field-at (l .pool) (l .records)) (edit-fields edits) (u .trees)), q ∙ ok-is (sym (h .base-read) ∙ e))
 
     over : within (mapped (planned-field l) t) ≡ false → Ending (changed.Refused (refusal-of 19 4 0)) out text
     unfolding limited-sounded _>>=_
-    over e = record { ends = λ base d. refuses _ (refusal-of 19 4 0) (for-records out ∷ for-names text ∷ []) (rw (← (tree-is base d), e)) }
+    over e = record { ends = λ base d edits w. refuses _ (refusal-of 19 4 0) (for-records out ∷ for-names text ∷ []) (rw (← (tree-is base d edits w), e)) }
 
     module _ (y : Step) (plan′ : List (List ℕ)) (v : Rebuilds t (given .base) plan y plan′) where
       pub full-stops : y ≡ Full → Ending (changed.Refused (refusal-of 19 4 0)) out text
@@ -194,7 +240,7 @@ module _ (l : Trees) (i : List ℕ) (given : Given) (c : ℕ) (decisions plan in
         pub names-asks : InsideIn l plan′ (w .at)
         names-asks = draft-inside l plan′ (w .at) draft
 
-        module _ (z : Bool) (k : Summed (l .records) (l .added-records) (sources plan′) (w .at) z) where
+        module _ (z : Bool) (k : Summed (l .records) (l .added-records) (l .edits) (sources plan′) (w .at) z) where
           pub names-stop : not z ≡ true → Ending (changed.Refused (refusal-of 19 4 0)) out text
           names-stop q =
               let e = summed-over l plan′ (w .at) draft z k (not-true z q) in
@@ -217,16 +263,16 @@ module _ (l : Trees) (i : List ℕ) (given : Given) (c : ℕ) (decisions plan in
             records-fit = let f = the-plan .few in omega arith
 
             -- what the index says of the planned tree is said of the paper's
-            limited-is : (base : Forest Field) → decode 0 (l .records) (l .pool) ≡ ok base → (last : ℕ)
-                → limited-sounded (rebuilt-tree l given decisions base) (id-list i) last ≡ sounded (fields-in l plan′ (w .at)) (id-list i) last
+            limited-is : (base : Forest Field) → decode 0 (l .records) (l .pool) ≡ ok base → (edits : List Edited) → Carries l (given .base) marks edits → (last : ℕ)
+                → limited-sounded (rebuilt-tree l given decisions edits base) (id-list i) last ≡ sounded (fields-in l plan′ (w .at)) (id-list i) last
             unfolding limited-sounded _>>=_
-            limited-is base e last = rw (← (tree-is base e), fitting, planned)
+            limited-is base e edits v′ last = rw (← (tree-is base e edits v′), fitting, planned)
 
             module _ (x : Check) (index′ : List (List ℕ)) (s : Indexing l plan′ (w .at) 4 i x index index′) where
               pub sound-stops : (f : Refusal) → x ≡ check.Refused f → Ending (changed.Refused f) out text
               unfolding sounded _>>=_
               sound-stops f o =
-                  record { ends = λ base e. refuses _ f (for-records out ∷ for-names text ∷ []) (limited-is base e _ ∙ rw (checked-refused (sound 4 (fields-in l plan′ (w .at)) (id-list i)) x f (s .answer) o)) }
+                  record { ends = λ base e edits v′. refuses _ f (for-records out ∷ for-names text ∷ []) (limited-is base e edits v′ _ ∙ rw (checked-refused (sound 4 (fields-in l plan′ (w .at)) (id-list i)) x f (s .answer) o)) }
 
               module _ (used : ℕ) (out′ text′ : List ℕ) (b : Written (fields-in l plan′ (w .at)) out text used out′ text′) where
                 pub names-fit : used < 4294967296
@@ -237,10 +283,10 @@ module _ (l : Trees) (i : List ℕ) (given : Given) (c : ℕ) (decisions plan in
                 unfolding sounded _>>=_ changes leaves
                 all-written o bits eb =
                     record {
-                      ends = λ base e.
+                      ends = λ base e edits v′.
                           let z = checked-ok (sound 4 (fields-in l plan′ (w .at)) (id-list i)) x (s .answer) o in
                           let n = fields-size plan′ (w .at) (the-plan .shaped) l in
-                          rw (limited-is base e (turned (given .last)), z) record { told = rw (b .bytes, n, eb); left = rw (b .rows, b .pool) refl };
+                          rw (limited-is base e edits v′ (turned (given .last)), z) record { told = rw (b .bytes, n, eb); left = rw (b .rows, b .pool) refl };
                     }
 
 pub ruleset ending = (full-stops, names-stop)
