@@ -1,0 +1,151 @@
+-- Edits one at a time: what is left of them, behind those that the marks carry, is the whole.
+use Prim.Native.Nat.{ℕ, suc, _+_, _-_, _*_, _<_, _≤_}
+use mathlib.Core.Path.{_≡_, refl, sym, ap, subst, _∙_}
+use mathlib.Core.Bool.{Bool, true}
+use mathlib.Core.List.{List, [], _∷_, _++_}
+use mathlib.Core.Option.{Option, none, some}
+use native.Mathlib.Omega.{arith}
+use native.Mathlib.Numerals.{add-one}
+use lib.ListN.{length, getD, set}
+use Rattle.paper.specs.Answer.{Answer, ok, refused, _>>=_, among}
+use Rattle.paper.specs.Forest.{Forest}
+use Rattle.paper.specs.Field.{Field, id-of, kind-of}
+use Rattle.paper.specs.Rows.{Row, look-name}
+use Rattle.paper.specs.Bytes.{from}
+use Rattle.paper.specs.Gone.{gone-columns}
+use Rattle.paper.specs.Lists.{edit-in, edit-path, edit-of}
+use Rattle.paper.specs.Edits.{Edit, Edited, edited-one, edited-all}
+use Rattle.laws.proofs.Basics.{bind-is, bind-not}
+use Rattle.laws.proofs.Going.{gone-same}
+use Rattle.laws.proofs.Runs.{from-step, from-done, from-all}
+use Rattle.record.specs.declared.Refusal.{Refusal}
+use Rattle.record.specs.declared.FieldId.{FieldId}
+use Rattle.record.specs.declared.Slot.{Slot}
+use Rattle.record.specs.declared.Found.{Found}
+use Rattle.record.specs.declared.Found.the-variants.{At}
+use Rattle.record.specs.declared.Check.{Check}
+use Rattle.record.specs.declared.Check.the-variants as check
+use Rattle.record.specs.Says.{found-row}
+use Rattle.record.specs.Trees.{Trees}
+use Rattle.record_entries.specs.declared.PathList.the-variants.{Edits}
+use Rattle.plan.specs.Table.{sources, numbers, members, fields-in}
+use Rattle.update_dropped.specs.declared.Dropped.{Dropped}
+use Rattle.update_dropped.specs.Set.{dropped-ids}
+use Rattle.update_dropped.specs.Gathered.{row-ids, Gathered}
+use Rattle.update_edits.specs.declared.Editing.the-variants as editing
+use Rattle.update_edits.specs.declared.Editing as declared
+use Rattle.update_edits.specs.Edit.{Lands, Named, edit-found, change-of, edited-at, EditedBy, OneEdited}
+use Rattle.update_edits.specs.Marks.{Unmarked, Carries, marked-by}
+use Rattle.update_rebuild.specs.declared.Given.{Given}
+use Rattle.update_rebuild.specs.Planned.{drops-in}
+use Rattle.update_schema.specs.Base.{BasedIn, Entries}
+use Rattle.update_schema.proofs.Deleting.{entry-here}
+use Rattle.update_edited.specs.Editing.{Editable, all-edited, EditsLeft, EditsBy, EditsIn}
+
+-- ---- edits ask of the dropped ids only which are among them
+
+module _ (t : Forest Field) (ds ds′ : List ℕ) (h : (x : ℕ) → among x ds ≡ among x ds′) where
+  one-same : (k : ℕ) (earlier : List Edited) (e : Edit) → edited-one t ds k earlier e ≡ edited-one t ds′ k earlier e
+  unfolding edited-one
+  one-same k earlier e = rw (gone-same id-of kind-of ds ds′ h true t)
+
+  pub edits-same : (k : ℕ) (earlier : List Edited) (es : List Edit) → edited-all t ds k earlier es ≡ edited-all t ds′ k earlier es
+  unfolding edited-all _>>=_
+  edits-same k earlier [] = refl
+  edits-same k earlier (e ∷ es) = rw (one-same k earlier e) (go (edited-one t ds′ k earlier e))
+    where
+      go : (a : Answer Edited) → (a >>= λ d. edited-all t ds (suc k) (earlier ++ (d ∷ [])) es) ≡ (a >>= λ d. edited-all t ds′ (suc k) (earlier ++ (d ∷ [])) es)
+      go (ok d) = edits-same (suc k) (earlier ++ (d ∷ [])) es
+      go (refused n l p) = refl
+
+-- ---- the loop
+
+module _ (l : Trees) (n total : ℕ) (t : Forest Field) (ds : List ℕ) where
+  abbrev asked : ℕ → Edit
+  asked = edit-of (l .request-pool) (l .edits)
+
+  abbrev whole : Answer (List Edited)
+  whole = edited-all t ds 0 [] (from asked 0 total)
+
+  abbrev rest : ℕ → List Edited → Answer (List Edited)
+  rest k earlier = edited-all t ds k earlier (from asked k (total - k))
+
+  pub record Editing (k : ℕ) (marks : List ℕ) : Type 0 where
+    pub within : k ≤ total
+    pub earlier : List Edited
+    pub carries : Carries l n marks earlier
+    pub left : whole ≡ rest k earlier
+
+  pub edit-starts : (marks : List ℕ) → Carries l n marks [] → Editing 0 marks
+  edit-starts marks h =
+      record { within = omega arith; earlier = []; carries = h; left = ap (edited-all t ds 0 []) (from-all asked total) }
+
+  none-left : (k : ℕ) (earlier : List Edited) → edited-all t ds k earlier [] ≡ ok earlier
+  unfolding edited-all
+  none-left k earlier = refl
+
+  module _ (k : ℕ) (marks : List ℕ) (H : Editing k marks) where
+    pub edit-ends : total ≤ k → EditsLeft l n marks whole
+    edit-ends h =
+        record {
+          edits = H .earlier;
+          is = H .left ∙ ap (edited-all t ds k (H .earlier)) (from-done asked k total h) ∙ none-left k (H .earlier);
+          carries = H .carries;
+        }
+
+    module _ (b : k < total) (p : List ℕ) (ep : p ≡ edit-path (l .request-pool) (l .edits) k) where
+      abbrev found-edit : List Edited → Answer Edited
+      found-edit earlier = edit-found t (look-name t p) ds k earlier (change-of (l .request-pool) (l .edits) k)
+
+      here : (earlier : List Edited) → rest k earlier ≡ (found-edit earlier >>= λ d. rest (k + 1) (earlier ++ (d ∷ [])))
+      unfolding edited-all edited-one edit-found edit-of
+      here earlier =
+          ap (edited-all t ds k earlier) (from-step asked k total b)
+          ∙ rw (← ep, add-one k) refl
+
+      module _ (r : declared.Editing) (a : (earlier : List Edited) → Carries l n marks earlier → EditedBy r (found-edit earlier) (l .records) n (change-of (l .request-pool) (l .edits) k)) where
+        pub edit-stops : (x : Refusal) → r ≡ editing.Refused x → whole ≡ refused (x .number) (x .list) (x .place)
+        edit-stops x q =
+            let e : found-edit (H .earlier) ≡ refused (x .number) (x .list) (x .place) = rw q at (a (H .earlier) (H .carries)) in
+            H .left ∙ here (H .earlier) ∙ bind-not _ _ (x .number) (x .list) (x .place) e
+
+        pub edit-goes : (s : Slot) → r ≡ editing.At s
+            → ((earlier : List Edited) → Carries l n marks earlier → s .0 < n → found-edit earlier ≡ ok (edited-at (l .records) (s .0) (change-of (l .request-pool) (l .edits) k))
+            → Carries l n (set marks (s .0) (marked-by (l .edits) k (getD marks (s .0) 0))) (earlier ++ (edited-at (l .records) (s .0) (change-of (l .request-pool) (l .edits) k) ∷ [])))
+            → Editing (k + 1) (set marks (s .0) (marked-by (l .edits) k (getD marks (s .0) 0)))
+        edit-goes s q f =
+            let w : (s .0 < n) × (found-edit (H .earlier) ≡ ok (edited-at (l .records) (s .0) (change-of (l .request-pool) (l .edits) k))) = rw q at (a (H .earlier) (H .carries)) in
+            record {
+              within = omega arith;
+              earlier = H .earlier ++ (edited-at (l .records) (s .0) (change-of (l .request-pool) (l .edits) k) ∷ []);
+              carries = f (H .earlier) (H .carries) (w .0) (w .1);
+              left = H .left ∙ here (H .earlier) ∙ bind-is _ _ (edited-at (l .records) (s .0) (change-of (l .request-pool) (l .edits) k)) (w .1);
+            }
+
+-- ---- what was tested gives each edit what it asks
+
+module _ (l : Trees) (given : Given) (plan index : List (List ℕ)) (marks : List ℕ) (h : Editable l given plan index marks) where
+  abbrev n : ℕ
+  n = given .base
+
+  abbrev t : Forest Field
+  t = fields-in l plan n
+
+  rises-here : Rises (l .records) n (ups-in index)
+  rises-here = rises l (sources plan) (numbers plan) (members plan) n (h .based) (ups-in index) (h .indexed .raised)
+
+  pub named-here : (k : ℕ) → k < given .edits → Named (l .request-pool) (l .edits) k
+  named-here k b =
+      let e = entry-here Edits (l .request-pool) (l .edits) (given .edits) k (h .edits-there) b in
+      let f = h .edits-there .few in
+      record { few = omega arith; entry = e .0; named = e .1 }
+
+  pub begins : Carries l n marks []
+  begins = carries-none l n marks (h .unmarked) (λ s b. base-sits-here s b)
+    where
+      base-sits-here : (s : ℕ) → s < n → Sits l s
+      base-sits-here s b = ?
+
+  module _ (k : ℕ) (b : k < given .edits) (p : List ℕ) (ep : p ≡ edit-path (l .request-pool) (l .edits) k) (f : Found) (ef : f ≡ found-row (look-name t p)) where
+    pub one-asks : (drops : Dropped) → Good drops → Lands n f × Rises (l .records) n (ups-in index) × Named (l .request-pool) (l .edits) k × Good drops
+    one-asks drops g = (found-lands rises-here p f (rw (← (base-tree l (sources plan) (numbers plan) (members plan) n (h .based))) ef), rises-here, named-here k b, g)
