@@ -35,6 +35,11 @@ remarked marks x = cond (ltb x 1024) (marked marks x) x
 abbrev pub remark : (marks : List ℕ) → Source → Source
 remark marks a = record { slot = remarked marks (a .slot); id = a .id }
 
+-- No slot has a mark.
+pub record Unmarked (marks : List ℕ) : Type 0 where
+  pub room : length marks ≡ 1024
+  pub none : (s : ℕ) → getD marks s 0 ≡ 0
+
 -- The marks of n slots carry what was decided: each slot, as its mark leaves it, is its column as the edits leave it.
 pub record Carries (l : Trees) (n : ℕ) (marks : List ℕ) (decided : List Edited) : Type 0 where
   pub room : length marks ≡ 1024
