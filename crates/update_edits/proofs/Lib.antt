@@ -1,0 +1,5 @@
+pub mod Roles
+pub mod Deciding
+pub mod Marking
+pub mod Carrying
+pub mod Remarking

@@ -41,13 +41,13 @@ module _ {records : List ℕ} {n : ℕ} {us : List ℕ} (R : Rises records n us)
   climbing : Climbs us 0 (trees-of (kids-at records) n)
   climbing = climbs (kids-at records) n us raised
 
-  base-climbs : Climbs us 0 (base-slots records n)
+  pub base-climbs : Climbs us 0 (base-slots records n)
   base-climbs = rw walked climbing
 
-  there : (k : ℕ) → k < n → k ∈ preorder (base-slots records n)
+  pub there : (k : ℕ) → k < n → k ∈ preorder (base-slots records n)
   there k l = rw walked (slot-there 0 (kids-at records) n (R .read) k l)
 
-  up-falls : (k : ℕ) → k < n → getD us k 0 ≤ k
+  pub up-falls : (k : ℕ) → k < n → getD us k 0 ≤ k
   up-falls = ups-fall (λ _. []) (kids-at records) n us raised
 
   base-ends : (k : ℕ) → k < n → risen us 16 (suc k) ≡ 0

@@ -1,0 +1,34 @@
+-- A mark with one more edit, and the source that it makes of a slot.
+use Prim.Native.Nat.{ℕ, suc, _+_, _-_, _*_, _%_, _<_, _≤_}
+use mathlib.Core.Path.{_≡_, refl, sym, ap, _∙_}
+use mathlib.Core.Bool.{Bool, true, false, cond}
+use mathlib.Core.List.{List}
+use native.Mathlib.Omega.{arith}
+use lib.Dec.{eqb, ltb}
+use lib.ListN.{getD}
+use borrow.Author.Tests.{eq-eqb, ne-eqb, lt-ltb, le-ltb}
+use Rattle.update_edits.specs.Marks.{mark-with, as-marked, remarked}
+
+-- ---- the code
+
+pub with-rename : (b : Bool) (k mark v : ℕ) → b ≡ true → v ≡ mark % 2 + 2 * (k + 1) → v ≡ mark-with b k mark
+with-rename b k mark v e ev = rw e ev
+
+pub with-relax : (b : Bool) (k mark v : ℕ) → b ≡ false → v ≡ mark + (1 - mark % 2) → v ≡ mark-with b k mark
+with-relax b k mark v e ev = rw e ev
+
+-- `search sourcing`
+pub source-stays : (marks : List ℕ) (x : ℕ) → 1024 ≤ x → x ≡ remarked marks x
+unfolding remarked
+source-stays marks x l = rw (le-ltb x 1024 l)
+
+module _ (marks : List ℕ) (x mark : ℕ) (l : x < 1024) (e : mark ≡ getD marks x 0) where
+  pub source-bare : mark ≡ 0 → x ≡ remarked marks x
+  unfolding remarked as-marked
+  source-bare z = rw (lt-ltb x 1024 l, ← e, eq-eqb mark 0 z)
+
+  pub source-marked : (v : ℕ) → (mark ≡ 0 → ⊥) → v ≡ 2048 + x + 1024 * mark → v ≡ remarked marks x
+  unfolding remarked as-marked
+  source-marked v z ev = rw (lt-ltb x 1024 l, ← e, ne-eqb mark 0 z) ev
+
+pub ruleset sourcing = (source-stays, source-bare, source-marked)
