@@ -140,10 +140,10 @@ fn edited_name<'a>(trees: &Trees<'a>, k: usize) -> &'a [u8]
     ensures { λ r. ⌜ NameAt (now (trees .entry)) k r ⌝ }
 {
     let mark = mark_of(k);
-    if mark < 2 {
-        return name_at(trees[POOL], trees[RECORDS], edited_slot(k));
+    if 2 <= mark {
+        return new_name_at(trees[REQUEST_POOL], trees[EDITS], mark / 2 - 1);
     }
-    new_name_at(trees[REQUEST_POOL], trees[EDITS], mark / 2 - 1)
+    name_at(trees[POOL], trees[RECORDS], edited_slot(k))
 }
 
 // A planned record's kind.
