@@ -6,13 +6,14 @@ use Rattle.paper.specs.Lent.{Stored, Lent}
 abbrev pub stored : (records pool : List ℕ) (last : ℕ) → Stored
 stored records pool last = record { records = records; pool = pool; last = last }
 
-abbrev pub lent : (identifiers deletions additions added-records request-pool : List ℕ) (room-records room-names : ℕ) → Lent
-lent identifiers deletions additions added-records request-pool room-records room-names =
+abbrev pub lent : (identifiers deletions additions added-records edits request-pool : List ℕ) (room-records room-names : ℕ) → Lent
+lent identifiers deletions additions added-records edits request-pool room-records room-names =
     record {
       identifiers = identifiers;
       deletions = deletions;
       additions = additions;
       added-records = added-records;
+      edits = edits;
       request-pool = request-pool;
       room-records = room-records;
       room-names = room-names;

@@ -159,13 +159,13 @@ fn lay_searched(searched: Searched) -> SearchedNumbers
 // The version of these functions, in its name too: whoever is compiled against other declarations asks for another name, and finds
 // none here. A change of any declaration raises both, and so does a call that is answered otherwise than before.
 #[no_mangle]
-pub extern "C" fn braidhurdle_abi_6() -> u32
-    ensures { λ r. ⌜ r ≡ 6 ⌝ }
+pub extern "C" fn braidhurdle_abi_7() -> u32
+    ensures { λ r. ⌜ r ≡ 7 ⌝ }
 {
-    6
+    7
 }
 
-// Drops and adds columns; ids are handed out from `last_id` + 1.
+// Drops, adds and edits columns; ids are handed out from `last_id` + 1.
 #[no_mangle]
 pub extern "C" fn braidhurdle_update<'a>(
     records: &'a [u8],
@@ -175,6 +175,7 @@ pub extern "C" fn braidhurdle_update<'a>(
     deletions: &'a [u8],
     additions: &'a [u8],
     added_records: &'a [u8],
+    edits: &'a [u8],
     request_pool: &'a [u8],
     out_records: &mut [u8],
     out_names: &mut [u8],
@@ -182,12 +183,12 @@ pub extern "C" fn braidhurdle_update<'a>(
     ensures { λ r. ⌜ Answers laid
         (update-entry (stored (now (records .entry)) (now (pool .entry)) «last_id»)
         (lent (now (identifiers .entry)) (now (deletions .entry)) (now (additions .entry))
-        (now («added_records» .entry)) (now («request_pool» .entry))
+        (now («added_records» .entry)) (now (edits .entry)) (now («request_pool» .entry))
         (length (now («out_records» .entry))) (length (now («out_names» .entry)))))
         (for-records (now («out_records» .entry)) ∷ for-names (now («out_names» .entry)) ∷ []) r
         (now («out_records» .exit) ∷ now («out_names» .exit) ∷ []) ⌝ }
 {
-    let trees = [records, pool, added_records, request_pool];
+    let trees = [records, pool, added_records, request_pool, edits];
     let lists = [identifiers, deletions, additions];
     lay_changed(update(&trees, &lists, last_id, out_records, out_names))
 }

@@ -366,7 +366,7 @@ edits =
     -- The present name and the empty one are names; two columns exchange theirs.
     ∷ edited ("a" to "a" ∷ []) (two-are "a" 3 "b")  -- 182
     ∷ edited ("a" to "" ∷ []) (two-are "" 3 "b")  -- 187
-    ∷ edited ("a" to "b" ∷ "b" to "a" ∷ []) (two-are "b" 3 "a")  -- 184
+    ∷ edited ("a" to "b" ∷ "b" to "a" ∷ []) (two-are "b" 3 "a")  -- 185
     -- Inner columns, by their full or short names; the name of a struct stands before its members' names.
     ∷ (of lent keyed [] 10 ask edit ("node.cost" to "price" ∷ relaxing "node" ∷ "node" to "board" ∷ []) drop [] add []
     gives keyed-are "board" 0 "price" 1 "site" 1)

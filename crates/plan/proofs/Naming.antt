@@ -18,10 +18,10 @@ module _ (l : Trees) (xs : List ℕ) (m k : ℕ) (s : Sources l xs m) (q : k < m
   pub source-sits : Sits l (getD xs k 0)
   source-sits = s .sits k q
 
-  pub source-in : In (l .records) (l .added-records) (getD xs k 0)
+  pub source-in : In (l .records) (l .added-records) (l .edits) (getD xs k 0)
   source-in = sits-in l (getD xs k 0) (s .sits k q)
 
-  pub len-is : (r : ℕ) → r ≡ source-len (l .records) (l .added-records) (getD xs k 0) → r ≡ length (name-in l xs k)
+  pub len-is : (r : ℕ) → r ≡ source-len (l .records) (l .added-records) (l .edits) (getD xs k 0) → r ≡ length (name-in l xs k)
   unfolding name-in
   len-is r e = e ∙ len-source l (getD xs k 0) (s .sits k q)
 

@@ -1,20 +1,26 @@
--- A planned record is one of two lists': below 1,024 the base's, else the additions'. `search sourcing`.
-use Prim.Native.Nat.{ℕ, _+_, _-_, _*_, _/_, _%_, _<_, _≤_}
-use mathlib.Core.Path.{_≡_}
-use mathlib.Core.Bool.{true, cond}
+-- A planned record is the base's, the additions' or the base's as edits leave it. `search sourcing`.
+use Prim.Native.Nat.{ℕ, zero, suc, _+_, _-_, _*_, _/_, _%_, _<_, _≤_}
+use mathlib.Core.Path.{_≡_, sym, _∙_}
+use mathlib.Core.Bool.{Bool, true, false, true≢false}
 use mathlib.Core.Logic.{⊎-elim}
 use mathlib.Core.List.{List, [], _∷_}
 use native.Mathlib.Omega.{arith}
-use borrow.Author.Tests.{leb-true, lt-ltb, le-ltb}
+use borrow.Author.Tests.{leb-true, lt-ltb, le-ltb, eq-eqb, ne-eqb}
 use lib.Dec.{ltb}
 use lib.ListN.{length, getD, drop, length-drop}
 use lib.Seq.{length-take-le}
-use Rattle.paper.specs.Bytes.{turned, rec-at, name-of, in-pool, field-at}
+use denote.Ref.{RefT, now}
+use Rattle.paper.specs.declared.Kind.{Kind}
+use Rattle.paper.specs.Bytes.{turned, rec-at, kind-at, name-of, in-pool, field-at}
+use Rattle.paper.specs.Field.{is-required}
+use Rattle.paper.specs.Lists.{edit-at, edit-in, new-name}
+use Rattle.paper.specs.Edits.{relaxed}
 use Rattle.paper.specs.Encode.{bytes32, row24, rec-bytes}
 use Rattle.tree.proofs.Filled.{lt-or-le}
-use Rattle.record.specs.Trees.{Trees, lent-trees}
-use Rattle.plan.specs.Plan.{source-field, planned-field, Sits}
-use Rattle.plan.specs.Sources.{source-kind, source-len, row-of, source-row, In}
+use Rattle.record.specs.Trees.{Trees, lent-trees, trees-in, slice-at}
+use Rattle.record_entries.proofs.Entries.{edit-ends}
+use Rattle.plan.specs.Plan.{edited-slot, mark-of, renaming, marked-name, marked-flags, marked-field, by-source, source-field, planned-field, Sits}
+use Rattle.plan.specs.Sources.{source-kind, marked-len, source-len, source-flags, source-code, row-of, source-row, NameAt, In}
 
 -- ---- what the code reads and writes
 
@@ -24,43 +30,152 @@ pub row-is : (i a m c d : List ℕ) (id at len kind flags kids code attribute : 
 unfolding row24
 row-is i a m c d id at len kind flags kids code attribute ei ea em ec ed = rw (ei, ea, em, ec, ed)
 
-module _ (base added : List ℕ) (x : ℕ) where
-  pub in-base : In base added x → x < 1024 → x * 24 + 24 ≤ length base
-  in-base h l = h .base-in l
+module _ (base added edits : List ℕ) (x : ℕ) (h : In base added edits x) where
+  pub in-base : x < 1024 → x * 24 + 24 ≤ length base
+  in-base = h .base-in
 
-  pub in-added : In base added x → 1024 ≤ x → (x - 1024) * 24 + 24 ≤ length added
-  in-added h l = h .added-in l
+  pub in-added : 1024 ≤ x → x < 2048 → (x - 1024) * 24 + 24 ≤ length added
+  in-added = h .added-in
 
-module _ {A : Type 0} (x : ℕ) (r a b : A) where
-  pub from-base : x < 1024 → r ≡ a → r ≡ cond (ltb x 1024) a b
+  module _ (l : 2048 ≤ x) where
+    pub in-edited : (slot : ℕ) → slot ≡ edited-slot x → slot * 24 + 24 ≤ length base
+    in-edited slot e = rw e (h .edited-in l)
+
+    pub in-renamed : (mark : ℕ) → mark ≡ mark-of x → 2 ≤ mark → renaming mark * 16 + 16 ≤ length edits
+    in-renamed mark e m = rw e (h .renamed-in l (rw e at m))
+
+module _ {A : Type 0} (x : ℕ) (r a b c : A) where
+  pub from-base : x < 1024 → r ≡ a → r ≡ by-source x a b c
   from-base l e = rw (lt-ltb x 1024 l) e
 
-  pub from-added : 1024 ≤ x → r ≡ b → r ≡ cond (ltb x 1024) a b
-  from-added l e = rw (le-ltb x 1024 l) e
+  pub from-added : 1024 ≤ x → x < 2048 → r ≡ b → r ≡ by-source x a b c
+  from-added l m e = rw (le-ltb x 1024 l, lt-ltb x 2048 m) e
 
-module _ (s p b r : List ℕ) (x : ℕ) (h : Sits (lent-trees s p b r) x) where
+  pub from-edited : 2048 ≤ x → r ≡ c → r ≡ by-source x a b c
+  from-edited l e = let m : 1024 ≤ x = omega arith in rw (le-ltb x 1024 m, le-ltb x 2048 l) e
+
+module _ (s p b r e : List ℕ) (x : ℕ) (h : Sits (lent-trees s p b r e) x) where
   pub sits-base : x < 1024 → x * 24 + 24 ≤ length s
-  sits-base l = h .base-in l
+  sits-base = h .base-in
 
   pub named-base : x < 1024 → in-pool (length p) s x ≡ true
-  named-base l = h .base-named l
+  named-base = h .base-named
 
-  pub sits-added : 1024 ≤ x → (x - 1024) * 24 + 24 ≤ length b
-  sits-added l = h .added-in l
+  pub sits-added : 1024 ≤ x → x < 2048 → (x - 1024) * 24 + 24 ≤ length b
+  sits-added = h .added-in
 
-  pub named-added : 1024 ≤ x → in-pool (length r) b (x - 1024) ≡ true
-  named-added l = h .added-named l
+  pub named-added : 1024 ≤ x → x < 2048 → in-pool (length r) b (x - 1024) ≡ true
+  named-added = h .added-named
 
-module _ (s p b r : List ℕ) (x : ℕ) (name : List ℕ) {A B C D : Type 0} where
-  pub name-base : x < 1024 → (name ≡ name-of p s x) × A × B → (name ≡ source-field (lent-trees s p b r) x .name) × (x < 1024 → A × B) × (1024 ≤ x → C × D)
+  module _ (l : 2048 ≤ x) where
+    module _ (slot : ℕ) (q : slot ≡ edited-slot x) where
+      pub sits-edited : slot * 24 + 24 ≤ length s
+      sits-edited = rw q (h .edited-in l)
+
+      pub named-edited : in-pool (length p) s slot ≡ true
+      named-edited = rw q (h .edited-named l)
+
+    module _ (mark : ℕ) (q : mark ≡ mark-of x) (m : 2 ≤ mark) where
+      pub sits-renamed : renaming mark * 16 + 16 ≤ length e
+      sits-renamed = rw q (h .renamed-in l (rw q at m))
+
+      pub named-renamed : edit-in (length r) e (renaming mark) ≡ true
+      named-renamed = rw q (h .renamed-named l (rw q at m))
+
+-- ---- what a mark leaves
+
+module _ (flags : ℕ) (b : Bool) (e : b ≡ is-required flags) where
+  pub required-some : b ≡ true → 1 ≤ flags
+  required-some q = go flags (sym e ∙ q)
+    where
+      go : (flags : ℕ) → is-required flags ≡ true → 1 ≤ flags
+      go zero h = absurd (true≢false (sym h))
+      go (suc flags) h = omega arith
+
+  pub relaxed-less : b ≡ true → flags - 1 ≡ relaxed flags
+  relaxed-less q = rw (← e, q)
+
+  pub relaxed-same : b ≡ false → flags ≡ relaxed flags
+  relaxed-same q = rw (← e, q)
+
+pub ruleset relaxing = (required-some, relaxed-less, relaxed-same)
+
+module _ (base edits : List ℕ) (x mark slot : ℕ) (em : mark ≡ mark-of x) where
+  module _ (es : slot ≡ edited-slot x) where
+    module _ (flags : ℕ) (ef : flags ≡ rec-at base slot .flags) where
+      pub flags-relaxed : (r : ℕ) → mark % 2 ≡ 1 → r ≡ relaxed flags → r ≡ marked-flags base (mark-of x) (edited-slot x)
+      unfolding marked-flags
+      flags-relaxed r q e = rw (← es, ← em, eq-eqb (mark % 2) 1 q, ← ef) e
+
+      pub flags-kept : (mark % 2 ≡ 1 → ⊥) → flags ≡ marked-flags base (mark-of x) (edited-slot x)
+      unfolding marked-flags
+      flags-kept q = rw (← es, ← em, ne-eqb (mark % 2) 1 q) ef
+
+    pub len-kept : (r : ℕ) → mark < 2 → r ≡ rec-at base slot .name-len → r ≡ marked-len base edits (mark-of x) (edited-slot x)
+    unfolding marked-len
+    len-kept r q e = rw (← es, ← em, lt-ltb mark 2 q) e
+
+  pub len-new : (r : ℕ) → 2 ≤ mark → r ≡ edit-at edits (renaming mark) .name-len → r ≡ marked-len base edits (mark-of x) (edited-slot x)
+  unfolding marked-len
+  len-new r q e = rw (← em, le-ltb mark 2 q) e
+
+pub ruleset marking = (flags-relaxed, flags-kept, len-kept, len-new)
+
+module _ (base added edits : List ℕ) (x slot : ℕ) (l : 2048 ≤ x) (es : slot ≡ edited-slot x) where
+  pub kind-edited : (r : Kind) → r ≡ kind-at base slot → r ≡ source-kind base added x
+  unfolding source-kind
+  kind-edited r e = from-edited x r _ _ (kind-at base (edited-slot x)) l (rw (← es) e)
+
+  pub code-edited : (r : ℕ) → r ≡ rec-at base slot .code → r ≡ source-code base added x
+  unfolding source-code
+  code-edited r e = from-edited x r _ _ (rec-at base (edited-slot x) .code) l (rw (← es) e)
+
+  pub row-edited : (r : List ℕ) (id kids at len flags : ℕ) → len ≡ marked-len base edits (mark-of x) (edited-slot x) → flags ≡ marked-flags base (mark-of x) (edited-slot x) → r ≡ row-of base slot id kids at len flags
+      → r ≡ source-row base added edits x id kids at
+  unfolding source-row
+  row-edited r id kids at len flags el ef e =
+      from-edited x r _ _ (row-of base (edited-slot x) id kids at (marked-len base edits (mark-of x) (edited-slot x)) (marked-flags base (mark-of x) (edited-slot x))) l (rw (← el, ← ef, ← es) e)
+
+-- ---- the name as a part of its pool
+
+module _ (slices : List (RefT (List ℕ))) (x : ℕ) (r : RefT (List ℕ)) where
+  abbrev pub Part : (name : List ℕ) (pool at : ℕ) → Type 0
+  Part name pool at = (now r ≡ name) × (r .ptr .0 ≡ slice-at slices pool .ptr .0) × (r .ptr .1 ≡ slice-at slices pool .ptr .1 + at)
+
+  pub name-base : x < 1024 → Part (name-of (trees-in slices .pool) (trees-in slices .records) x) 1 (rec-at (trees-in slices .records) x .name-at) → NameAt slices x r
   unfolding source-field field-at
-  name-base l e = (rw (lt-ltb x 1024 l) (e .0), λ _. (e .1, e .2), λ h. absurd (omega arith))
+  name-base b e = record { name = rw (lt-ltb x 1024 b) (e .0); pool = rw (lt-ltb x 1024 b) (e .1); offset = rw (lt-ltb x 1024 b) (e .2) }
 
-  pub name-added : 1024 ≤ x → (name ≡ name-of r b (x - 1024)) × A × B → (name ≡ source-field (lent-trees s p b r) x .name) × (x < 1024 → C × D) × (1024 ≤ x → A × B)
+  pub name-added : 1024 ≤ x → x < 2048 → Part (name-of (trees-in slices .request-pool) (trees-in slices .added-records) (x - 1024)) 3 (rec-at (trees-in slices .added-records) (x - 1024) .name-at) → NameAt slices x r
   unfolding source-field field-at
-  name-added l e = (rw (le-ltb x 1024 l) (e .0), λ h. absurd (omega arith), λ _. (e .1, e .2))
+  name-added b c e =
+      let p = le-ltb x 1024 b in
+      let q = lt-ltb x 2048 c in
+      record { name = rw (p, q) (e .0); pool = rw (p, q) (e .1); offset = rw (p, q) (e .2) }
 
-pub ruleset sourcing = (in-base, in-added, from-base, from-added, sits-base, named-base, sits-added, named-added)
+  module _ (l : 2048 ≤ x) (mark : ℕ) (em : mark ≡ mark-of x) where
+    not-base : ltb x 1024 ≡ false
+    not-base = le-ltb x 1024 (omega arith)
+
+    not-added : ltb x 2048 ≡ false
+    not-added = le-ltb x 2048 l
+
+    pub name-kept : (slot : ℕ) → slot ≡ edited-slot x → mark < 2 → Part (name-of (trees-in slices .pool) (trees-in slices .records) slot) 1 (rec-at (trees-in slices .records) slot .name-at) → NameAt slices x r
+    unfolding source-field marked-field marked-name
+    name-kept slot es b e =
+        let p = lt-ltb mark 2 b in
+        record { name = rw (not-base, not-added, ← em, ← es, p) (e .0); pool = rw (not-base, not-added, ← em, p) (e .1); offset = rw (not-base, not-added, ← em, ← es, p) (e .2) }
+
+    pub name-new : 2 ≤ mark → Part (new-name (trees-in slices .request-pool) (trees-in slices .edits) (renaming mark)) 3 (edit-at (trees-in slices .edits) (renaming mark) .name-at) → NameAt slices x r
+    unfolding source-field marked-field marked-name
+    name-new b e =
+        let p = le-ltb mark 2 b in
+        record { name = rw (not-base, not-added, ← em, p) (e .0); pool = rw (not-base, not-added, ← em, p) (e .1); offset = rw (not-base, not-added, ← em, p) (e .2) }
+
+pub ruleset parting = (name-base, name-added, name-kept, name-new)
+
+pub ruleset sourcing =
+    (in-base, in-added, in-edited, in-renamed, from-base, from-added, from-edited, sits-base, named-base, sits-added, named-added, sits-edited, named-edited, sits-renamed, named-renamed)
 
 -- ---- the same of the planned field
 
@@ -89,24 +204,50 @@ bits-again x rest = rw (same-bits x) (go (x % 4294967296) (x / 4294967296) (omeg
         let a′ : x % 256 ≡ r % 256 = omega arith in
         rw (a′, b, c, d, lowest-byte (r / 256) (q * 65536), lowest-byte (r / 65536) (q * 256), lowest-byte (r / 16777216) q)
 
+new-name-length : (pool s : List ℕ) (k : ℕ) → edit-in (length pool) s k ≡ true → length (new-name pool s k) ≡ edit-at s k .name-len
+unfolding new-name
+new-name-length pool s k e =
+    let h = edit-ends (length pool) s k e .1 in
+    length-take-le (edit-at s k .name-len) (drop (edit-at s k .name-at) pool) (simp length-drop (omega arith))
+
+marked-length : (l : Trees) (mark slot : ℕ) → in-pool (length (l .pool)) (l .records) slot ≡ true → (2 ≤ mark → edit-in (length (l .request-pool)) (l .edits) (renaming mark) ≡ true)
+    → marked-len (l .records) (l .edits) mark slot ≡ length (marked-name l mark slot)
+unfolding marked-len marked-name
+marked-length l mark slot h g = ⊎-elim
+    (λ b. rw (lt-ltb mark 2 b, name-length (l .pool) (l .records) slot h))
+    (λ b. rw (le-ltb mark 2 b, new-name-length (l .request-pool) (l .edits) (renaming mark) (g b)))
+    (lt-or-le mark 2)
+
+-- The three kinds of sources.
+pub source-cases : {P : Type 0} (x : ℕ) → (x < 1024 → P) → (1024 ≤ x → x < 2048 → P) → (1024 ≤ x → 2048 ≤ x → P) → P
+source-cases x f g h = ⊎-elim f (λ b. ⊎-elim (g b) (h b) (lt-or-le x 2048)) (lt-or-le x 1024)
+
 module _ (l : Trees) (x : ℕ) where
-  pub sits-in : Sits l x → In (l .records) (l .added-records) x
-  sits-in h = record { base-in = h .base-in; added-in = h .added-in }
+  pub sits-in : Sits l x → In (l .records) (l .added-records) (l .edits) x
+  sits-in h = record { base-in = h .base-in; added-in = h .added-in; edited-in = h .edited-in; renamed-in = h .renamed-in }
 
   pub kind-source : source-kind (l .records) (l .added-records) x ≡ source-field l x .kind
-  unfolding source-kind source-field field-at
-  kind-source = ⊎-elim (λ b. rw (lt-ltb x 1024 b)) (λ b. rw (le-ltb x 1024 b)) (lt-or-le x 1024)
+  unfolding source-kind source-field field-at marked-field
+  kind-source = source-cases x (λ b. rw (lt-ltb x 1024 b)) (λ b c. rw (le-ltb x 1024 b, lt-ltb x 2048 c)) (λ b c. rw (le-ltb x 1024 b, le-ltb x 2048 c))
 
-  pub len-source : Sits l x → source-len (l .records) (l .added-records) x ≡ length (source-field l x .name)
-  unfolding source-len source-field field-at
-  len-source h = ⊎-elim
+  pub flags-source : source-flags (l .records) (l .added-records) x ≡ source-field l x .flags
+  unfolding source-flags source-field field-at marked-field
+  flags-source = source-cases x (λ b. rw (lt-ltb x 1024 b)) (λ b c. rw (le-ltb x 1024 b, lt-ltb x 2048 c)) (λ b c. rw (le-ltb x 1024 b, le-ltb x 2048 c))
+
+  pub code-source : source-code (l .records) (l .added-records) x ≡ source-field l x .code
+  unfolding source-code source-field field-at marked-field
+  code-source = source-cases x (λ b. rw (lt-ltb x 1024 b)) (λ b c. rw (le-ltb x 1024 b, lt-ltb x 2048 c)) (λ b c. rw (le-ltb x 1024 b, le-ltb x 2048 c))
+
+  pub len-source : Sits l x → source-len (l .records) (l .added-records) (l .edits) x ≡ length (source-field l x .name)
+  unfolding source-len source-field field-at marked-field
+  len-source h = source-cases x
       (λ b. rw (lt-ltb x 1024 b, name-length (l .pool) (l .records) x (h .base-named b)))
-      (λ b. rw (le-ltb x 1024 b, name-length (l .request-pool) (l .added-records) (x - 1024) (h .added-named b)))
-      (lt-or-le x 1024)
+      (λ b c. rw (le-ltb x 1024 b, lt-ltb x 2048 c, name-length (l .request-pool) (l .added-records) (x - 1024) (h .added-named b c)))
+      (λ b c. rw (le-ltb x 1024 b, le-ltb x 2048 c) (marked-length l (mark-of x) (edited-slot x) (h .edited-named c) (h .renamed-named c)))
 
-  pub row-source : (id kids at : ℕ) → Sits l x → source-row (l .records) (l .added-records) x id kids at ≡ rec-bytes at (planned-field l (record { slot = x; id = id })) kids
-  unfolding source-row row-of source-field planned-field field-at row24
-  row-source id kids at h = ⊎-elim
+  pub row-source : (id kids at : ℕ) → Sits l x → source-row (l .records) (l .added-records) (l .edits) x id kids at ≡ rec-bytes at (planned-field l (record { slot = x; id = id })) kids
+  unfolding source-row row-of source-field planned-field field-at marked-field row24
+  row-source id kids at h = source-cases x
       (λ b. rw (lt-ltb x 1024 b, name-length (l .pool) (l .records) x (h .base-named b)) (bits-again id _))
-      (λ b. rw (le-ltb x 1024 b, name-length (l .request-pool) (l .added-records) (x - 1024) (h .added-named b)) (bits-again id _))
-      (lt-or-le x 1024)
+      (λ b c. rw (le-ltb x 1024 b, lt-ltb x 2048 c, name-length (l .request-pool) (l .added-records) (x - 1024) (h .added-named b c)) (bits-again id _))
+      (λ b c. rw (le-ltb x 1024 b, le-ltb x 2048 c, marked-length l (mark-of x) (edited-slot x) (h .edited-named c) (h .renamed-named c)) (bits-again id _))

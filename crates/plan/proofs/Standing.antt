@@ -34,8 +34,8 @@ use Rattle.plan.proofs.Walks.{roots-are}
 abbrev pub field-in : Trees → (slots ids : List ℕ) → ℕ → Field
 field-in l xs is i = planned-field l (source-in xs is i)
 
-abbrev pub len-in : (base added slots : List ℕ) → ℕ → ℕ
-len-in base added xs i = source-len base added (getD xs i 0)
+abbrev pub len-in : (base added edits slots : List ℕ) → ℕ → ℕ
+len-in base added edits xs i = source-len base added edits (getD xs i 0)
 
 module _ (l : Trees) (xs is : List ℕ) where
   pub field-id : (k : ℕ) → field-in l xs is k .id ≡ turned (getD is k 0)
@@ -114,8 +114,8 @@ pub name-planned : (l : Trees) (a : Source) → planned-field l a .name ≡ sour
 unfolding planned-field
 name-planned l a = refl
 
-pub draft-sum : (l : Trees) (plan : List (List ℕ)) (m : ℕ) → DraftIn l plan m → name-bytes (fields-in l plan m) ≡ sum-from (len-in (l .records) (l .added-records) (sources plan)) 0 m
+pub draft-sum : (l : Trees) (plan : List (List ℕ)) (m : ℕ) → DraftIn l plan m → name-bytes (fields-in l plan m) ≡ sum-from (len-in (l .records) (l .added-records) (l .edits) (sources plan)) 0 m
 draft-sum l plan m d =
     sym (fields-names plan m (d .shaped) l)
-    ∙ lengths (field-in l (sources plan) (numbers plan)) (len-in (l .records) (l .added-records) (sources plan)) 0 m
+    ∙ lengths (field-in l (sources plan) (numbers plan)) (len-in (l .records) (l .added-records) (l .edits) (sources plan)) 0 m
     (λ i b. ap length (name-planned l (source-in (sources plan) (numbers plan) i)) ∙ sym (len-source l (getD (sources plan) i 0) (d .sits i (omega arith))))

@@ -81,12 +81,31 @@ decoded-named list s pool t e j b =
 module _ (list : ℕ) (l : Trees) (t : Forest Field) where
   -- A slot of a base that decodes is a source that is there, and so is 1,024 and a slot of an additions tree that does.
   pub base-sits : decode list (l .records) (l .pool) ≡ ok t → slots (l .records) ≤ 1024 → (j : ℕ) → j < slots (l .records) → Sits l j
-  base-sits e w j b = record { base-in = λ _. omega arith; base-named = λ _. decoded-named list (l .records) (l .pool) t e j b; added-in = λ c. absurd (omega arith); added-named = λ c. absurd (omega arith) }
+  base-sits e w j b =
+      record {
+        base-in = λ _. omega arith;
+        base-named = λ _. decoded-named list (l .records) (l .pool) t e j b;
+        added-in = λ c _. absurd (omega arith);
+        added-named = λ c _. absurd (omega arith);
+        edited-in = λ c. absurd (omega arith);
+        edited-named = λ c. absurd (omega arith);
+        renamed-in = λ c _. absurd (omega arith);
+        renamed-named = λ c _. absurd (omega arith);
+      }
 
-  pub added-sits : decode list (l .added-records) (l .request-pool) ≡ ok t → (j : ℕ) → j < slots (l .added-records) → Sits l (1024 + j)
-  added-sits e j b =
+  pub added-sits : decode list (l .added-records) (l .request-pool) ≡ ok t → slots (l .added-records) ≤ 1024 → (j : ℕ) → j < slots (l .added-records) → Sits l (1024 + j)
+  added-sits e w j b =
       let d : 1024 + j - 1024 ≡ j = omega arith in
-      record { base-in = λ c. absurd (omega arith); base-named = λ c. absurd (omega arith); added-in = λ _. omega arith; added-named = λ _. rw d (decoded-named list (l .added-records) (l .request-pool) t e j b) }
+      record {
+        base-in = λ c. absurd (omega arith);
+        base-named = λ c. absurd (omega arith);
+        added-in = λ _ _. omega arith;
+        added-named = λ _ _. rw d (decoded-named list (l .added-records) (l .request-pool) t e j b);
+        edited-in = λ c. absurd (omega arith);
+        edited-named = λ c. absurd (omega arith);
+        renamed-in = λ c _. absurd (omega arith);
+        renamed-named = λ c _. absurd (omega arith);
+      }
 
 -- ---- what it is a plan of
 

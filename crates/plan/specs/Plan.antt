@@ -52,10 +52,14 @@ unfoldable pub marked-field : Trees → (mark slot : ℕ) → Field
 marked-field l mark slot =
     with-name (marked-name l mark slot) (with-flags (marked-flags (l .records) mark slot) (field-at (l .pool) (l .records) slot))
 
+-- What a source gives: of the base, of the additions tree, of the base as edits leave it.
+abbrev pub by-source : {A : Type 0} → (x : ℕ) → (base added edited : A) → A
+by-source x base added edited = cond (ltb x 1024) base (cond (ltb x 2048) added edited)
+
 unfoldable pub source-field : Trees → ℕ → Field
 source-field l x =
-    cond (ltb x 1024) (field-at (l .pool) (l .records) x)
-    (cond (ltb x 2048) (field-at (l .request-pool) (l .added-records) (x - 1024)) (marked-field l (mark-of x) (edited-slot x)))
+    by-source x (field-at (l .pool) (l .records) x) (field-at (l .request-pool) (l .added-records) (x - 1024))
+    (marked-field l (mark-of x) (edited-slot x))
 
 unfoldable pub planned-field : Trees → Source → Field
 planned-field l a = with-id (turned (a .id)) (source-field l (a .slot))

@@ -1,30 +1,24 @@
--- What a planned record takes from its source, in the base (below 1,024) or in the additions tree, and the bytes that it becomes.
+-- What a planned record takes from its source, and the bytes that it becomes.
 use Prim.Native.Nat.{ℕ, _+_, _-_, _*_, _<_, _≤_}
 use mathlib.Core.Path.{_≡_}
 use mathlib.Core.Bool.{Bool, cond}
 use mathlib.Core.List.{List, _++_}
 use lib.Dec.{ltb, leb}
 use lib.ListN.{length, getD, drop}
+use denote.Ref.{RefT, now}
 use Rattle.paper.specs.declared.Kind.{Kind}
 use Rattle.paper.specs.Forest.{Forest}
 use Rattle.paper.specs.Field.{Field}
 use Rattle.paper.specs.Sound.{name-bytes}
 use Rattle.paper.specs.Bytes.{rec-at, kind-at}
-use Rattle.paper.specs.Encode.{kind-byte, row24, record-bytes, pool-bytes}
-use Rattle.record.specs.Trees.{lent-trees}
 use Rattle.paper.specs.Lists.{edit-at}
-use Rattle.plan.specs.Plan.{Source, plan-fields, edited-slot, mark-of, renaming, marked-flags}
+use Rattle.paper.specs.Encode.{kind-byte, row24, record-bytes, pool-bytes}
+use Rattle.record.specs.Trees.{lent-trees, trees-in, slice-at}
+use Rattle.plan.specs.Plan.{Source, plan-fields, source-field, by-source, edited-slot, mark-of, renaming, marked-flags}
 use Rattle.plan.specs.Draft.{Draft}
 
--- The list in which a source's record stands, and its slot there.
-abbrev pub records-of : (base added : List ℕ) → ℕ → List ℕ
-records-of base added x = cond (ltb x 1024) base (cond (ltb x 2048) added base)
-
-abbrev pub slot-in : ℕ → ℕ
-slot-in x = cond (ltb x 1024) x (cond (ltb x 2048) (x - 1024) (edited-slot x))
-
 unfoldable pub source-kind : (base added : List ℕ) → ℕ → Kind
-source-kind base added x = kind-at (records-of base added x) (slot-in x)
+source-kind base added x = by-source x (kind-at base x) (kind-at added (x - 1024)) (kind-at base (edited-slot x))
 
 -- The length of a base record's name as a mark leaves it.
 unfoldable pub marked-len : (base edits : List ℕ) (mark slot : ℕ) → ℕ
@@ -32,22 +26,43 @@ marked-len base edits mark slot = cond (ltb mark 2) (rec-at base slot .name-len)
 
 unfoldable pub source-len : (base added edits : List ℕ) → ℕ → ℕ
 source-len base added edits x =
-    cond (ltb x 2048) (rec-at (records-of base added x) (slot-in x) .name-len) (marked-len base edits (mark-of x) (edited-slot x))
+    by-source x (rec-at base x .name-len) (rec-at added (x - 1024) .name-len) (marked-len base edits (mark-of x) (edited-slot x))
 
 unfoldable pub source-flags : (base added : List ℕ) → ℕ → ℕ
 source-flags base added x =
-    cond (ltb x 2048) (rec-at (records-of base added x) (slot-in x) .flags) (marked-flags base (mark-of x) (edited-slot x))
+    by-source x (rec-at base x .flags) (rec-at added (x - 1024) .flags) (marked-flags base (mark-of x) (edited-slot x))
 
 unfoldable pub source-code : (base added : List ℕ) → ℕ → ℕ
-source-code base added x = rec-at (records-of base added x) (slot-in x) .code
+source-code base added x = by-source x (rec-at base x .code) (rec-at added (x - 1024) .code) (rec-at base (edited-slot x) .code)
 
--- The record at a slot of a list, with another name length, flags, id, count and name offset.
-unfoldable pub row-of : List ℕ → (k len flags id kids at : ℕ) → List ℕ
-row-of records k len flags id kids at = row24 id at len (kind-byte (kind-at records k)) flags kids (rec-at records k .code) (rec-at records k .attribute)
+-- The record at a slot of a list, with another id, count, name offset, name length and flags.
+unfoldable pub row-of : List ℕ → (k id kids at len flags : ℕ) → List ℕ
+row-of records k id kids at len flags =
+    row24 id at len (kind-byte (kind-at records k)) flags kids (rec-at records k .code) (rec-at records k .attribute)
+
+-- The same with its own name length and flags.
+abbrev pub kept-row : List ℕ → (k id kids at : ℕ) → List ℕ
+kept-row records k id kids at = row-of records k id kids at (rec-at records k .name-len) (rec-at records k .flags)
 
 unfoldable pub source-row : (base added edits : List ℕ) → (x id kids at : ℕ) → List ℕ
 source-row base added edits x id kids at =
-    row-of (records-of base added x) (slot-in x) (source-len base added edits x) (source-flags base added x) id kids at
+    by-source x (kept-row base x id kids at) (kept-row added (x - 1024) id kids at)
+    (row-of base (edited-slot x) id kids at (marked-len base edits (mark-of x) (edited-slot x)) (marked-flags base (mark-of x) (edited-slot x)))
+
+-- The pool in which a source's name lies, by its number in `Trees`, and where there.
+abbrev pub pool-of : ℕ → ℕ
+pool-of x = by-source x 1 3 (cond (ltb (mark-of x) 2) 1 3)
+
+abbrev pub name-from : (base added edits : List ℕ) → ℕ → ℕ
+name-from base added edits x =
+    by-source x (rec-at base x .name-at) (rec-at added (x - 1024) .name-at)
+    (cond (ltb (mark-of x) 2) (rec-at base (edited-slot x) .name-at) (edit-at edits (renaming (mark-of x)) .name-at))
+
+-- A slice is a source's name: the very part of the pool that holds it.
+pub record NameAt (slices : List (RefT (List ℕ))) (x : ℕ) (r : RefT (List ℕ)) : Type 0 where
+  pub name : now r ≡ source-field (trees-in slices) x .name
+  pub pool : r .ptr .0 ≡ slice-at slices (pool-of x) .ptr .0
+  pub offset : r .ptr .1 ≡ slice-at slices (pool-of x) .ptr .1 + name-from (trees-in slices .records) (trees-in slices .added-records) (trees-in slices .edits) x
 
 -- A source stands in its list, and the edit that renames it in its own.
 pub record In (base added edits : List ℕ) (x : ℕ) : Type 0 where

@@ -1,6 +1,8 @@
 // Plans: planned records, their names as parts of one of two pools, and the one writer.
 use paper::Kind;
+use paper::is_required;
 use record::ADDED_RECORDS;
+use record::EDITS;
 use record::POOL;
 use record::RECORDS;
 use record::REQUEST_POOL;
@@ -14,15 +16,18 @@ use record::kind_at;
 use record::name_at;
 use record::name_len_at;
 use record::word_bytes;
+use record_entries::new_name_at;
+use record_entries::new_name_len;
 ghost use mathlib.Core.Path.{_≡_};
-ghost use Prim.Native.Nat.{_+_, _-_, _*_, _≤_, _<_};
+ghost use Prim.Native.Nat.{_+_, _*_, _≤_, _<_};
 ghost use lib.ListN.{length, getD};
 ghost use lib.Seq.{sets};
-ghost use Rattle.paper.specs.Bytes.{rec-at};
+ghost use Rattle.paper.specs.Edits.{relaxed};
 ghost use Rattle.paper.specs.Encode.{kind-byte, row24};
-ghost use Rattle.record.specs.Trees.{trees-in, slice-at};
-ghost use Rattle.plan.specs.Plan.{source-field, Sits};
-ghost use Rattle.plan.specs.Sources.{source-kind, source-len, row-of, source-row, In, Summed, Written};
+ghost use Rattle.record.specs.Trees.{trees-in};
+ghost use Rattle.plan.specs.Plan.{edited-slot, mark-of, marked-flags, Sits};
+ghost use Rattle.plan.specs.Sources.{source-kind, marked-len, source-len, source-flags, source-code};
+ghost use Rattle.plan.specs.Sources.{row-of, kept-row, source-row, NameAt, In, Summed, Written};
 ghost use Rattle.plan.specs.Named.{names-in, SourcesIn};
 ghost use Rattle.plan.specs.Table.{sources, PlanIn, fields-in, InsideIn, planned-row, planned-at, CopiedIn, TakenIn};
 
@@ -76,9 +81,75 @@ pub fn take_base(records: &[u8], n: usize, plan: &mut PlanRows)
     copy_records(records, 0, n, plan, 0);
 }
 
+// Of a source from 2,048 on: the slot in the base, and the mark.
+fn edited_slot(k: usize) -> usize
+    requires { ⌜ 2048 ≤ k ⌝ }
+    ensures { λ r. ⌜ r ≡ edited-slot k ⌝ }
+{
+    (k - 2048) % 1024
+}
+
+fn mark_of(k: usize) -> usize
+    requires { ⌜ 2048 ≤ k ⌝ }
+    ensures { λ r. ⌜ r ≡ mark-of k ⌝ }
+{
+    (k - 2048) / 1024
+}
+
+// The flags of a column that is no longer required.
+fn relaxed_flags(flags: u8) -> u8
+    ensures { λ r. ⌜ r ≡ relaxed flags ⌝ }
+{
+    if is_required(flags) {
+        return flags - 1;
+    }
+    flags
+}
+
+// The length of an edited record's name: the new one's, if it is renamed.
+fn edited_name_len<'a>(trees: &Trees<'a>, k: usize) -> usize
+    requires { ⌜ (2048 ≤ k) × In (trees-in (now trees) .records)
+        (trees-in (now trees) .added-records) (trees-in (now trees) .edits) k ⌝ }
+    ensures { λ r. ⌜ (r ≡ marked-len (trees-in (now (trees .entry)) .records)
+        (trees-in (now (trees .entry)) .edits) (mark-of k) (edited-slot k)) × (r ≤ 255) ⌝ }
+{
+    let mark = mark_of(k);
+    if mark < 2 {
+        return name_len_at(trees[RECORDS], edited_slot(k));
+    }
+    new_name_len(trees[EDITS], mark / 2 - 1)
+}
+
+// Its flags: no longer required, if it is relaxed.
+fn edited_flags<'a>(trees: &Trees<'a>, k: usize) -> u8
+    requires { ⌜ (2048 ≤ k) × In (trees-in (now trees) .records)
+        (trees-in (now trees) .added-records) (trees-in (now trees) .edits) k ⌝ }
+    ensures { λ r. ⌜ r ≡ marked-flags (trees-in (now (trees .entry)) .records) (mark-of k)
+        (edited-slot k) ⌝ }
+{
+    let flags = flags_at(trees[RECORDS], edited_slot(k));
+    if mark_of(k) % 2 == 1 {
+        return relaxed_flags(flags);
+    }
+    flags
+}
+
+// Its name: a part of the request pool, if it is renamed, else of the base's.
+fn edited_name<'a>(trees: &Trees<'a>, k: usize) -> &'a [u8]
+    requires { ⌜ (2048 ≤ k) × Sits (trees-in (now trees)) k ⌝ }
+    ensures { λ r. ⌜ NameAt (now (trees .entry)) k r ⌝ }
+{
+    let mark = mark_of(k);
+    if 2 <= mark {
+        return new_name_at(trees[REQUEST_POOL], trees[EDITS], mark / 2 - 1);
+    }
+    name_at(trees[POOL], trees[RECORDS], edited_slot(k))
+}
+
 // A planned record's kind.
 pub fn planned_kind<'a>(trees: &Trees<'a>, source: u32) -> Kind
-    requires { ⌜ In (trees-in (now trees) .records) (trees-in (now trees) .added-records) source ⌝ }
+    requires { ⌜ In (trees-in (now trees) .records) (trees-in (now trees) .added-records)
+        (trees-in (now trees) .edits) source ⌝ }
     ensures { λ r. ⌜ r ≡ source-kind (trees-in (now (trees .entry)) .records)
         (trees-in (now (trees .entry)) .added-records) source ⌝ }
 {
@@ -88,14 +159,53 @@ pub fn planned_kind<'a>(trees: &Trees<'a>, source: u32) -> Kind
     if k < 1024 {
         return kind_at(records, k);
     }
-    kind_at(added, k - 1024)
+    if k < 2048 {
+        return kind_at(added, k - 1024);
+    }
+    kind_at(records, edited_slot(k))
 }
 
-// The length of a planned record's name.
+// Its flags.
+pub fn planned_flags<'a>(trees: &Trees<'a>, source: u32) -> u8
+    requires { ⌜ In (trees-in (now trees) .records) (trees-in (now trees) .added-records)
+        (trees-in (now trees) .edits) source ⌝ }
+    ensures { λ r. ⌜ r ≡ source-flags (trees-in (now (trees .entry)) .records)
+        (trees-in (now (trees .entry)) .added-records) source ⌝ }
+{
+    let k = source as usize;
+    if k < 1024 {
+        return flags_at(trees[RECORDS], k);
+    }
+    if k < 2048 {
+        return flags_at(trees[ADDED_RECORDS], k - 1024);
+    }
+    edited_flags(trees, k)
+}
+
+// Its type code.
+pub fn planned_code<'a>(trees: &Trees<'a>, source: u32) -> u32
+    requires { ⌜ In (trees-in (now trees) .records) (trees-in (now trees) .added-records)
+        (trees-in (now trees) .edits) source ⌝ }
+    ensures { λ r. ⌜ r ≡ source-code (trees-in (now (trees .entry)) .records)
+        (trees-in (now (trees .entry)) .added-records) source ⌝ }
+{
+    let k = source as usize;
+    if k < 1024 {
+        return code_at(trees[RECORDS], k);
+    }
+    if k < 2048 {
+        return code_at(trees[ADDED_RECORDS], k - 1024);
+    }
+    code_at(trees[RECORDS], edited_slot(k))
+}
+
+// The length of its name.
 pub fn planned_name_len<'a>(trees: &Trees<'a>, source: u32) -> usize
-    requires { ⌜ In (trees-in (now trees) .records) (trees-in (now trees) .added-records) source ⌝ }
+    requires { ⌜ In (trees-in (now trees) .records) (trees-in (now trees) .added-records)
+        (trees-in (now trees) .edits) source ⌝ }
     ensures { λ r. ⌜ (r ≡ source-len (trees-in (now (trees .entry)) .records)
-        (trees-in (now (trees .entry)) .added-records) source) × (r ≤ 255) ⌝ }
+        (trees-in (now (trees .entry)) .added-records) (trees-in (now (trees .entry)) .edits)
+        source) × (r ≤ 255) ⌝ }
 {
     // both are read before the choice, so that a loop need not read them each time
     let records = trees[RECORDS];
@@ -104,19 +214,16 @@ pub fn planned_name_len<'a>(trees: &Trees<'a>, source: u32) -> usize
     if k < 1024 {
         return name_len_at(records, k);
     }
-    name_len_at(added, k - 1024)
+    if k < 2048 {
+        return name_len_at(added, k - 1024);
+    }
+    edited_name_len(trees, k)
 }
 
-// A planned record's name: a part of the base pool or of the request pool, whichever it came from.
+// A planned record's name: a part of the base pool or of the request pool, whichever holds it.
 pub fn planned_name<'a>(trees: &Trees<'a>, source: u32) -> &'a [u8]
     requires { ⌜ Sits (trees-in (now trees)) source ⌝ }
-    ensures { λ r. ⌜ (now r ≡ source-field (trees-in (now (trees .entry))) source .name)
-        × (source < 1024 → (r .ptr .0 ≡ slice-at (now (trees .entry)) 1 .ptr .0)
-        × (r .ptr .1 ≡ slice-at (now (trees .entry)) 1 .ptr .1
-        + rec-at (trees-in (now (trees .entry)) .records) source .name-at))
-        × (1024 ≤ source → (r .ptr .0 ≡ slice-at (now (trees .entry)) 3 .ptr .0)
-        × (r .ptr .1 ≡ slice-at (now (trees .entry)) 3 .ptr .1
-        + rec-at (trees-in (now (trees .entry)) .added-records) (source - 1024) .name-at)) ⌝ }
+    ensures { λ r. ⌜ NameAt (now (trees .entry)) source r ⌝ }
 {
     let records = trees[RECORDS];
     let pool = trees[POOL];
@@ -126,7 +233,10 @@ pub fn planned_name<'a>(trees: &Trees<'a>, source: u32) -> &'a [u8]
     if k < 1024 {
         return name_at(pool, records, k);
     }
-    name_at(request_pool, added, k - 1024)
+    if k < 2048 {
+        return name_at(request_pool, added, k - 1024);
+    }
+    edited_name(trees, k)
 }
 
 // The name of the planned record at a place: the very part of the pool that holds it.
@@ -141,7 +251,8 @@ pub fn name_of<'a>(trees: &Trees<'a>, plan: &PlanRows, m: usize, k: usize) -> &'
 pub fn names_fit<'a>(trees: &Trees<'a>, plan: &PlanRows, m: usize) -> bool
     requires { ⌜ InsideIn (trees-in (now trees)) (now plan) m ⌝ }
     ensures { λ r. ⌜ Summed (trees-in (now (trees .entry)) .records)
-        (trees-in (now (trees .entry)) .added-records) (sources (now (plan .entry))) m r ⌝ }
+        (trees-in (now (trees .entry)) .added-records) (trees-in (now (trees .entry)) .edits)
+        (sources (now (plan .entry))) m r ⌝ }
 {
     let mut i = 0;
     let mut sum = 0;
@@ -210,20 +321,44 @@ fn row_bytes(
     ]
 }
 
-// A record of a list with another id, name offset and number of members.
-fn changed_bytes(recs: &[u8], slot: usize, id: u32, kids: u32, at: u32) -> [u8; 24]
-    requires { ⌜ slot * 24 + 24 ≤ length (now recs) ⌝ }
-    ensures { λ r. ⌜ r ≡ row-of (now (recs .entry)) slot id kids at ⌝ }
+// A record of a list with another id, number of members, name offset, name length and flags.
+fn changed_bytes(
+    recs: &[u8],
+    slot: usize,
+    id: u32,
+    kids: u32,
+    at: u32,
+    len: usize,
+    flags: u8,
+) -> [u8; 24]
+    requires { ⌜ (slot * 24 + 24 ≤ length (now recs)) × (len ≤ 255) ⌝ }
+    ensures { λ r. ⌜ r ≡ row-of (now (recs .entry)) slot id kids at len flags ⌝ }
 {
     row_bytes(
         id,
         at,
-        name_len_at(recs, slot) as u8,
+        len as u8,
         kind_byte(kind_at(recs, slot)),
-        flags_at(recs, slot),
+        flags,
         kids,
         code_at(recs, slot),
         attribute_at(recs, slot),
+    )
+}
+
+// The same with its own name length and flags.
+fn kept_bytes(recs: &[u8], slot: usize, id: u32, kids: u32, at: u32) -> [u8; 24]
+    requires { ⌜ slot * 24 + 24 ≤ length (now recs) ⌝ }
+    ensures { λ r. ⌜ r ≡ kept-row (now (recs .entry)) slot id kids at ⌝ }
+{
+    changed_bytes(
+        recs,
+        slot,
+        id,
+        kids,
+        at,
+        name_len_at(recs, slot),
+        flags_at(recs, slot),
     )
 }
 
@@ -231,13 +366,19 @@ fn changed_bytes(recs: &[u8], slot: usize, id: u32, kids: u32, at: u32) -> [u8; 
 fn planned_bytes<'a>(trees: &Trees<'a>, source: u32, id: u32, kids: u32, at: u32) -> [u8; 24]
     requires { ⌜ Sits (trees-in (now trees)) source ⌝ }
     ensures { λ r. ⌜ r ≡ source-row (trees-in (now (trees .entry)) .records)
-        (trees-in (now (trees .entry)) .added-records) source id kids at ⌝ }
+        (trees-in (now (trees .entry)) .added-records) (trees-in (now (trees .entry)) .edits)
+        source id kids at ⌝ }
 {
     let k = source as usize;
     if k < 1024 {
-        return changed_bytes(trees[RECORDS], k, id, kids, at);
+        return kept_bytes(trees[RECORDS], k, id, kids, at);
     }
-    changed_bytes(trees[ADDED_RECORDS], k - 1024, id, kids, at)
+    if k < 2048 {
+        return kept_bytes(trees[ADDED_RECORDS], k - 1024, id, kids, at);
+    }
+    let len = edited_name_len(trees, k);
+    let flags = edited_flags(trees, k);
+    changed_bytes(trees[RECORDS], edited_slot(k), id, kids, at, len, flags)
 }
 
 // The bytes of `src` into `out` from `at` on; the rest of `out` stays.

@@ -7,6 +7,7 @@ use record::ADDITIONS;
 use record::Changed;
 use record::Check;
 use record::DELETIONS;
+use record::EDITS;
 use record::IDENTIFIERS;
 use record::Lists;
 use record::RECORDS;
@@ -14,6 +15,8 @@ use record::Refusal;
 use record::Trees;
 use record::long;
 use record::turn;
+use update_edited::edit_columns;
+use update_edits::Marks;
 use update_rebuild::Decisions;
 use update_rebuild::Given;
 use update_request::Opened;
@@ -49,11 +52,13 @@ fn given_of<'a>(trees: &Trees<'a>, lists: &Lists<'a>, last: u64) -> Given
         added: trees[ADDED_RECORDS].len() / 24,
         deletions: lists[DELETIONS].len() / 8,
         additions: lists[ADDITIONS].len() / 8,
+        edits: trees[EDITS].len() / 16,
         last,
     }
 }
 
-// Decides all changes of a request that passed 1 to 9: refusal 10, then 11 to 18 and 22, or what the rebuild needs.
+// Decides all changes of a request that passed 1 to 9: refusal 10, then 11 to 18 and 22, then 23, 24 and 13 of the edits; or what the
+// rebuild needs.
 fn decide<'a>(
     trees: &Trees<'a>,
     lists: &Lists<'a>,
@@ -62,11 +67,12 @@ fn decide<'a>(
     plan: &PlanRows,
     index: &IndexRows,
     decisions: &mut Decisions,
+    marks: &mut Marks,
 ) -> Decided
     requires { ⌜ Decidable (trees-in (now trees)) (lists-in (now lists)) last columns (now plan)
-        (now index) (now decisions) ⌝ }
+        (now index) (now decisions) (now marks) ⌝ }
     ensures { λ r. ⌜ Settles (trees-in (now (trees .entry))) (lists-in (now (lists .entry))) last r
-        (now (decisions .exit)) ⌝ }
+        (now (decisions .exit)) (now (marks .exit)) ⌝ }
 {
     let given = given_of(trees, lists, last);
     if columns as usize != given.additions {
@@ -77,10 +83,18 @@ fn decide<'a>(
             place: 0,
         });
     }
-    decide_changes(trees, lists, given, plan, index, decisions)
+    let decided = decide_changes(trees, lists, given, plan, index, decisions);
+    if let Decided::Refused(r) = decided {
+        return Decided::Refused(r);
+    }
+    let edited = edit_columns(trees, given, plan, index, decisions, marks);
+    if let Check::Refused(r) = edited {
+        return Decided::Refused(r);
+    }
+    decided
 }
 
-// Updates a schema: drops columns, adds columns, rebuilds it. On a refusal no byte changes.
+// Updates a schema: drops, adds and edits columns, rebuilds it. On a refusal no byte changes.
 pub fn update<'a>(
     trees: &Trees<'a>,
     lists: &Lists<'a>,
@@ -102,6 +116,7 @@ pub fn update<'a>(
             let mut plan = [[0u32; 1024]; 3];
             let mut index = [[0u16; 1024]; 8];
             let mut decisions = [[0u64; 64]; 4];
+            let mut marks = [0u8; 1024];
             // test
             let n = trees[RECORDS].len() / 24;
             let sound = index_base(trees, n, lists[IDENTIFIERS], &mut plan, &mut index);
@@ -110,7 +125,16 @@ pub fn update<'a>(
             }
             // decide
             let last = counted(last_id);
-            match decide(trees, lists, last, columns, &plan, &index, &mut decisions) {
+            match decide(
+                trees,
+                lists,
+                last,
+                columns,
+                &plan,
+                &index,
+                &mut decisions,
+                &mut marks,
+            ) {
                 Decided::Refused(r) => Changed::Refused(r),
                 // plan, test, write
                 Decided::Last(consumed) => write_rebuilt(
@@ -119,6 +143,7 @@ pub fn update<'a>(
                     given_of(trees, lists, consumed),
                     roots,
                     &decisions,
+                    &marks,
                     &mut plan,
                     &mut index,
                     out_records,

@@ -55,7 +55,7 @@ pub record Deleted (f : Found) (identifiers : List ℕ) (k : ℕ) (r : Dropping)
 -- 13 and 14 of the added column at a slot
 unfoldable pub unbarred : (pool records : List ℕ) (slot k : ℕ) → Answer (Unit {0})
 unbarred pool records slot k = do
-  dotless k (among 46 (name-of pool records slot))
+  dotless 3 k (among 46 (name-of pool records slot))
   fillable k (eqb (rec-at records slot .flags) 1)
 
 unfoldable pub goes : Answer (Option ℕ) → Going

@@ -43,12 +43,13 @@ ghost use Rattle.update_rebuild.specs.Planned.{
   Rebuilds,
 };
 
-// How much a request has: base records, added records, deletions and additions; and the last id, plus 2^31.
+// How much a request has: base records, added records, deletions, additions and edits; and the last id, plus 2^31.
 pub struct Given {
     pub base: usize,
     pub added: usize,
     pub deletions: usize,
     pub additions: usize,
+    pub edits: usize,
     pub last: u64,
 }
 

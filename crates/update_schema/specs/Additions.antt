@@ -45,7 +45,7 @@ numbered under last k slot records =
 -- One step of the paper's `placed-all`: 13, 14, then 15, 16, 22, 17, then 18.
 unfoldable pub one-placed : Forest Field → List ℕ → (last k : ℕ) → Option (List ℕ) → Field → Forest Field → Answer (Option ℕ)
 one-placed t dropped last k p f m = do
-  dotless k (among 46 (f .name))
+  dotless 3 k (among 46 (f .name))
   fillable k (eqb (f .flags) 1)
   q ← placed t dropped k (f .name) p
   ids-left 3 k (ltb highest (suc (last + size m)))

@@ -12,6 +12,8 @@ use record::Trees;
 use record::turn_back;
 use update_dropped::Dropped;
 use update_dropped::gather;
+use update_edits::Marks;
+use update_edits::mark_plan;
 use update_rebuild::DROPS;
 use update_rebuild::Decisions;
 use update_rebuild::Given;
@@ -19,6 +21,38 @@ use update_rebuild::Step;
 use update_rebuild::rebuild;
 ghost use Rattle.record.specs.Trees.{trees-in};
 ghost use Rattle.update_write.specs.Ending.{Rebuildable, Ends};
+
+// The base rebuilt, its columns as the edits leave them.
+fn rebuild_edited<'a>(
+    trees: &Trees<'a>,
+    given: Given,
+    roots: u32,
+    dropped: &[u32; 64],
+    drops: usize,
+    decisions: &Decisions,
+    marks: &Marks,
+    plan: &mut PlanRows,
+) -> Step
+    requires { ⌜ Based (trees-in (now trees) .records) (given .base) roots
+        × Good (set-of (now dropped) drops)
+        × ResolvedIn (trees-in (now trees) .added-records) given (now decisions)
+        × Roomy (now plan) × Marking given (now marks) ⌝ }
+    ensures { λ r. ⌜ Rebuilds (mapped (marked-source (now (marks .entry)))
+        (rebuilt-base (trees-in (now (trees .entry)) .records) (given .base)
+        (dropped-ids (set-of (now (dropped .entry)) drops))
+        (additions-in (trees-in (now (trees .entry)) .added-records) given
+        (now (decisions .entry)))))
+        (given .base) (now (plan .entry)) r (now (plan .exit)) ⌝ }
+{
+    let step = rebuild(trees, given, roots, dropped, drops, decisions, plan);
+    if given.edits == 0 {
+        return step;
+    }
+    if let Step::Went(place) = step {
+        mark_plan(plan, place.at, marks);
+    }
+    step
+}
 
 // Rebuilds the base as it was decided, and writes it: refusal 19, then 7 to 9 of the rebuilt tree; on a refusal no byte changes. What
 // the two tables held is gone then.
@@ -28,6 +62,7 @@ pub fn write_rebuilt<'a>(
     given: Given,
     roots: u32,
     decisions: &Decisions,
+    marks: &Marks,
     plan: &mut PlanRows,
     index: &mut IndexRows,
     out_records: &mut [u8],
@@ -42,13 +77,14 @@ pub fn write_rebuilt<'a>(
     // plan
     let mut dropped = Dropped { ids: [0; 64], n: 0 };
     dropped.n = gather(&decisions[DROPS], given.deletions, &mut dropped.ids);
-    let step = rebuild(
+    let step = rebuild_edited(
         trees,
         given,
         roots,
         &dropped.ids,
         dropped.n,
         decisions,
+        marks,
         plan,
     );
     let Step::Went(place) = step else {

@@ -9,11 +9,9 @@ unfolding row-of
 changed-bytes-spec =
     tie.close
     (tie.spec
-    (λ c κs. search needs)  -- name-len-at-requires
     (λ c. search needs)  -- cast-row-bytes
     (λ c κs. search needs)  -- kind-at-requires
     (λ c κs. search needs)  -- kind-byte-requires
-    (λ c κs. search needs)  -- flags-at-requires
     (λ c κs. search needs)  -- code-at-requires
     (λ c κs. search needs)  -- attribute-at-requires
     (λ c κs. search needs)  -- row-bytes-requires

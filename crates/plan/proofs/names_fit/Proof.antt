@@ -8,7 +8,7 @@ use Rattle.plan.proofs.names_fit.Statement.{statement}
 use Rattle.plan.proofs.names_fit.Tie as tie
 
 abbrev Inv-loop : tie.InvT-loop
-Inv-loop trees plan m i₀ sum₀ i sum = Adding (trees-in trees .records) (trees-in trees .added-records) (sources plan) m i sum
+Inv-loop trees plan m i₀ sum₀ i sum = Adding (trees-in trees .records) (trees-in trees .added-records) (trees-in trees .edits) (sources plan) m i sum
 
 abbrev μ-loop : tie.MeasureT-loop
 μ-loop trees plan m i₀ sum₀ i sum = m - i

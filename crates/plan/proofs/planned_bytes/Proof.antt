@@ -1,5 +1,5 @@
--- The two lists in turn.
-use Rattle.plan.proofs.Sourcing.{sourcing}
+-- The three kinds of sources in turn.
+use Rattle.plan.proofs.Sourcing.{sourcing, row-edited}
 use Rattle.plan.specs.Sources.{source-row}
 use borrow.Author.Needs.{needs}
 use Rattle.plan.proofs.planned_bytes.Statement.{statement}
@@ -10,10 +10,16 @@ unfolding source-row
 planned-bytes-spec =
     tie.close
     (tie.spec
-    (λ c. search needs)  -- element-copy-out-changed-bytes
-    (λ c κs. search (sourcing, needs))  -- changed-bytes-requires
+    (λ c. search (sourcing, needs))  -- element-copy-out-kept-bytes
+    (λ c κs. search (sourcing, needs))  -- kept-bytes-requires
     (λ c. search (sourcing, needs))  -- returns
-    (λ c. search needs)  -- element-copy-out-changed-bytes-2
-    (λ c κs. search (sourcing, needs))  -- changed-bytes-requires-2
+    (λ c. search (sourcing, needs))  -- element-copy-out-kept-bytes-2
+    (λ c κs. search (sourcing, needs))  -- kept-bytes-requires-2
     (λ c. search (sourcing, needs))  -- returns-2
+    (λ c κs. search (sourcing, needs))  -- edited-name-len-requires
+    (λ c κs. search (sourcing, needs))  -- edited-flags-requires
+    (λ c. search (sourcing, needs))  -- element-copy-out-changed-bytes
+    (λ c κs. search (sourcing, needs))  -- edited-slot-requires
+    (λ c κs. search (sourcing, needs))  -- changed-bytes-requires
+    (λ c. search (row-edited, needs))  -- returns-3
     )

@@ -1,5 +1,5 @@
--- Its pool's own part: the first case is the base's, the second the request's.
-use Rattle.plan.proofs.Sourcing.{sourcing, name-base, name-added}
+-- Its pool's own part, for the three kinds of sources in turn.
+use Rattle.plan.proofs.Sourcing.{sourcing, parting}
 use borrow.Author.Needs.{needs}
 use Rattle.plan.proofs.planned_name.Statement.{statement}
 use Rattle.plan.proofs.planned_name.Tie as tie
@@ -8,12 +8,14 @@ pub planned-name-spec : {M : Type 1} → statement M
 planned-name-spec =
     tie.close
     (tie.spec
-    (λ c. search needs)  -- element-copy-out-records
-    (λ c. search needs)  -- element-copy-out-pool
-    (λ c. search needs)  -- element-copy-out-added
-    (λ c. search needs)  -- element-copy-out-request-pool
+    (λ c. search (sourcing, needs))  -- element-copy-out-records
+    (λ c. search (sourcing, needs))  -- element-copy-out-pool
+    (λ c. search (sourcing, needs))  -- element-copy-out-added
+    (λ c. search (sourcing, needs))  -- element-copy-out-request-pool
     (λ c κs. search (sourcing, needs))  -- name-at-requires
-    (λ c. name-base _ _ _ _ _ _ (search needs) (c .name-at .ensures))  -- returns
+    (λ c. search (parting, needs))  -- returns
     (λ c κs. search (sourcing, needs))  -- name-at-requires-2
-    (λ c. name-added _ _ _ _ _ _ (search needs) (c .name-at2 .ensures))  -- returns-2
+    (λ c. search (parting, needs))  -- returns-2
+    (λ c κs. search (sourcing, needs))  -- edited-name-requires
+    (λ c. search (parting, needs))  -- returns-3
     )

@@ -1,4 +1,4 @@
--- The two lists in turn.
+-- The three kinds of sources in turn.
 use Rattle.plan.proofs.Sourcing.{sourcing}
 use Rattle.plan.specs.Sources.{source-len}
 use borrow.Author.Needs.{needs}
@@ -10,10 +10,12 @@ unfolding source-len
 planned-name-len-spec =
     tie.close
     (tie.spec
-    (λ c. search needs)  -- element-copy-out-records
-    (λ c. search needs)  -- element-copy-out-added
+    (λ c. search (sourcing, needs))  -- element-copy-out-records
+    (λ c. search (sourcing, needs))  -- element-copy-out-added
     (λ c κs. search (sourcing, needs))  -- name-len-at-requires
     (λ c. search (sourcing, needs))  -- returns
     (λ c κs. search (sourcing, needs))  -- name-len-at-requires-2
     (λ c. search (sourcing, needs))  -- returns-2
+    (λ c κs. search (sourcing, needs))  -- edited-name-len-requires
+    (λ c. search (sourcing, needs))  -- returns-3
     )
