@@ -160,3 +160,24 @@ module _ (f : Found) (records : List ℕ) (n : ℕ) (us request edits : List ℕ
             go pool (some r) earlier st ef tells = rw (gone-is pool r (st r refl) ef, t, barred-is pool r earlier (st r refl) ef tells, u, dotted-is, v, id-is pool r (st r refl) ef)
 
 pub ruleset deciding = (lands-in, edit-nothing, edit-gone, edit-barred, edit-dotted, edit-stands)
+
+-- ---- the paper's step
+
+module _ {records : List ℕ} {n : ℕ} {us : List ℕ} (R : Rises records n us) (pool request edits : List ℕ) (k : ℕ) where
+  abbrev base : Forest Field
+  base = fields pool records (base-slots records n)
+
+  -- What the edit's path finds is a slot of the base.
+  pub found-lands : (x : List ℕ) (f : Found) → f ≡ found-row (look-name base x) → Lands n f
+  found-lands x f e = record { at = λ i p q. go i p (look-name base x) refl (sym q ∙ e) }
+    where
+      go : (i : FieldId) (p : Slot) (o : Option Row) → look-name base x ≡ o → At i p ≡ found-row o → p .0 < n
+      go i p none eo q = absurd (at-nothing i p q)
+      go i p (some r) eo q = subst (λ (z : ℕ). z < n) (at-slot i p r q) (found-stood R x r eo .there)
+
+  -- What the code decides of it is the paper's `edited-one`.
+  pub edited-is : (ds marks : List ℕ) (earlier : List Edited) (f : Found) (r : Editing) → f ≡ found-row (look-name base (edit-path request edits k))
+      → Tells records n marks earlier → OneEdited f records n us request edits k ds marks r
+      → EditedBy r (edited-one base ds k earlier (edit-of request edits k)) records n (change-of request edits k)
+  unfolding edited-one edit-found edit-of
+  edited-is ds marks earlier f r e t h = h .by pool (look-name base (edit-path request edits k)) earlier (λ row q. found-stood R (edit-path request edits k) row q) e t

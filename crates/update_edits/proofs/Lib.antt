@@ -3,3 +3,4 @@ pub mod Deciding
 pub mod Marking
 pub mod Carrying
 pub mod Remarking
+pub mod Marked
