@@ -1,19 +1,22 @@
 -- What a source is asked, and those above a slot, by the places above: `search asking`, `search holding-up`.
 use Prim.Native.Nat.{ℕ, zero, suc, _-_, _<_, _≤_}
 use mathlib.Core.Path.{_≡_, refl, sym, ap, _∙_}
-use mathlib.Core.Bool.{Bool, true, false, not, _&&_}
+use mathlib.Core.Bool.{Bool, true, false, not, _&&_, _||_}
 use mathlib.Core.List.{List, []}
 use native.Mathlib.Numerals.{sub-one}
 use native.Mathlib.Omega.{arith}
-use borrow.Author.Tests.{lt-ltb, le-ltb, not-true, not-false}
+use borrow.Author.Tests.{not-true, not-false}
+use lib.Dec.{eqb}
 use lib.ListN.{getD}
 use Rattle.paper.specs.Answer.{all}
-use Rattle.paper.specs.Bytes.{field-at}
-use Rattle.paper.specs.Field.{Field}
+use Rattle.paper.specs.declared.Kind.{Kind}
+use Rattle.paper.specs.Field.{Field, is-primitive, is-struct, is-required}
 use Rattle.paper.specs.Sound.{identifying, holding}
 use Rattle.record.specs.Trees.{Trees}
 use Rattle.plan.specs.Plan.{kids-in, planned-field, source-field, Sits, Plan}
 use Rattle.plan.specs.Walk.{trees-of}
+use Rattle.plan.specs.Sources.{source-kind, source-flags, source-code}
+use Rattle.plan.proofs.Sourcing.{sits-in, kind-source, flags-source, code-source}
 use Rattle.plan.proofs.Standing.{field-in}
 use Rattle.index_names.specs.Told.{Raised}
 use Rattle.index_names.proofs.Rising.{Climbs, climbs, risen, rising-left, rising-on, up-ends}
@@ -23,24 +26,15 @@ use Rattle.index_identifiers.specs.Nine.{held-up}
 
 -- ---- a source
 
-module _ (l : Trees) (x : ℕ) (r : Bool) where
-  pub identifying-base : x < 1024 → r ≡ identifying (field-at [] (l .records) x) → r ≡ identifying (source-field l x)
-  unfolding source-field field-at
-  identifying-base q e = rw (lt-ltb x 1024 q) e
+module _ (l : Trees) (x : ℕ) (k : Kind) (ek : k ≡ source-kind (l .records) (l .added-records) x) (flags : ℕ) (ef : flags ≡ source-flags (l .records) (l .added-records) x) (required : Bool) (er : required ≡ is-required flags) where
+  pub identifying-is : (code : ℕ) → code ≡ source-code (l .records) (l .added-records) x → (primitive : Bool) → primitive ≡ is-primitive k
+      → (primitive && (required && not (eqb code 5 || eqb code 6))) ≡ identifying (source-field l x)
+  identifying-is code ec primitive ep = rw (ep, er, ek, ef, ec, kind-source l x, flags-source l x, code-source l x)
 
-  pub identifying-added : 1024 ≤ x → r ≡ identifying (field-at [] (l .added-records) (x - 1024)) → r ≡ identifying (source-field l x)
-  unfolding source-field field-at
-  identifying-added q e = rw (le-ltb x 1024 q) e
+  pub holding-is : (struct : Bool) → struct ≡ is-struct k → (struct && required) ≡ holding (source-field l x)
+  holding-is struct es = rw (es, er, ek, ef, kind-source l x, flags-source l x)
 
-  pub holding-base : x < 1024 → r ≡ holding (field-at [] (l .records) x) → r ≡ holding (source-field l x)
-  unfolding source-field field-at
-  holding-base q e = rw (lt-ltb x 1024 q) e
-
-  pub holding-added : 1024 ≤ x → r ≡ holding (field-at [] (l .added-records) (x - 1024)) → r ≡ holding (source-field l x)
-  unfolding source-field field-at
-  holding-added q e = rw (le-ltb x 1024 q) e
-
-pub ruleset asking = (identifying-base, identifying-added, holding-base, holding-added)
+pub ruleset asking = (sits-in, identifying-is, holding-is)
 
 -- ---- those above
 

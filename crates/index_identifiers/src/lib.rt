@@ -8,21 +8,18 @@ use paper::is_required;
 use paper::is_struct;
 use plan::PlanRows;
 use plan::SOURCES;
-use record::ADDED_RECORDS;
+use plan::planned_code;
+use plan::planned_flags;
+use plan::planned_kind;
 use record::Check;
 use record::FoundSlot;
-use record::RECORDS;
 use record::Refusal;
 use record::Trees;
-use record::code_at;
-use record::flags_at;
-use record::kind_at;
 use record_entries::id_at;
 ghost use mathlib.Core.Path.{_≡_};
-ghost use mathlib.Core.List.{[]};
-ghost use Prim.Native.Nat.{_+_, _*_, _≤_, _<_};
+ghost use Prim.Native.Nat.{_≤_, _<_};
 ghost use lib.ListN.{length, getD};
-ghost use Rattle.paper.specs.Bytes.{turned, field-at};
+ghost use Rattle.paper.specs.Bytes.{turned};
 ghost use Rattle.paper.specs.Rows.{look-id};
 ghost use Rattle.paper.specs.Sound.{identifying, holding, identifies};
 ghost use Rattle.record.specs.Trees.{trees-in};
@@ -33,46 +30,22 @@ ghost use Rattle.index_ids.specs.Table.{ups-in};
 ghost use Rattle.index_names.specs.Told.{Raised};
 ghost use Rattle.index_identifiers.specs.Nine.{held-up, rule-9};
 
-// Whether the record at a slot may identify: a primitive, required, neither float nor double. Its
-// name is not asked.
-fn identifying_at(recs: &[u8], slot: usize) -> bool
-    requires { ⌜ slot * 24 + 24 ≤ length (now recs) ⌝ }
-    ensures { λ r. ⌜ r ≡ identifying (field-at [] (now (recs .entry)) slot) ⌝ }
-{
-    let code = code_at(recs, slot);
-    is_primitive(kind_at(recs, slot))
-        & (is_required(flags_at(recs, slot)) & !((code == 5) | (code == 6)))
-}
-
-// Whether it may stand above an identifier: a struct, required.
-fn holding_at(recs: &[u8], slot: usize) -> bool
-    requires { ⌜ slot * 24 + 24 ≤ length (now recs) ⌝ }
-    ensures { λ r. ⌜ r ≡ holding (field-at [] (now (recs .entry)) slot) ⌝ }
-{
-    is_struct(kind_at(recs, slot)) & is_required(flags_at(recs, slot))
-}
-
-// The same of a planned record's source.
+// Whether a planned record may identify: a primitive, required, neither float nor double.
 fn identifying<'a>(trees: &Trees<'a>, source: u32) -> bool
     requires { ⌜ Sits (trees-in (now trees)) source ⌝ }
     ensures { λ r. ⌜ r ≡ identifying (source-field (trees-in (now (trees .entry))) source) ⌝ }
 {
-    let k = source as usize;
-    if k < 1024 {
-        return identifying_at(trees[RECORDS], k);
-    }
-    identifying_at(trees[ADDED_RECORDS], k - 1024)
+    let code = planned_code(trees, source);
+    is_primitive(planned_kind(trees, source))
+        & (is_required(planned_flags(trees, source)) & !((code == 5) | (code == 6)))
 }
 
+// Whether it may stand above an identifier: a struct, required.
 fn holding<'a>(trees: &Trees<'a>, source: u32) -> bool
     requires { ⌜ Sits (trees-in (now trees)) source ⌝ }
     ensures { λ r. ⌜ r ≡ holding (source-field (trees-in (now (trees .entry))) source) ⌝ }
 {
-    let k = source as usize;
-    if k < 1024 {
-        return holding_at(trees[RECORDS], k);
-    }
-    holding_at(trees[ADDED_RECORDS], k - 1024)
+    is_struct(planned_kind(trees, source)) & is_required(planned_flags(trees, source))
 }
 
 // Whether all records above a slot may stand above an identifier. Each turn is a level up, and of

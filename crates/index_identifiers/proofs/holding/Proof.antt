@@ -1,5 +1,4 @@
--- The two lists in turn.
-use Rattle.plan.proofs.Sourcing.{sourcing}
+-- What the plan says of its kind and flags.
 use Rattle.index_identifiers.proofs.Above.{asking}
 use borrow.Author.Needs.{needs}
 use Rattle.index_identifiers.proofs.holding.Statement.{statement}
@@ -9,10 +8,9 @@ pub holding-spec : {M : Type 1} → statement M
 holding-spec =
     tie.close
     (tie.spec
-    (λ c. search needs)  -- element-copy-out-holding-at
-    (λ c κs. search (sourcing, asking, needs))  -- holding-at-requires
-    (λ c. search (sourcing, asking, needs))  -- returns
-    (λ c. search needs)  -- element-copy-out-holding-at-2
-    (λ c κs. search (sourcing, asking, needs))  -- holding-at-requires-2
-    (λ c. search (sourcing, asking, needs))  -- returns-2
+    (λ c κs. search (asking, needs))  -- planned-kind-requires
+    (λ c κs. search (asking, needs))  -- is-struct-requires
+    (λ c κs. search (asking, needs))  -- planned-flags-requires
+    (λ c κs. search (asking, needs))  -- is-required-requires
+    (λ c. search (asking, needs))  -- returns
     )
