@@ -5,6 +5,7 @@ pub mod Numbers
 pub mod Run
 pub mod Stored
 pub mod Standing
+pub mod Edited
 pub mod Again
 pub mod Identified
 pub mod Changed
