@@ -18,6 +18,7 @@ pub mod Again
 pub mod Passing
 pub mod Storing
 pub mod Standing
+pub mod Before
 pub mod Renaming
 pub mod Weighing
 pub mod Beginning

@@ -39,7 +39,9 @@ use Rattle.theorems.specs.Stored.{schema-of, request-of, BytesLent, Lend
 use Rattle.theorems.specs.Stored.{LastingStored}
 use Rattle.theorems.specs.Identified.{PassesAgain, IdentifiersAgain}
 use Rattle.theorems.specs.Standing.{AdditionsStand, ConsumedAreAdded, NothingVanishes, GoneIsLeftOut, OfStored}
-use Rattle.theorems.specs.Edited.{EditedInARow}
+use Rattle.theorems.specs.Edited.{StaysAsSet, RenamesFound, EditedInARow}
+use Rattle.theorems.specs.Before as Before
+use Rattle.theorems.specs.Before.{request-before, lent-before}
 use Rattle.theorems.specs.Again.{ReadsAgain}
 use Rattle.theorems.specs.Changed.{Pruned, Renumbered}
 use Rattle.theorems.specs.One.{NoByteChanges, PromisedFound, Told, RefusalsTold}
@@ -54,6 +56,8 @@ use Rattle.theorems.proofs.Storing.{begins-stored-without, lasting-stor
 use Rattle.theorems.proofs.Identified.{update-identified, renumber-identified}
 use Rattle.theorems.proofs.Passing.{update-passes, renumber-passes}
 use Rattle.theorems.proofs.Standing.{additions-stand, consumed-added}
+use Rattle.theorems.proofs.Renaming.{stays-as-set, renames-found}
+use Rattle.theorems.proofs.Before.{as-before, as-before-stored}
 use Rattle.theorems.proofs.Weighing as Weighing
 use Rattle.theorems.proofs.Weighing.{gone-left-out}
 use Rattle.theorems.proofs.Beginning.{T-schema, T-stored, T-requests, T-begins, T-begins-stored}
@@ -228,6 +232,39 @@ pub gone-is-left-out-stored : (stored : Stored) (lent : Lent) (result : Result) 
     → BytesLent lent → update-entry stored lent ≡ ok result → OfStored GoneIsLeftOut stored lent result
 gone-is-left-out-stored stored lent result bytes added accepted =
     of-stored stored lent result bytes added accepted _ gone-is-left-out
+
+-- What stays is as it was last set: each column of the base that does not go stands in the answer, and but for its name
+-- and whether it is required, which are as the request sets them, it is as it was.
+pub what-stays-is-as-set : (schema : Schema) (request : Request) (plan : Plan) (updated : Schema)
+    → planned schema request ≡ ok plan → update schema request ≡ ok updated
+    → StaysAsSet schema request plan updated
+what-stays-is-as-set = stays-as-set
+
+pub what-stays-is-as-set-stored : (stored : Stored) (lent : Lent) (result : Result) → Bytes (stored .records)
+    → BytesLent lent → update-entry stored lent ≡ ok result → OfStored StaysAsSet stored lent result
+what-stays-is-as-set-stored stored lent result bytes added accepted =
+    of-stored stored lent result bytes added accepted _ what-stays-is-as-set
+
+-- A renamed column is found by its full name with the new name in it. If that is another name, the old full name finds
+-- another column or none.
+pub renamed-columns-are-found : (schema : Schema) (request : Request) (plan : Plan) (updated : Schema)
+    → planned schema request ≡ ok plan → update schema request ≡ ok updated
+    → RenamesFound schema request plan updated
+renamed-columns-are-found = renames-found
+
+pub renamed-columns-are-found-stored : (stored : Stored) (lent : Lent) (result : Result) → Bytes (stored .records)
+    → BytesLent lent → update-entry stored lent ≡ ok result → OfStored RenamesFound stored lent result
+renamed-columns-are-found-stored stored lent result bytes added accepted =
+    of-stored stored lent result bytes added accepted _ renamed-columns-are-found
+
+-- Without edits an update answers what it answered before 02, 5/13.
+pub no-edits-as-before : (schema : Schema) (request : Request) → request .edits ≡ []
+    → update schema request ≡ Before.update schema (request-before request)
+no-edits-as-before = as-before
+
+pub no-edits-as-before-stored : (stored : Stored) (lent : Lent) → lent .edits ≡ []
+    → update-entry stored lent ≡ Before.update-entry stored (lent-before lent)
+no-edits-as-before-stored = as-before-stored
 
 -- ---- runs end
 

@@ -1,4 +1,5 @@
--- A renamed column is found by its new full name and no more by its old one. Its row is carried over into the answer
+-- A column that stays stands in the answer as it was last set. A renamed one is found by its new full name and no more
+-- by its old one. Its row is carried over into the answer
 -- with the records above it, edited; and no new name has a dot, so an old full name that came back would have to be cut
 -- at the same dots, and its last part be the old name.
 use Prim.Native.Nat.{ℕ, _+_, _≤_, _<_}
@@ -13,7 +14,7 @@ use borrow.Author.Tests.{eqb-true}
 use Rattle.paper.specs.Answer.{ok, or-else, among, any, find, same, repeated}
 use Rattle.paper.specs.Forest.{Forest, empty, node, mapped}
 use Rattle.paper.specs.Field.{Field, id-of, kind-of, is-struct}
-use Rattle.paper.specs.Rows.{Row, Start, skipped, dotted, top, row, below, beside, rows, entered, look-name, look-id}
+use Rattle.paper.specs.Rows.{Row, Start, skipped, dotted, top, row, below, beside, rows, entered, nearest, look-name, look-id}
 use Rattle.paper.specs.Sound.{names, ids, sound}
 use Rattle.paper.specs.Gone.{dropped-member, gone, gone-columns}
 use Rattle.paper.specs.Edits.{Change, rename, relax, Edited, is-rename, renamed, again, has-dot, with-change}
@@ -30,11 +31,11 @@ use Rattle.laws.proofs.Rows.{name-found}
 use Rattle.laws.proofs.Identified.{sound-without}
 use Rattle.laws.proofs.Edited.{edits-keep-id, edits-keep-kind}
 use Rattle.theorems.specs.Numbers.{tally}
-use Rattle.theorems.specs.Run.{settings, named-by, new-names, last-of}
-use Rattle.theorems.specs.Edited.{names-above, Renamed, RenamesFound}
+use Rattle.theorems.specs.Run.{Column, Stands, settings, named-by, new-names, last-of}
+use Rattle.theorems.specs.Edited.{StaysAsSet, names-above, Renamed, RenamesFound}
 use Rattle.theorems.proofs.Counting.{tally-append, tally-out}
 use Rattle.theorems.proofs.Receiving.{gone-node}
-use Rattle.theorems.proofs.Setting.{name-last, Decided, AllDecided, decided-edits}
+use Rattle.theorems.proofs.Setting.{name-last, as-last-set, Decided, AllDecided, decided-edits}
 use Rattle.theorems.proofs.Edited.{one-row}
 use Rattle.theorems.proofs.Identified.{update-identified}
 use Rattle.theorems.proofs.Standing.{accepted}
@@ -368,6 +369,50 @@ planned-sound : (s : Schema) (q : Request) (p : Plan) → planned s q ≡ ok p �
 unfolding planned
 planned-sound s q p e = unbind _ _ e λ _ e₁ _. sound-without 0 (s .tree) (q .identifiers) e₁
 
+-- ---- an accepted update
+
+answered : (s : Schema) (q : Request) (p : Plan) (u : Schema) → planned s q ≡ ok p → update s q ≡ ok u
+    → u .tree ≡ rebuilt id-of kind-of (p .dropped) (added s q p) none true (edited-tree (settings s q) (s .tree))
+answered s q p u e₁ e =
+    accepted s q p u e₁ e .tree
+    ∙ ap (λ (l : List Edited). rebuilt id-of kind-of (p .dropped) (added s q p) none true (edited-tree l (s .tree)))
+    (decided-edits s q p e₁ .0)
+
+-- The records above a column tell its parent.
+stands-at : (above : List Field) (t : Forest Field) (c : Column) → Stands (nearest above) t c
+    → (fs : List Field) × At above t (c .field) fs × (c .parent ≡ nearest fs)
+stands-at above empty c h = absurd h
+stands-at above (node g m n) c (inl e) =
+    (above, inl (ap (λ (d : Column). d .field) e, refl), ap (λ (d : Column). d .parent) e)
+stands-at above (node g m n) c (inr (inl h)) =
+    let o = stands-at (g ∷ above) m c h in
+    (o .0, inr (inl (o .1)), o .2)
+stands-at above (node g m n) c (inr (inr h)) = let o = stands-at above n c h in (o .0, inr (inr (o .1)), o .2)
+
+at-stands : (above : List Field) (t : Forest Field) (f : Field) (fs : List Field) → At above t f fs
+    → Stands (nearest above) t (record { parent = nearest fs; field = f })
+at-stands above empty f fs h = h
+at-stands above (node g m n) f fs (inl e) =
+    inl (ap₂ (λ (x : Option ℕ) (y : Field). record { parent = x; field = y }) (ap nearest (e .1)) (e .0))
+at-stands above (node g m n) f fs (inr (inl h)) = inr (inl (at-stands (g ∷ above) m f fs h))
+at-stands above (node g m n) f fs (inr (inr h)) = inr (inr (at-stands above n f fs h))
+
+nearest-edited : (es : List Edited) (fs : List Field) → nearest (map (edit-fields es) fs) ≡ nearest fs
+nearest-edited es [] = refl
+nearest-edited es (f ∷ fs) = ap some (edits-keep-id es f)
+
+pub stays-as-set : (s : Schema) (q : Request) (p : Plan) (u : Schema) → planned s q ≡ ok p → update s q ≡ ok u
+    → StaysAsSet s q p u
+stays-as-set s q p u e₁ e c h out =
+    let es = settings s q in
+    let o = stands-at [] (s .tree) c h in
+    let now = carried es (p .dropped) (added s q p) (c .field) (o .0) [] none true (s .tree) (o .1) out in
+    let later : Column = record { parent = nearest (map (edit-fields es) (o .0)); field = edit-fields es (c .field) } in (
+      later,
+      at-stands [] (u .tree) (edit-fields es (c .field)) (map (edit-fields es) (o .0)) (rw (answered s q p u e₁ e) now),
+      as-last-set es c later (nearest-edited es (o .0) ∙ sym (o .2)) refl,
+    )
+
 pub renames-found : (s : Schema) (q : Request) (p : Plan) (u : Schema) → planned s q ≡ ok p → update s q ≡ ok u
     → RenamesFound s q p u
 renames-found s q p u e₁ e x new h =
@@ -377,9 +422,7 @@ renames-found s q p u e₁ e x new h =
     let was = o .row in
     let base = planned-sound s q p e₁ in
     let answer = sound-without 0 (u .tree) (q .identifiers) (update-identified s q u e) in
-    let is : u .tree ≡ rebuilt id-of kind-of (p .dropped) (added s q p) none true (edited-tree es (s .tree)) =
-    accepted s q p u e₁ e .tree
-    ∙ ap (λ (l : List Edited). rebuilt id-of kind-of (p .dropped) (added s q p) none true (edited-tree l (s .tree))) (all .0) in
+    let is = answered s q p u e₁ e in
     let c =
     carried es (p .dropped) (added s q p) (was .field) (was .above) [] none true (s .tree) (row-at top (s .tree) was (o .there))
     (λ k. o .stays (rw (o .its-id) at k)) in

@@ -1,5 +1,6 @@
--- 02, 5/13: by which names a renamed column is found. And a run in which one column is renamed, relaxed and renamed
--- again.
+-- 02, 5/13: what an accepted update makes of the columns that stay, and by which names a renamed one is found. Of
+-- `update` over forests; by `OfStored` also of `update-entry` over bytes. And a run in which one column is renamed,
+-- relaxed and renamed again.
 use Prim.Native.Nat.{ℕ}
 use Prim.Native.String.{String}
 use mathlib.Core.Path.{_≡_}
@@ -10,11 +11,20 @@ use Rattle.paper.specs.Forest.{Forest}
 use Rattle.paper.specs.Field.{Field}
 use Rattle.paper.specs.Rows.{Row, dotted, look-name, look-id}
 use Rattle.paper.specs.Sound.{text}
+use Rattle.paper.specs.Gone.{gone-columns}
 use Rattle.paper.specs.Edits.{Change, rename, relax, Edited}
 use Rattle.paper.specs.Update.{Request, Schema, Plan}
 use Rattle.paper.specs.Bytes.{turned}
 use Rattle.laws.specs.Members.{_∈_}
-use Rattle.theorems.specs.Run.{Column, Has, settings, between}
+use Rattle.theorems.specs.Run.{Column, Has, settings, between, AsLastSet}
+
+-- ---- what stays
+
+-- Each column of the base that does not go stands in the answer, as the request sets it.
+abbrev pub StaysAsSet : Schema → Request → Plan → (updated : Schema) → Type 0
+StaysAsSet schema request plan updated =
+    (column : Column) → Has schema column → (column .field .id ∈ gone-columns (plan .dropped) (schema .tree) → ⊥)
+    → (later : Column) × Has updated later × AsLastSet (settings schema request) column later
 
 -- ---- a renamed column
 

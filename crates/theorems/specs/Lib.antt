@@ -6,6 +6,7 @@ pub mod Run
 pub mod Stored
 pub mod Standing
 pub mod Edited
+pub mod Before
 pub mod Again
 pub mod Identified
 pub mod Changed
