@@ -1,10 +1,8 @@
 -- Edits change a column's name and whether it is required, and nothing else of it.
-use Prim.Native.Nat.{ℕ}
 use mathlib.Core.Path.{_≡_, refl, _∙_}
 use mathlib.Core.Bool.{Bool, true, false, cond}
 use mathlib.Core.List.{List, [], _∷_, _++_}
 use lib.Dec.{eqb}
-use Rattle.paper.specs.declared.Kind.{Kind}
 use Rattle.paper.specs.Forest.{Forest, empty, node, mapped}
 use Rattle.paper.specs.Field.{Field}
 use Rattle.paper.specs.Sound.{ids}

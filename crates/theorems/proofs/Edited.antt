@@ -1,23 +1,23 @@
 -- Edits keep a tree fit: a new name is as short as a byte says, and only members are renamed, so elements, keys and
 -- values keep their names. And they keep which records are structs, and which go.
 use Prim.Native.Nat.{ℕ, zero, suc, _-_, _*_, _+_, _<_}
-use mathlib.Core.Path.{_≡_, refl, sym, ap, subst, _∙_}
+use mathlib.Core.Path.{_≡_, refl, sym, ap, _∙_}
 use mathlib.Core.Logic.{inl, inr}
-use mathlib.Core.Bool.{Bool, true, false, not, cond, true≢false}
+use mathlib.Core.Bool.{Bool, true, false, cond, true≢false}
 use mathlib.Core.List.{List, [], _∷_, _++_, map}
 use mathlib.Core.Option.{Option, none, some}
 use native.Mathlib.Omega.{arith}
 use lib.Dec.{eqb}
-use lib.ListN.{length, getD, take, drop, length-take}
+use lib.ListN.{length, take, drop, length-take}
 use borrow.Author.Tests.{eqb-true}
 use Rattle.paper.specs.declared.Role.{Role}
 use Rattle.paper.specs.declared.Role.the-variants.{Member, Element, Key, Value}
 use Rattle.paper.specs.Forest.{Forest, empty, node, siblings, mapped}
-use Rattle.paper.specs.Field.{Field, id-of, kind-of, first, after, is-member, is-required, is-struct}
+use Rattle.paper.specs.Field.{Field, id-of, kind-of, is-member, is-required, is-struct}
 use Rattle.paper.specs.Rows.{Row, Start, top, row, below, beside, rows, look-name}
 use Rattle.paper.specs.Sound.{fitting, ids}
-use Rattle.paper.specs.Gone.{dropped-member, gone, gone-columns}
-use Rattle.paper.specs.Edits.{Change, rename, relax, Edit, Edited, forbidden, relaxed, with-change, edit-field}
+use Rattle.paper.specs.Gone.{gone, gone-columns}
+use Rattle.paper.specs.Edits.{Change, rename, relax, Edit, Edited, forbidden, with-change, edit-field}
 use Rattle.paper.specs.Edits.{edit-fields, edited-tree}
 use Rattle.paper.specs.Bytes.{from}
 use Rattle.paper.specs.Lists.{edit-at, entries, new-name, edit-of, edit-list}

@@ -7,7 +7,6 @@ use Rattle.paper.specs.Rows.{rows, entered, look-name, look-id}
 use Rattle.paper.specs.Sound.{fitting, misnamed, names, ids, sound}
 use Rattle.paper.specs.Prune.{prune}
 use Rattle.paper.specs.Renumber.{renumber}
-use Rattle.paper.specs.Edits.{edited-one, edited-all, edit-fields}
 use Rattle.paper.specs.Update.{planned}
 use Rattle.paper.specs.Rebuild.{update}
 use Rattle.paper.specs.Bytes.{word16, word32, turned, ok-bytes, in-pool, kind-from, name-of, field-at, from}

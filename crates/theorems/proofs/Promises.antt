@@ -33,10 +33,10 @@ use Rattle.paper.specs.Pinned.{limits}
 use Rattle.paper.proofs.Hold.{T-decodes, all-hold}
 use Rattle.paper.proofs.Pins.{Held, pins}
 use Rattle.laws.specs.Fit.{Bytes}
-use Rattle.theorems.specs.Run.{Column, Has, Begins, run, identifiers-at, settings-of, SameColumn, Lasting}
+use Rattle.theorems.specs.Run.{Column, Has, Begins, run, run-sets, identifiers-at, SameColumn, Lasting}
 use Rattle.theorems.specs.Run.{LastingRun}
 use Rattle.theorems.specs.Stored.{schema-of, request-of, BytesLent, LendsBytes, bytes-of, run-stored, BeginsStored}
-use Rattle.theorems.specs.Stored.{LastingStored}
+use Rattle.theorems.specs.Stored.{stored-sets, LastingStored}
 use Rattle.theorems.specs.Identified.{PassesAgain, IdentifiersAgain}
 use Rattle.theorems.specs.Standing.{AdditionsStand, ConsumedAreAdded, NothingVanishes, GoneIsLeftOut, OfStored}
 use Rattle.theorems.specs.Edited.{StaysAsSet, RenamesFound, EditedInARow}
@@ -64,7 +64,7 @@ use Rattle.theorems.proofs.Beginning.{T-schema, T-stored, T-requests, T
 use Rattle.theorems.proofs.Beginning.{T-lends-bytes, accepted-in-a-row}
 use Rattle.theorems.proofs.Beginning.{keyed-schema, keyed-stored, keyed-by, keyed-requests, keyed-begins}
 use Rattle.theorems.proofs.Beginning.{keyed-begins-stored, keyed-lends-bytes, keyed-answers, keyed-in-a-row}
-use Rattle.theorems.proofs.Beginning.{edits-requests, edits-lend-bytes, edited-in-a-row, edited-in-a-row-stored}
+use Rattle.theorems.proofs.Beginning.{edits-requests, edits-lend-bytes, edits-asked, edited-in-a-row, edited-in-a-row-stored}
 use Rattle.theorems.proofs.Ends as Ends
 use Rattle.theorems.proofs.Again.{decoded-again, update-again, prune-again, renumber-again}
 use Rattle.theorems.proofs.Again.{prune-parts, renumber-numbers}
@@ -173,16 +173,14 @@ runs-go-on-identified = keyed-in-a-row
 
 -- With edits, over forests and over bytes: one column is renamed, relaxed and renamed again, and is each time as last
 -- set. Between them a request is refused, and sets nothing.
-pub runs-edit : Begins keyed-schema [] × EditedInARow (run keyed-schema (λ i. request-of (edits-requests i))) (λ i.
-    settings-of (update (run keyed-schema (λ i. request-of (edits-requests i)) i) (request-of (edits-requests i)))
-    (run keyed-schema (λ i. request-of (edits-requests i)) i) (request-of (edits-requests i)))
+pub runs-edit : Begins keyed-schema [] × EditedInARow (run keyed-schema edits-asked) (run-sets keyed-schema edits-asked)
 runs-edit = (begins-without keyed-schema (id-list keyed-by) keyed-begins, edited-in-a-row)
 
 pub runs-edit-stored : BeginsStored keyed-stored [] × LendsBytes edits-requests
-    × EditedInARow (λ i. schema-of (run-stored keyed-stored edits-requests i)) (λ i.
-    settings-of (update-entry (run-stored keyed-stored edits-requests i) (edits-requests i))
-    (schema-of (run-stored keyed-stored edits-requests i)) (request-of (edits-requests i)))
-runs-edit-stored = (begins-stored-without keyed-stored keyed-by keyed-begins-stored, edits-lend-bytes, edited-in-a-row-stored)
+    × EditedInARow (λ i. schema-of (run-stored keyed-stored edits-requests i))
+    (stored-sets (run-stored keyed-stored edits-requests) edits-requests)
+runs-edit-stored =
+    (begins-stored-without keyed-stored keyed-by keyed-begins-stored, edits-lend-bytes, edited-in-a-row-stored)
 
 -- ---- one update
 

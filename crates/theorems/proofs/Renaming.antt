@@ -16,23 +16,23 @@ use Rattle.paper.specs.Forest.{Forest, empty, node, mapped}
 use Rattle.paper.specs.Field.{Field, id-of, kind-of, is-struct}
 use Rattle.paper.specs.Rows.{Row, Start, skipped, dotted, top, row, below, beside, rows, entered, nearest, look-name, look-id}
 use Rattle.paper.specs.Sound.{names, ids, sound}
-use Rattle.paper.specs.Gone.{dropped-member, gone, gone-columns}
+use Rattle.paper.specs.Gone.{dropped-member, gone}
 use Rattle.paper.specs.Edits.{Change, rename, relax, Edited, is-rename, renamed, again, has-dot, with-change}
 use Rattle.paper.specs.Edits.{edit-field, edit-fields, edited-tree}
 use Rattle.paper.specs.Update.{Request, Schema, Plan, planned}
 use Rattle.paper.specs.Rebuild.{Addition, rebuilt, added, update}
 use Rattle.laws.specs.Members.{_∈_}
-use Rattle.laws.proofs.Basics.{unbind, fault-ok, in-left, in-right, in-append, in-map, Distinct, distinct-one}
+use Rattle.laws.proofs.Basics.{unbind, fault-ok, in-left, in-right, in-append, Distinct, distinct-one}
 use Rattle.laws.proofs.Basics.{none-twice, any-false, eqb-self}
 use Rattle.laws.proofs.Same.{same-self, same-true}
 use Rattle.laws.proofs.Own.{sound-distinct}
-use Rattle.laws.proofs.Ordered.{row-ids, row-fulls}
+use Rattle.laws.proofs.Ordered.{row-fulls}
 use Rattle.laws.proofs.Rows.{name-found}
 use Rattle.laws.proofs.Identified.{sound-without}
 use Rattle.laws.proofs.Edited.{edits-keep-id, edits-keep-kind}
 use Rattle.theorems.specs.Numbers.{tally}
 use Rattle.theorems.specs.Run.{Column, Stands, settings, named-by, new-names, last-of}
-use Rattle.theorems.specs.Edited.{StaysAsSet, names-above, Renamed, RenamesFound}
+use Rattle.theorems.specs.Edited.{StaysAsSet, names-above, RenamesFound}
 use Rattle.theorems.proofs.Counting.{tally-append, tally-out}
 use Rattle.theorems.proofs.Receiving.{gone-node}
 use Rattle.theorems.proofs.Setting.{name-last, as-last-set, Decided, AllDecided, decided-edits}

@@ -13,7 +13,7 @@ use Rattle.paper.specs.Forest.{Forest}
 use Rattle.paper.specs.Field.{Field, is-required}
 use Rattle.paper.specs.Rows.{Row, top, rows, look-name}
 use Rattle.paper.specs.Gone.{gone-columns}
-use Rattle.paper.specs.Edits.{Change, rename, relax, Edit, Edited, remaining, forbidden, is-rename, renamed, again, has-dot}
+use Rattle.paper.specs.Edits.{Change, rename, relax, Edit, Edited, remaining, forbidden, is-rename, again, has-dot}
 use Rattle.paper.specs.Edits.{edited-one, edited-all, relaxed, with-change, edit-field, edit-fields}
 use Rattle.paper.specs.Update.{Request, Schema, Plan, planned}
 use Rattle.laws.specs.Members.{_∈_}
