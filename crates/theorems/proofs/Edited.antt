@@ -27,7 +27,7 @@ use Rattle.laws.proofs.Basics.{in-left, in-right, Distinct, distinct-one}
 use Rattle.laws.proofs.Preorder.{siblings-mapped}
 use Rattle.laws.proofs.Ordered.{row-ids}
 use Rattle.laws.proofs.Edited.{edits-keep-id, edits-keep-kind, ids-mapped}
-use Rattle.theorems.specs.Run.{set-one, set-by, named-by, new-names}
+use Rattle.theorems.specs.Columns.{set-one, set-by, named-by, new-names}
 use Rattle.theorems.proofs.Shaped.{Shaped}
 use Rattle.theorems.proofs.Receiving.{StructIn, gone-node}
 use Rattle.theorems.proofs.Setting.{name-last, Decided, AllDecided}

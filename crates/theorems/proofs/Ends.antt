@@ -26,7 +26,8 @@ use Rattle.laws.specs.Fit.{Bytes}
 use Rattle.laws.proofs.Basics.{none≢some}
 use Rattle.laws.proofs.Fitting.{size-mapped}
 use Rattle.laws.proofs.Octets.{written-bytes}
-use Rattle.theorems.specs.Run.{Column, Stands, Has, Lasting}
+use Rattle.theorems.specs.Columns.{Column, Stands, Has}
+use Rattle.theorems.specs.Run.{Lasting}
 use Rattle.theorems.specs.Stored.{bytes-of, BeginsStored}
 use Rattle.theorems.proofs.Again.{renumber-entry-fit, renumber-again, renumber-numbers}
 use Rattle.theorems.proofs.Passing.{renumber-passes}

@@ -33,7 +33,8 @@ use Rattle.paper.specs.Pinned.{limits}
 use Rattle.paper.proofs.Hold.{T-decodes, all-hold}
 use Rattle.paper.proofs.Pins.{Held, pins}
 use Rattle.laws.specs.Fit.{Bytes}
-use Rattle.theorems.specs.Run.{Column, Has, Begins, run, run-sets, identifiers-at, SameColumn, Lasting}
+use Rattle.theorems.specs.Columns.{Column, Has, SameColumn}
+use Rattle.theorems.specs.Run.{Begins, run, run-sets, identifiers-at, Lasting}
 use Rattle.theorems.specs.Run.{LastingRun}
 use Rattle.theorems.specs.Stored.{schema-of, request-of, BytesLent, LendsBytes, bytes-of, run-stored, BeginsStored}
 use Rattle.theorems.specs.Stored.{stored-sets, LastingStored}

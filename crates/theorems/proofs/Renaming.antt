@@ -31,7 +31,7 @@ use Rattle.laws.proofs.Rows.{name-found}
 use Rattle.laws.proofs.Identified.{sound-without}
 use Rattle.laws.proofs.Edited.{edits-keep-id, edits-keep-kind}
 use Rattle.theorems.specs.Numbers.{tally}
-use Rattle.theorems.specs.Run.{Column, Stands, settings, named-by, new-names, last-of}
+use Rattle.theorems.specs.Columns.{Column, Stands, settings, named-by, new-names, last-of}
 use Rattle.theorems.specs.Edited.{StaysAsSet, names-above, RenamesFound}
 use Rattle.theorems.proofs.Counting.{tally-append, tally-out}
 use Rattle.theorems.proofs.Receiving.{gone-node}

@@ -21,8 +21,8 @@ use Rattle.laws.proofs.Basics.{unbind, ok-is, fault-if-ok, none≢some, some-is
 use Rattle.laws.proofs.Rows.{name-found}
 use Rattle.laws.proofs.Edited.{fields-keep, edit-keeps-id, edits-keep-id, edits-keep-kind, edits-keep-code}
 use Rattle.laws.proofs.Edited.{edits-keep-attribute}
-use Rattle.theorems.specs.Run.{Column, set-one, set-by, settings, named-by, new-names, last-of, relaxes, has-default}
-use Rattle.theorems.specs.Run.{SameColumn, AsLastSet}
+use Rattle.theorems.specs.Columns.{Column, set-one, set-by, settings, named-by, new-names, last-of, relaxes}
+use Rattle.theorems.specs.Columns.{has-default, SameColumn, AsLastSet}
 use Rattle.theorems.proofs.Receiving.{demand-ok}
 
 -- ---- the flags

@@ -19,7 +19,8 @@ use Rattle.laws.specs.Members.{_∈_}
 use Rattle.laws.proofs.Basics.{unbind, ok-is, in-left, in-right, in-append, Distinct, eqb-self}
 use Rattle.laws.proofs.Own.{sound-distinct}
 use Rattle.theorems.specs.Numbers.{range}
-use Rattle.theorems.specs.Run.{Column, Stands, Found, Consumed, given}
+use Rattle.theorems.specs.Columns.{Column, Stands, Found}
+use Rattle.theorems.specs.Run.{Consumed, given}
 use Rattle.theorems.specs.Standing.{Adds, AdditionsStand, ConsumedAreAdded}
 use Rattle.theorems.proofs.Counting.{in-range, in-tally, once}
 use Rattle.theorems.proofs.Columns.{stands-id, column-of, then-left, then-right}

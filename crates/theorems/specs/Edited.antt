@@ -16,7 +16,8 @@ use Rattle.paper.specs.Edits.{Change, rename, relax, Edited}
 use Rattle.paper.specs.Update.{Request, Schema, Plan}
 use Rattle.paper.specs.Bytes.{turned}
 use Rattle.laws.specs.Members.{_∈_}
-use Rattle.theorems.specs.Run.{Column, Has, settings, between, AsLastSet}
+use Rattle.theorems.specs.Columns.{Column, Has, settings, AsLastSet}
+use Rattle.theorems.specs.Run.{between}
 
 -- ---- what stays
 
