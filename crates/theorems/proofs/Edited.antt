@@ -8,7 +8,7 @@ use mathlib.Core.List.{List, [], _∷_, _++_, map}
 use mathlib.Core.Option.{Option, none, some}
 use native.Mathlib.Omega.{arith}
 use lib.Dec.{eqb}
-use lib.ListN.{length, take, drop, length-take}
+use lib.ListN.{length, drop, length-take}
 use borrow.Author.Tests.{eqb-true}
 use Rattle.paper.specs.declared.Role.{Role}
 use Rattle.paper.specs.declared.Role.the-variants.{Member, Element, Key, Value}
@@ -30,7 +30,7 @@ use Rattle.laws.proofs.Edited.{edits-keep-id, edits-keep-kind, ids-mapped}
 use Rattle.theorems.specs.Columns.{set-one, set-by, named-by, new-names}
 use Rattle.theorems.proofs.Shaped.{Shaped}
 use Rattle.theorems.proofs.Receiving.{StructIn, gone-node}
-use Rattle.theorems.proofs.Setting.{name-last, Decided, AllDecided}
+use Rattle.theorems.proofs.Setting.{name-last, AllDecided}
 
 -- ---- new names are short
 

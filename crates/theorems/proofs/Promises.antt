@@ -36,7 +36,7 @@ use Rattle.laws.specs.Fit.{Bytes}
 use Rattle.theorems.specs.Columns.{Column, Has, SameColumn}
 use Rattle.theorems.specs.Run.{Begins, run, run-sets, identifiers-at, Lasting}
 use Rattle.theorems.specs.Run.{LastingRun}
-use Rattle.theorems.specs.Stored.{schema-of, request-of, BytesLent, LendsBytes, bytes-of, run-stored, BeginsStored}
+use Rattle.theorems.specs.Stored.{schema-of, BytesLent, LendsBytes, bytes-of, run-stored, BeginsStored}
 use Rattle.theorems.specs.Stored.{stored-sets, LastingStored}
 use Rattle.theorems.specs.Identified.{PassesAgain, IdentifiersAgain}
 use Rattle.theorems.specs.Standing.{AdditionsStand, ConsumedAreAdded, NothingVanishes, GoneIsLeftOut, OfStored}

@@ -11,7 +11,7 @@ use mathlib.Core.Option.{Option, none, some}
 use native.Mathlib.Omega.{arith}
 use lib.Dec.{eqb}
 use borrow.Author.Tests.{eqb-true}
-use Rattle.paper.specs.Answer.{ok, or-else, among, any, find, same, repeated}
+use Rattle.paper.specs.Answer.{ok, or-else, among, find, same, repeated}
 use Rattle.paper.specs.Forest.{Forest, empty, node, mapped}
 use Rattle.paper.specs.Field.{Field, id-of, kind-of, is-struct}
 use Rattle.paper.specs.Rows.{Row, Start, skipped, dotted, top, row, below, beside, rows, entered, nearest, look-name, look-id}
