@@ -17,6 +17,7 @@ pub mod Agreeing
 pub mod Among
 pub mod Going
 pub mod Own
+pub mod Edited
 pub mod Same
 pub mod Finding
 pub mod Folding

@@ -10,7 +10,7 @@ use Rattle.paper.specs.Field.{Field}
 use Rattle.paper.specs.Sound.{ids}
 use Rattle.laws.specs.Members.{_∈_}
 use Rattle.laws.proofs.Basics.{in-left, in-right, in-append, Distinct, distinct-append}
-use Rattle.theorems.specs.Run.{Column, Stands}
+use Rattle.theorems.specs.Columns.{Column, Stands}
 
 pub stands-id : (t : Forest Field) (q : Option ℕ) (c : Column) → Stands q t c → c .field .id ∈ ids t
 unfolding ids

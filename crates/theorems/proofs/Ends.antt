@@ -12,7 +12,8 @@ use Rattle.paper.specs.Forest.{Forest, empty, size, siblings, mapped, _then_}
 use Rattle.paper.specs.Field.{Field, with-id}
 use Rattle.paper.specs.Sound.{text, fitting, misnamed, names, ids, sound}
 use Rattle.paper.specs.Renumber.{level, numbered, renumber}
-use Rattle.paper.specs.Update.{Request, Schema}
+use Rattle.paper.specs.Edits.{Edited}
+use Rattle.paper.specs.Update.{Schema}
 use Rattle.paper.specs.Bytes.{word16, word32, turned, ok-bytes, in-pool, kind-from, name-of, field-at, from}
 use Rattle.paper.specs.Lists.{id-list}
 use Rattle.paper.specs.Layout.{deep, row-with, row, roots}
@@ -25,7 +26,8 @@ use Rattle.laws.specs.Fit.{Bytes}
 use Rattle.laws.proofs.Basics.{none≢some}
 use Rattle.laws.proofs.Fitting.{size-mapped}
 use Rattle.laws.proofs.Octets.{written-bytes}
-use Rattle.theorems.specs.Run.{Column, Stands, Has, evolve, Lasting}
+use Rattle.theorems.specs.Columns.{Column, Stands, Has}
+use Rattle.theorems.specs.Run.{Lasting}
 use Rattle.theorems.specs.Stored.{bytes-of, BeginsStored}
 use Rattle.theorems.proofs.Again.{renumber-entry-fit, renumber-again, renumber-numbers}
 use Rattle.theorems.proofs.Passing.{renumber-passes}
@@ -72,13 +74,13 @@ unfolding renumber-entry renumber level numbered _>>=_ lowest size siblings mapp
 after = inl refl
 
 -- No run of schemas lasts in which T is followed by T renumbered from 4.
-pub renumbering-ends : (at : ℕ → Schema) (requests : ℕ → Request) (r : Result)
+pub renumbering-ends : (at : ℕ → Schema) (sets : ℕ → List Edited) (r : Result)
     → renumber-entry T-records T-pool [] 4 24576 32768 0 ≡ ok r
-    → at 0 .tree ≡ T → at 1 .tree ≡ r .tree → Lasting at (λ i. evolve (requests i)) → ⊥
-renumbering-ends at requests r e old new h =
+    → at 0 .tree ≡ T → at 1 .tree ≡ r .tree → Lasting at sets → ⊥
+renumbering-ends at sets r e old new h =
     let first : Has (at 0) button = subst (λ t. Stands none t button) (sym old) before in
     let later : Has (at 1) node-column = subst (λ t. Stands none t node-column) (ap tree-of e ∙ sym new) after in
-    none≢some (ap (λ (c : Column). c .parent) (h .later-column 0 1 button node-column first later refl))
+    none≢some (h .later-column 0 1 button node-column first later refl .same .parent)
 
 -- Another run may begin: from what the renumbering answered, the identifiers too, with a last id that is not below
 -- start + n - 1, its highest.

@@ -2,8 +2,11 @@
 pub mod Signed
 pub mod Counting
 pub mod Columns
+pub mod Setting
 pub mod Evolution
 pub mod Shaped
+pub mod Receiving
+pub mod Edited
 pub mod Rebuilt
 pub mod Numbering
 pub mod Renumbered
@@ -14,8 +17,9 @@ pub mod Opened
 pub mod Again
 pub mod Passing
 pub mod Storing
-pub mod Receiving
 pub mod Standing
+pub mod Before
+pub mod Renaming
 pub mod Weighing
 pub mod Beginning
 pub mod Wrong

@@ -34,7 +34,7 @@ one-number-each =
       of-10 = λ b. only-if 10 3 0 (not b);
       of-11 = only-demand 11 2;
       of-12 = only-if 12 2;
-      of-13 = only-if 13 3;
+      of-13 = only-if 13;
       of-14 = only-if 14 3;
       of-15 = only-demand 15 3;
       of-16 = only-demand 16 3;
@@ -44,4 +44,6 @@ one-number-each =
       of-20 = λ k. told;
       of-21 = λ k. told;
       of-22 = only-if 22 3;
+      of-23 = only-demand 23 6;
+      of-24 = only-if 24 6;
     }

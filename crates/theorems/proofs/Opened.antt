@@ -34,7 +34,7 @@ sized-trees : (s : Stored) (q : Lent) → sized-update s q ≡ true
     × (whole 4 64 (q .identifiers) ≡ true)
 unfolding sized-update
 sized-trees s q e =
-    let entries = whole 8 64 (q .deletions) && whole 8 64 (q .additions) in
+    let entries = (whole 8 64 (q .deletions) && whole 8 64 (q .additions)) && whole 16 64 (q .edits) in
     let o = both (sized-ids 64 (s .records) (s .pool) (q .identifiers)) (entries && sized _ _) e in (
       ids-sized 64 _ _ (q .identifiers) (o .0),
       both entries (sized _ _) (o .1) .1,
@@ -121,7 +121,8 @@ unfolding update-entry update planned
 open-update s q r e =
     unbind _ _ e λ _ _ a₁. unbind _ _ a₁ λ _ e₂ a₂. unbind _ _ a₂ λ t e₃ a₃. unbind _ _ a₃ λ n e₄ a₄.
     unbind _ _ a₄ λ _ _ a₅.
-    unbind _ _ a₅ λ _ _ a₆. unbind _ _ a₆ λ u e₇ a₇. unbind _ _ e₇ λ _ e₈ _. unbind _ _ e₈ λ _ e₉ _.
+    unbind _ _ a₅ λ _ _ a₆. unbind _ _ a₆ λ _ _ a₆′. unbind _ _ a₆′ λ u e₇ a₇. unbind _ _ e₇ λ _ e₈ _.
+    unbind _ _ e₈ λ _ e₉ _.
     let z = sized-trees s q (passed 2 0 0 (sized-update s q) e₂) in
     record {
       tree = t;

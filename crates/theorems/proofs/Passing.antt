@@ -16,10 +16,12 @@ use Rattle.paper.specs.Forest.{Forest, empty, node, siblings, mapped}
 use Rattle.paper.specs.Field.{Field, id-of, kind-of, with-id, is-struct}
 use Rattle.paper.specs.Sound.{misnamed, ids, sound, within}
 use Rattle.paper.specs.Renumber.{renamed, numbered, Renumbered, renumber}
+use Rattle.paper.specs.Edits.{edited-all, edit-fields, edited-tree}
 use Rattle.paper.specs.Update.{Schema, Plan, schema, request, deleted, placed-all, planned}
 use Rattle.paper.specs.Rebuild.{arrivals, arriving, rebuilt, carried-out, update}
 use Rattle.paper.specs.Bytes.{word32, turned, from}
-use Rattle.paper.specs.Lists.{ok-deletion, ok-addition, entries-ok, deletion-paths, addition-paths, id-at, id-list}
+use Rattle.paper.specs.Lists.{ok-deletion, ok-addition, path-in, ok-edit, edit-in, entries-ok}
+use Rattle.paper.specs.Lists.{deletion-paths, addition-paths, edit-list, id-at, id-list}
 use Rattle.paper.specs.Layout.{roots}
 use Rattle.paper.specs.Decode.{fields, decode}
 use Rattle.paper.specs.Encode.{bytes32, id-bytes}
@@ -34,6 +36,7 @@ use Rattle.laws.proofs.Identified.{sound-members, sound-anywhere}
 use Rattle.laws.proofs.Words.{back32, turned-twice, turned-below, word32-drop}
 use Rattle.laws.proofs.Runs.{length-from}
 use Rattle.laws.proofs.RoundTrip.{both, decode-encode, sized-written}
+use Rattle.theorems.specs.Stored.{BytesLent}
 use Rattle.theorems.specs.Identified.{PassesAgain, IdentifiersAgain}
 use Rattle.theorems.proofs.Identified.{update-identified, renumber-identified}
 use Rattle.theorems.proofs.Opened.{open-renumber, open-update}
@@ -52,30 +55,41 @@ rebuilt-nothing q false (node f m n) =
     ap₂ (λ (x y : Forest Field). node f x y) (rebuilt-nothing (some (f .id)) (is-struct (f .kind)) m)
     (rebuilt-nothing q false n)
 
+pub unedited : (t : Forest Field) → edited-tree [] t ≡ t
+unfolding mapped edit-fields
+unedited empty = refl
+unedited (node f m n) = ap₂ (λ (x y : Forest Field). node f x y) (unedited m) (unedited n)
+
 nothing-asked : (s : Schema) (identifiers : List ℕ) → within (s .tree) ≡ true → sound 0 (s .tree) identifiers ≡ ok tt
-    → update s (request identifiers [] [] empty) ≡ ok s
-unfolding update planned carried-out deleted placed-all arrivals siblings
+    → update s (request identifiers [] [] empty []) ≡ ok s
+unfolding update planned carried-out deleted placed-all edited-all arrivals siblings
 nothing-asked s identifiers w e =
-    let plan : Plan = record { dropped = []; parents = []; last = s .last } in
-    rebind _ _ {a = plan} (rebind _ _ e (rebind _ _ refl (rebind _ _ refl (rebind _ _ refl refl))))
-    (rw (rebuilt-nothing none true (s .tree))
+    let plan : Plan = record { dropped = []; parents = []; last = s .last; edits = [] } in
+    rebind _ _ {a = plan} (rebind _ _ e (rebind _ _ refl (rebind _ _ refl (rebind _ _ refl (rebind _ _ refl refl)))))
+    (rw (unedited (s .tree), rebuilt-nothing none true (s .tree))
     (rebind _ _ (rw w) (rebind _ _ (sound-anywhere 0 4 (s .tree) identifiers e) refl)))
 
 nothing-decodes : (list : ℕ) → decode list [] [] ≡ ok empty
 unfolding decode _>>=_ lowest roots fields mapped misnamed
 nothing-decodes list = refl
 
-nothing-listed : (list : ℕ) (rule : List ℕ → ℕ → Bool) → entries-ok list rule [] [] ≡ ok tt
+-- None is listed, wherever its paths would lie.
+pub nothing-listed : (list : ℕ) (rule : List ℕ → ℕ → Bool) (inside : ℕ → List ℕ → ℕ → Bool) (pool : List ℕ)
+    → entries-ok list 8 rule inside [] pool ≡ ok tt
 unfolding entries-ok _>>=_ lowest
-nothing-listed list rule = refl
+nothing-listed list rule inside pool = refl
 
-nothing-sized : ((whole 8 64 [] && whole 8 64 []) && sized [] []) ≡ true
+pub nothing-edited : (pool : List ℕ) → entries-ok 6 16 ok-edit edit-in [] pool ≡ ok tt
+unfolding entries-ok _>>=_ lowest
+nothing-edited pool = refl
+
+nothing-sized : (((whole 8 64 [] && whole 8 64 []) && whole 16 64 []) && sized [] []) ≡ true
 unfolding whole sized tree-sized pool-sized name-sum sum-from
 nothing-sized = refl
 
 passes-again : (t : Forest Field) (identifiers : List ℕ) → Fit t → whole 4 64 identifiers ≡ true
     → sound 0 t (id-list identifiers) ≡ ok tt → PassesAgain t identifiers
-unfolding update-entry sized-update sized-ids deletion-paths addition-paths from
+unfolding update-entry sized-update sized-ids deletion-paths addition-paths edit-list from
 passes-again t identifiers h few e =
     record {
       accepted = e;
@@ -84,10 +98,11 @@ passes-again t identifiers h few e =
           (rebind _ _ (rw (sized-written t h, few, nothing-sized))
           (rebind _ _ (decode-encode 0 t h)
           (rebind _ _ (nothing-decodes 1)
-          (rebind _ _ (nothing-listed 2 ok-deletion)
-          (rebind _ _ (nothing-listed 3 ok-addition)
+          (rebind _ _ (nothing-listed 2 ok-deletion path-in [])
+          (rebind _ _ (nothing-listed 3 ok-addition path-in [])
+          (rebind _ _ (nothing-edited [])
           (rebind _ _ (nothing-asked (schema t (turned last)) (id-list identifiers) (h .limits) e)
-          (rw (turned-twice last l))))))));
+          (rw (turned-twice last l)))))))));
     }
 
 -- ---- bytes of ids
@@ -146,7 +161,7 @@ as-few s t e w = rw (← e) w
 
 -- ---- the entries
 
-pub update-passes : (s : Stored) (q : Lent) (r : Result) → Bytes (s .records) → Bytes (q .added-records)
+pub update-passes : (s : Stored) (q : Lent) (r : Result) → Bytes (s .records) → BytesLent q
     → update-entry s q ≡ ok r → PassesAgain (r .tree) (q .identifiers)
 update-passes s q r b b′ e =
     let o = open-update s q r e in

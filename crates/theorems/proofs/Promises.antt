@@ -11,6 +11,7 @@ use Rattle.paper.specs.Forest.{Forest, size}
 use Rattle.paper.specs.Field.{Field}
 use Rattle.paper.specs.Renumber.{renumber}
 use Rattle.paper.specs.Renumber as Renumber
+use Rattle.paper.specs.Edits.{Edited}
 use Rattle.paper.specs.Update.{Request, Schema, Plan, planned}
 use Rattle.paper.specs.Rebuild.{update}
 use Rattle.paper.specs.Rows.{Row, look-name}
@@ -32,11 +33,16 @@ use Rattle.paper.specs.Pinned.{limits}
 use Rattle.paper.proofs.Hold.{T-decodes, all-hold}
 use Rattle.paper.proofs.Pins.{Held, pins}
 use Rattle.laws.specs.Fit.{Bytes}
-use Rattle.theorems.specs.Run.{Column, Has, Begins, run, identifiers-at, evolve, Lasting, LastingRun}
-use Rattle.theorems.specs.Stored.{schema-of, request-of, LendsBytes, bytes-of, run-stored, BeginsStored}
-use Rattle.theorems.specs.Stored.{LastingStored}
+use Rattle.theorems.specs.Columns.{Column, Has, SameColumn}
+use Rattle.theorems.specs.Run.{Begins, run, run-sets, identifiers-at, Lasting}
+use Rattle.theorems.specs.Run.{LastingRun}
+use Rattle.theorems.specs.Stored.{schema-of, BytesLent, LendsBytes, bytes-of, run-stored, BeginsStored}
+use Rattle.theorems.specs.Stored.{stored-sets, LastingStored}
 use Rattle.theorems.specs.Identified.{PassesAgain, IdentifiersAgain}
 use Rattle.theorems.specs.Standing.{AdditionsStand, ConsumedAreAdded, NothingVanishes, GoneIsLeftOut, OfStored}
+use Rattle.theorems.specs.Edited.{StaysAsSet, RenamesFound, EditedInARow}
+use Rattle.theorems.specs.Before as Before
+use Rattle.theorems.specs.Before.{request-before, lent-before}
 use Rattle.theorems.specs.Again.{ReadsAgain}
 use Rattle.theorems.specs.Changed.{Pruned, Renumbered}
 use Rattle.theorems.specs.One.{NoByteChanges, PromisedFound, Told, RefusalsTold}
@@ -46,17 +52,20 @@ use Rattle.theorems.specs.Folds.{Alone, Second, ByRows, Plain, CaseForgo
 use Rattle.theorems.specs.Many.{Lendable, OneByOne, InSlots}
 use Rattle.theorems.specs.Wrong.{P4, two-added, RightUpdate, P8, P9, RightPruner}
 use Rattle.theorems.proofs.Signed.{signed-natural, signed-negative}
-use Rattle.theorems.proofs.Evolution.{evolved-stays, begins-without, lasting, one-column}
+use Rattle.theorems.proofs.Evolution.{begins-without, lasting, one-column}
 use Rattle.theorems.proofs.Storing.{begins-stored-without, lasting-stored, of-stored}
 use Rattle.theorems.proofs.Identified.{update-identified, renumber-identified}
 use Rattle.theorems.proofs.Passing.{update-passes, renumber-passes}
 use Rattle.theorems.proofs.Standing.{additions-stand, consumed-added}
+use Rattle.theorems.proofs.Renaming.{stays-as-set, renames-found}
+use Rattle.theorems.proofs.Before.{as-before, as-before-stored}
 use Rattle.theorems.proofs.Weighing as Weighing
 use Rattle.theorems.proofs.Weighing.{gone-left-out}
 use Rattle.theorems.proofs.Beginning.{T-schema, T-stored, T-requests, T-begins, T-begins-stored}
 use Rattle.theorems.proofs.Beginning.{T-lends-bytes, accepted-in-a-row}
 use Rattle.theorems.proofs.Beginning.{keyed-schema, keyed-stored, keyed-by, keyed-requests, keyed-begins}
 use Rattle.theorems.proofs.Beginning.{keyed-begins-stored, keyed-lends-bytes, keyed-answers, keyed-in-a-row}
+use Rattle.theorems.proofs.Beginning.{edits-requests, edits-lend-bytes, edits-asked, edited-in-a-row, edited-in-a-row-stored}
 use Rattle.theorems.proofs.Ends as Ends
 use Rattle.theorems.proofs.Again.{decoded-again, update-again, prune-again, renumber-again}
 use Rattle.theorems.proofs.Again.{prune-parts, renumber-numbers}
@@ -116,22 +125,22 @@ pub runs-begin-without-stored : (stored : Stored) (identifiers : List ℕ) → B
     → BeginsStored stored []
 runs-begin-without-stored = begins-stored-without
 
--- Today no request changes a column: an id found in two schemas of a run, whichever two, names the same column in both.
+-- So an id found in two schemas of a run, whichever two, names one column: the same kind, default flag, type code,
+-- attribute and parent id. Its name and whether it is required are as last set (`later-column`).
 pub ids-keep-columns : (schema : Schema) (identifiers : List ℕ) → Begins schema identifiers → (requests : ℕ → Request)
     → (i j : ℕ) (column other : Column) → Has (run schema requests i) column
-    → Has (run schema requests j) other → column .field .id ≡ other .field .id → column ≡ other
+    → Has (run schema requests j) other → column .field .id ≡ other .field .id → SameColumn column other
 ids-keep-columns schema identifiers begins requests =
-    one-column _ _ (λ i. evolved-stays (update (run schema requests i) (requests i)) (requests i))
-    (runs-last schema identifiers begins requests .lasts)
+    one-column _ _ (runs-last schema identifiers begins requests .lasts)
 
 -- The same over bytes.
 pub ids-keep-columns-stored : (stored : Stored) (identifiers : List ℕ) → BeginsStored stored identifiers
     → (requests : ℕ → Lent) → LendsBytes requests
     → (i j : ℕ) (column other : Column) → Has (schema-of (run-stored stored requests i)) column
-    → Has (schema-of (run-stored stored requests j)) other → column .field .id ≡ other .field .id → column ≡ other
+    → Has (schema-of (run-stored stored requests j)) other → column .field .id ≡ other .field .id
+    → SameColumn column other
 ids-keep-columns-stored stored identifiers begins requests bytes =
     one-column (λ i. schema-of (run-stored stored requests i)) _
-    (λ i. evolved-stays (update-entry (run-stored stored requests i) (requests i)) (request-of (requests i)))
     (runs-last-stored stored identifiers begins requests bytes .lasts)
 
 -- Neither is empty: T begins a run, and these requests lend bytes,
@@ -163,6 +172,17 @@ pub runs-go-on-identified : (update-reply (keyed-answers 0) ≡ (1 ∷ 5 ∷ 11 
     ≡ keyed-by ∷ keyed-by ∷ id-bytes (2 ∷ []) ∷ id-bytes (2 ∷ []) ∷ id-bytes (2 ∷ []) ∷ [])
 runs-go-on-identified = keyed-in-a-row
 
+-- With edits, over forests and over bytes: one column is renamed, relaxed and renamed again, and is each time as last
+-- set. Between them a request is refused, and sets nothing.
+pub runs-edit : Begins keyed-schema [] × EditedInARow (run keyed-schema edits-asked) (run-sets keyed-schema edits-asked)
+runs-edit = (begins-without keyed-schema (id-list keyed-by) keyed-begins, edited-in-a-row)
+
+pub runs-edit-stored : BeginsStored keyed-stored [] × LendsBytes edits-requests
+    × EditedInARow (λ i. schema-of (run-stored keyed-stored edits-requests i))
+    (stored-sets (run-stored keyed-stored edits-requests) edits-requests)
+runs-edit-stored =
+    (begins-stored-without keyed-stored keyed-by keyed-begins-stored, edits-lend-bytes, edited-in-a-row-stored)
+
 -- ---- one update
 
 -- Every addition stands: each record that an accepted update adds is in the answer, under the parent that it was
@@ -174,7 +194,7 @@ every-addition-stands = additions-stand
 
 -- and so over bytes.
 pub every-addition-stands-stored : (stored : Stored) (lent : Lent) (result : Result) → Bytes (stored .records)
-    → Bytes (lent .added-records) → update-entry stored lent ≡ ok result → OfStored AdditionsStand stored lent result
+    → BytesLent lent → update-entry stored lent ≡ ok result → OfStored AdditionsStand stored lent result
 every-addition-stands-stored stored lent result bytes added accepted =
     of-stored stored lent result bytes added accepted _ every-addition-stands
 
@@ -185,7 +205,7 @@ pub consumed-are-added : (schema : Schema) (request : Request) (plan : Plan) (up
 consumed-are-added = consumed-added
 
 pub consumed-are-added-stored : (stored : Stored) (lent : Lent) (result : Result) → Bytes (stored .records)
-    → Bytes (lent .added-records) → update-entry stored lent ≡ ok result → OfStored ConsumedAreAdded stored lent result
+    → BytesLent lent → update-entry stored lent ≡ ok result → OfStored ConsumedAreAdded stored lent result
 consumed-are-added-stored stored lent result bytes added accepted =
     of-stored stored lent result bytes added accepted _ consumed-are-added
 
@@ -196,7 +216,7 @@ pub nothing-vanishes : (schema : Schema) (request : Request) (plan : Plan) (upda
 nothing-vanishes = Weighing.nothing-vanishes
 
 pub nothing-vanishes-stored : (stored : Stored) (lent : Lent) (result : Result) → Bytes (stored .records)
-    → Bytes (lent .added-records) → update-entry stored lent ≡ ok result → OfStored NothingVanishes stored lent result
+    → BytesLent lent → update-entry stored lent ≡ ok result → OfStored NothingVanishes stored lent result
 nothing-vanishes-stored stored lent result bytes added accepted =
     of-stored stored lent result bytes added accepted _ nothing-vanishes
 
@@ -208,16 +228,49 @@ pub gone-is-left-out : (schema : Schema) (request : Request) (plan : Plan) (upda
 gone-is-left-out = gone-left-out
 
 pub gone-is-left-out-stored : (stored : Stored) (lent : Lent) (result : Result) → Bytes (stored .records)
-    → Bytes (lent .added-records) → update-entry stored lent ≡ ok result → OfStored GoneIsLeftOut stored lent result
+    → BytesLent lent → update-entry stored lent ≡ ok result → OfStored GoneIsLeftOut stored lent result
 gone-is-left-out-stored stored lent result bytes added accepted =
     of-stored stored lent result bytes added accepted _ gone-is-left-out
 
+-- What stays is as it was last set: each column of the base that does not go stands in the answer, and but for its name
+-- and whether it is required, which are as the request sets them, it is as it was.
+pub what-stays-is-as-set : (schema : Schema) (request : Request) (plan : Plan) (updated : Schema)
+    → planned schema request ≡ ok plan → update schema request ≡ ok updated
+    → StaysAsSet schema request plan updated
+what-stays-is-as-set = stays-as-set
+
+pub what-stays-is-as-set-stored : (stored : Stored) (lent : Lent) (result : Result) → Bytes (stored .records)
+    → BytesLent lent → update-entry stored lent ≡ ok result → OfStored StaysAsSet stored lent result
+what-stays-is-as-set-stored stored lent result bytes added accepted =
+    of-stored stored lent result bytes added accepted _ what-stays-is-as-set
+
+-- A renamed column is found by its full name with the new name in it. If that is another name, the old full name finds
+-- another column or none.
+pub renamed-columns-are-found : (schema : Schema) (request : Request) (plan : Plan) (updated : Schema)
+    → planned schema request ≡ ok plan → update schema request ≡ ok updated
+    → RenamesFound schema request plan updated
+renamed-columns-are-found = renames-found
+
+pub renamed-columns-are-found-stored : (stored : Stored) (lent : Lent) (result : Result) → Bytes (stored .records)
+    → BytesLent lent → update-entry stored lent ≡ ok result → OfStored RenamesFound stored lent result
+renamed-columns-are-found-stored stored lent result bytes added accepted =
+    of-stored stored lent result bytes added accepted _ renamed-columns-are-found
+
+-- Without edits an update answers what it answered before 02, 5/13.
+pub no-edits-as-before : (schema : Schema) (request : Request) → request .edits ≡ []
+    → update schema request ≡ Before.update schema (request-before request)
+no-edits-as-before = as-before
+
+pub no-edits-as-before-stored : (stored : Stored) (lent : Lent) → lent .edits ≡ []
+    → update-entry stored lent ≡ Before.update-entry stored (lent-before lent)
+no-edits-as-before-stored = as-before-stored
+
 -- ---- runs end
 
--- A renumbering ends a run: no run lasts in which T is followed by T renumbered from 4, whatever was asked.
-pub renumbering-ends : (at : ℕ → Schema) (requests : ℕ → Request) (result : Result)
+-- A renumbering ends a run: no run lasts in which T is followed by T renumbered from 4, whatever was set.
+pub renumbering-ends : (at : ℕ → Schema) (sets : ℕ → List Edited) (result : Result)
     → renumber-entry T-records T-pool [] 4 24576 32768 0 ≡ ok result
-    → at 0 .tree ≡ T → at 1 .tree ≡ result .tree → Lasting at (λ i. evolve (requests i)) → ⊥
+    → at 0 .tree ≡ T → at 1 .tree ≡ result .tree → Lasting at sets → ⊥
 renumbering-ends = Ends.renumbering-ends
 
 -- Another may begin, from what it answered, the identifiers too, with a last id that is at least the highest that it
@@ -239,7 +292,7 @@ decode-round-trip = decoded-again
 
 -- What an accepted update answers is accepted again by 2 to 8, and is read as its tree.
 pub update-round-trip : (stored : Stored) (lent : Lent) (result : Result)
-    → Bytes (stored .records) → Bytes (lent .added-records) → update-entry stored lent ≡ ok result → ReadsAgain result
+    → Bytes (stored .records) → BytesLent lent → update-entry stored lent ≡ ok result → ReadsAgain result
 update-round-trip = update-again
 
 -- So is what an accepted pruning answers,
@@ -268,7 +321,7 @@ renumberings-pass-again = renumber-identified
 
 -- So over bytes: what was answered can be lent again, with the identifiers that were lent,
 pub updates-pass-again-stored : (stored : Stored) (lent : Lent) (result : Result) → Bytes (stored .records)
-    → Bytes (lent .added-records) → update-entry stored lent ≡ ok result → PassesAgain (result .tree) (lent .identifiers)
+    → BytesLent lent → update-entry stored lent ≡ ok result → PassesAgain (result .tree) (lent .identifiers)
 updates-pass-again-stored = update-passes
 
 -- or with the very bytes of those that were answered.

@@ -95,7 +95,7 @@ gone-node ds b f m n = go (dropped-member b ds (f .id))
 
 -- ---- what receives an addition
 
-demand-ok : {A : Type 0} (n l p : ℕ) (o : Option A) {a : A} → demand n l p o ≡ ok a → o ≡ some a
+pub demand-ok : {A : Type 0} (n l p : ℕ) (o : Option A) {a : A} → demand n l p o ≡ ok a → o ≡ some a
 demand-ok n l p none e = absurd (refused≢ok e)
 demand-ok n l p (some a) e = ap some (ok-is e)
 
@@ -137,6 +137,7 @@ pub all-stay : (s : Schema) (q : Request) (p : Plan) → planned s q ≡ ok p
     → AllStay (s .tree) (p .dropped) (added s q p)
 unfolding planned
 all-stay s q p e =
-    unbind _ _ e λ _ _ e₁. unbind _ _ e₁ λ _ _ e₂. unbind _ _ e₂ λ ds _ e₃. unbind _ _ e₃ λ a e₄ e₅.
+    unbind _ _ e λ _ _ e₁. unbind _ _ e₁ λ _ _ e₂. unbind _ _ e₂ λ ds _ e₃. unbind _ _ e₃ λ a e₄ a₄.
+    unbind _ _ a₄ λ _ _ e₅.
     subst (λ (p : Plan). AllStay (s .tree) (p .dropped) (added s q p)) (ok-is e₅)
     (all-placed-stay (s .tree) ds (s .last) 0 (q .additions) (q .added) a e₄)

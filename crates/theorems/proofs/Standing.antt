@@ -12,18 +12,21 @@ use Rattle.paper.specs.Forest.{Forest, empty, node, size, _then_}
 use Rattle.paper.specs.Field.{Field, id-of, kind-of, is-struct}
 use Rattle.paper.specs.Sound.{ids}
 use Rattle.paper.specs.Gone.{dropped-member, gone}
+use Rattle.paper.specs.Edits.{edited-tree}
 use Rattle.paper.specs.Update.{Request, Schema, Plan, planned}
 use Rattle.paper.specs.Rebuild.{Addition, same-parent, arriving, rebuilt, added, carried-out, update}
 use Rattle.laws.specs.Members.{_∈_}
 use Rattle.laws.proofs.Basics.{unbind, ok-is, in-left, in-right, in-append, Distinct, eqb-self}
 use Rattle.laws.proofs.Own.{sound-distinct}
 use Rattle.theorems.specs.Numbers.{range}
-use Rattle.theorems.specs.Run.{Column, Stands, Found, Consumed, given}
+use Rattle.theorems.specs.Columns.{Column, Stands, Found}
+use Rattle.theorems.specs.Run.{Consumed, given}
 use Rattle.theorems.specs.Standing.{Adds, AdditionsStand, ConsumedAreAdded}
 use Rattle.theorems.proofs.Counting.{in-range, in-tally, once}
 use Rattle.theorems.proofs.Columns.{stands-id, column-of, then-left, then-right}
-use Rattle.theorems.proofs.Evolution.{update-consumes, update-follows}
+use Rattle.theorems.proofs.Evolution.{from-found, update-consumes, update-follows}
 use Rattle.theorems.proofs.Receiving.{StructIn, struct-id, gone-node, Stays, AllStay, all-stay}
+use Rattle.theorems.proofs.Edited.{edited-struct, edited-gone}
 
 -- ---- where an addition is received
 
@@ -102,10 +105,10 @@ arrives t ds (a ∷ rest) c s (inr h) =
 
 -- ---- an accepted update
 
--- The base has no id twice, and the answer is the base rebuilt.
+-- The base has no id twice, and the answer is the base, edited and rebuilt.
 pub record Accepted (s : Schema) (q : Request) (p : Plan) (u : Schema) : Type 0 where
   pub distinct : Distinct (ids (s .tree))
-  pub tree : u .tree ≡ rebuilt id-of kind-of (p .dropped) (added s q p) none true (s .tree)
+  pub tree : u .tree ≡ rebuilt id-of kind-of (p .dropped) (added s q p) none true (edited-tree (p .edits) (s .tree))
 
 pub accepted : (s : Schema) (q : Request) (p : Plan) (u : Schema) → planned s q ≡ ok p → update s q ≡ ok u
     → Accepted s q p u
@@ -116,14 +119,31 @@ accepted s q p u e₁ e =
     record {
       distinct = sound-distinct 0 (s .tree) (q .identifiers) e₃;
       tree = sym (ap (λ (x : Schema). x .tree) (ok-is a₂))
-          ∙ ap (λ (x : Plan). rebuilt id-of kind-of (x .dropped) (added s q x) none true (s .tree)) same;
+          ∙ ap (λ (x : Plan). rebuilt id-of kind-of (x .dropped) (added s q x) none true (edited-tree (x .edits) (s .tree)))
+          same;
     }
+
+-- What receives an addition stays in the edited base.
+pub still-stay : (s : Schema) (q : Request) (p : Plan) → planned s q ≡ ok p
+    → AllStay (edited-tree (p .edits) (s .tree)) (p .dropped) (added s q p)
+still-stay s q p e = go (added s q p) (all-stay s q p e)
+  where
+    one : (x : Option ℕ) → Stays (s .tree) (p .dropped) x → Stays (edited-tree (p .edits) (s .tree)) (p .dropped) x
+    one none h = tt
+    one (some x) h =
+        (edited-struct (p .edits) x (s .tree) (h .0), λ k. h .1 (rw (edited-gone (p .edits) (p .dropped) (s .tree)) at k))
+
+    go : (adds : List (Addition Field)) → AllStay (s .tree) (p .dropped) adds
+        → AllStay (edited-tree (p .edits) (s .tree)) (p .dropped) adds
+    go [] h = tt
+    go (a ∷ rest) h = (one (a .parent) (h .0), go rest (h .1))
 
 pub additions-stand : (s : Schema) (q : Request) (p : Plan) (u : Schema) → planned s q ≡ ok p → update s q ≡ ok u
     → AdditionsStand s q p u
 additions-stand s q p u e₁ e c h =
-    let r = arrives (s .tree) (p .dropped) (added s q p) c (all-stay s q p e₁) h in
-    rw (accepted s q p u e₁ e .tree) (stays-stands (p .dropped) (added s q p) (s .tree) (r .0) c (r .1) (r .2))
+    let t = edited-tree (p .edits) (s .tree) in
+    let r = arrives t (p .dropped) (added s q p) c (still-stay s q p e₁) h in
+    rw (accepted s q p u e₁ e .tree) (stays-stands (p .dropped) (added s q p) t (r .0) c (r .1) (r .2))
 
 -- ---- the ids consumed
 
@@ -167,7 +187,7 @@ consumed-added s q p u e₁ e =
             let c = column-of none (u .tree) x (h .0) in
             let i = c .its-id in
             ⊎-elim
-            (λ k. absurd (h .1 (subst (λ (y : ℕ). Found s y) i (stands-id (s .tree) none (c .column) k))))
+            (λ k. absurd (h .1 (subst (λ (y : ℕ). Found s y) i (from-found _ s (c .column) k))))
             (λ k. (omega arith, f .good .bounded x (h .0)))
             (f .keeps (c .column) (c .stands)),
       );

@@ -2,8 +2,8 @@
 -- Refusals.antt.
 use Prim.Native.Nat.{ℕ, zero, suc, _+_, _≤_}
 use mathlib.Core.Path.{_≡_, refl, sym, _∙_}
-use mathlib.Core.Bool.{Bool, true, false, not, _&&_}
-use mathlib.Core.List.{List, [], _∷_}
+use mathlib.Core.Bool.{Bool, true, false, not, _&&_, _||_}
+use mathlib.Core.List.{List, [], _∷_, _++_}
 use mathlib.Core.Option.{Option, none, some}
 use native.Mathlib.Omega.{arith}
 use lib.Dec.{eqb, leb, ltb}
@@ -23,11 +23,12 @@ use Rattle.paper.specs.Sound.{misnamed, names, ids, identifies, sound, within}
 use Rattle.paper.specs.Prune.{kept, pruned, tested, is-chosen, prune}
 use Rattle.paper.specs.Renumber.{renumber}
 use Rattle.paper.specs.Gone.{gone-columns}
+use Rattle.paper.specs.Edits.{Edit, Edited, remaining, forbidden, again, has-dot, edited-one, edited-all, edited-tree}
 use Rattle.paper.specs.Update.{Request, Schema, Plan, receiver, root-taken, member-taken}
 use Rattle.paper.specs.Update.{deleted, placed, placed-all, planned}
 use Rattle.paper.specs.Rebuild.{rebuilt, added, carried-out, update}
 use Rattle.paper.specs.Bytes.{turned, ok-bytes, in-pool, kids-at, slots}
-use Rattle.paper.specs.Lists.{ok-deletion, ok-addition, path-in, entries, entries-ok, id-list}
+use Rattle.paper.specs.Lists.{ok-deletion, ok-addition, path-in, ok-edit, edit-in, entries, entries-ok, id-list}
 use Rattle.paper.specs.Layout.{Part, deep, row-with, row, roots}
 use Rattle.paper.specs.Decode.{fields, decode}
 use Rattle.paper.specs.Limits.{room, whole, sized, sized-ids, sized-update}
@@ -116,12 +117,12 @@ decode-told list l s p =
     told-bind (roots-told list l (kids-at s) (slots s) (slots s) 0) λ t.
     told-bind (step 6 list (omega arith, omega arith, l) (misnamed Member 0 (fields p s (t .trees)))) λ _. accepted
 
-entries-told : (list : ℕ) → list ≤ last-list → (rule : List ℕ → ℕ → Bool) (s p : List ℕ)
-    → Told (entries-ok list rule s p)
+entries-told : (list width : ℕ) → list ≤ last-list → (rule : List ℕ → ℕ → Bool) (inside : ℕ → List ℕ → ℕ → Bool)
+    → (s p : List ℕ) → Told (entries-ok list width rule inside s p)
 unfolding entries-ok
-entries-told list l rule s p =
-    told-bind (step 3 list (omega arith, omega arith, l) (lowest (rule s) 0 (entries s))) λ _.
-    step 4 list (omega arith, omega arith, l) (lowest (path-in (length p) s) 0 (entries s))
+entries-told list width l rule inside s p =
+    told-bind (step 3 list (omega arith, omega arith, l) (lowest (rule s) 0 (entries width s))) λ _.
+    step 4 list (omega arith, omega arith, l) (lowest (inside (length p) s) 0 (entries width s))
 
 sound-told : (list : ℕ) → list ≤ last-list → (t : Forest Field) (identifiers : List ℕ)
     → Told (sound list t identifiers)
@@ -169,6 +170,23 @@ placed-all-told t ds last k (p ∷ ps) (node f m n) =
     told-bind (test 18 3 (omega arith, omega arith, omega arith) k (ltb highest top)) λ _.
     told-bind (placed-all-told t ds top (suc k) ps n) λ r. accepted
 
+edited-one-told : (t : Forest Field) (ds : List ℕ) (k : ℕ) (earlier : List Edited) (x : Edit)
+    → Told (edited-one t ds k earlier x)
+unfolding edited-one
+edited-one-told t ds k earlier x =
+    let column = remaining (gone-columns ds t) (look-name t (x .path)) in
+    told-bind (asked 23 6 (omega arith, omega arith, omega arith) k column) λ r.
+    let no = forbidden (x .change) (r .role) || again (x .change) (r .field .id) earlier in
+    told-bind (test 24 6 (omega arith, omega arith, omega arith) k no) λ _.
+    told-bind (test 13 6 (omega arith, omega arith, omega arith) k (has-dot (x .change))) λ _. accepted
+
+edited-all-told : (t : Forest Field) (ds : List ℕ) (k : ℕ) (earlier : List Edited) (xs : List Edit)
+    → Told (edited-all t ds k earlier xs)
+unfolding edited-all
+edited-all-told t ds k earlier [] = accepted
+edited-all-told t ds k earlier (x ∷ xs) =
+    told-bind (edited-one-told t ds k earlier x) λ e. edited-all-told t ds (suc k) (earlier ++ (e ∷ [])) xs
+
 planned-told : (s : Schema) (q : Request) → Told (planned s q)
 unfolding planned
 planned-told s q =
@@ -176,12 +194,13 @@ planned-told s q =
     told-bind (sound-told 0 (omega arith) (s .tree) (q .identifiers)) λ _.
     told-bind (test 10 3 (omega arith, omega arith, omega arith) 0 (not equal)) λ _.
     told-bind (deleted-told (s .tree) (q .identifiers) 0 (q .deletions)) λ ds.
-    told-bind (placed-all-told (s .tree) ds (s .last) 0 (q .additions) (q .added)) λ a. accepted
+    told-bind (placed-all-told (s .tree) ds (s .last) 0 (q .additions) (q .added)) λ a.
+    told-bind (edited-all-told (s .tree) ds 0 [] (q .edits)) λ es. accepted
 
 carried-out-told : (s : Schema) (q : Request) (p : Plan) → Told (carried-out s q p)
 unfolding carried-out
 carried-out-told s q p =
-    let t = rebuilt id-of kind-of (p .dropped) (added s q p) none true (s .tree) in
+    let t = rebuilt id-of kind-of (p .dropped) (added s q p) none true (edited-tree (p .edits) (s .tree)) in
     told-bind (test 19 4 (omega arith, omega arith, omega arith) 0 (not (within t))) λ _.
     told-bind (sound-told 4 (omega arith) t (q .identifiers)) λ _. accepted
 
@@ -237,8 +256,9 @@ update-entry-told s q =
     told-bind (size-told (sized-update s q)) λ _.
     told-bind (decode-told 0 (omega arith) (s .records) (s .pool)) λ t.
     told-bind (decode-told 1 (omega arith) (q .added-records) (q .request-pool)) λ n.
-    told-bind (entries-told 2 (omega arith) ok-deletion (q .deletions) (q .request-pool)) λ _.
-    told-bind (entries-told 3 (omega arith) ok-addition (q .additions) (q .request-pool)) λ _.
+    told-bind (entries-told 2 8 (omega arith) ok-deletion path-in (q .deletions) (q .request-pool)) λ _.
+    told-bind (entries-told 3 8 (omega arith) ok-addition path-in (q .additions) (q .request-pool)) λ _.
+    told-bind (entries-told 6 16 (omega arith) ok-edit edit-in (q .edits) (q .request-pool)) λ _.
     told-bind (update-told _ _) λ u. accepted
 
 prune-entry-told : (s p sel : List ℕ) (full : Bool) (lr ln : ℕ) → Told (prune-entry s p sel full lr ln)

@@ -16,6 +16,7 @@ use Rattle.paper.specs.Forest.{Forest, empty, node, size, preorder, _then_}
 use Rattle.paper.specs.Field.{Field, id-of, kind-of, is-struct}
 use Rattle.paper.specs.Sound.{ids}
 use Rattle.paper.specs.Gone.{dropped-member, gone, gone-columns}
+use Rattle.paper.specs.Edits.{edited-tree}
 use Rattle.paper.specs.Update.{Request, Schema, Plan, planned}
 use Rattle.paper.specs.Rebuild.{Addition, same-parent, arriving, rebuilt, added, update}
 use Rattle.laws.specs.Members.{_∈_}
@@ -27,8 +28,9 @@ use Rattle.theorems.specs.Run.{given}
 use Rattle.theorems.specs.Standing.{NothingVanishes, GoneIsLeftOut}
 use Rattle.theorems.proofs.Counting.{tally-in, in-tally, tally-out, tally-distinct}
 use Rattle.theorems.proofs.Evolution.{update-consumes}
-use Rattle.theorems.proofs.Receiving.{StructIn, struct-id, gone-node, Stays, AllStay, all-stay}
-use Rattle.theorems.proofs.Standing.{accepted}
+use Rattle.theorems.proofs.Receiving.{StructIn, struct-id, gone-node, Stays, AllStay}
+use Rattle.theorems.proofs.Edited.{edited-ids, edited-gone}
+use Rattle.theorems.proofs.Standing.{accepted, still-stay}
 
 -- ---- the rebuild comes once to what receives an addition
 
@@ -268,7 +270,10 @@ module _ (s : Schema) (q : Request) (p : Plan) (u : Schema) (e₁ : planned s q 
       ≡ sum w (ids (s .tree)) + sum w (given (added s q p))
   sum-updated w =
       let o = accepted s q p u e₁ e in
-      rw (o .tree) (sum-all w (p .dropped) (s .tree) (o .distinct) (added s q p) (all-stay s q p e₁))
+      let t = edited-tree (p .edits) (s .tree) in
+      let same = edited-ids (p .edits) (s .tree) in
+      let sums = sum-all w (p .dropped) t (rw same (o .distinct)) (added s q p) (still-stay s q p e₁) in
+      rw (o .tree) (rw (same, edited-gone (p .edits) (p .dropped) (s .tree)) at sums)
 
   -- By weights of one each; and of one for an id, none for the others.
   pub nothing-vanishes : NothingVanishes s q p u

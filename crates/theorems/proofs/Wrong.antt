@@ -12,11 +12,12 @@ use Rattle.paper.specs.Rows.{rows, entered, look-name}
 use Rattle.paper.specs.Sound.{fitting, misnamed, names, ids, sound, name-bytes, within}
 use Rattle.paper.specs.Prune.{prune}
 use Rattle.paper.specs.Gone.{gone}
+use Rattle.paper.specs.Edits.{edited-one, edited-all, edit-fields}
 use Rattle.paper.specs.Update.{deleted, member-taken, placed, placed-all, planned}
 use Rattle.paper.specs.Rebuild.{fresh, arrivals, arriving, rebuilt, carried-out, update}
 use Rattle.paper.specs.Bytes.{word16, word32, turned, ok-bytes, in-pool, kind-from, name-of, field-at, from}
-use Rattle.paper.specs.Lists.{ok-deletion, ok-addition, path-in, entries-ok, path-of, parent-path}
-use Rattle.paper.specs.Lists.{deletion-paths, addition-paths, id-list}
+use Rattle.paper.specs.Lists.{ok-deletion, ok-addition, path-in, ok-edit, edit-in, entries-ok, path-of, parent-path}
+use Rattle.paper.specs.Lists.{deletion-paths, addition-paths, edit-path, new-name, edit-of, edit-list, id-list}
 use Rattle.paper.specs.Layout.{deep, row-with, row, roots}
 use Rattle.paper.specs.Decode.{fields, decode}
 use Rattle.paper.specs.Encode.{row24, encode-records, encode-names, pool-bytes}
@@ -50,9 +51,10 @@ record Computed : Type 0 where
 answers : Computed
 unfolding update-entry prune-entry changed _>>=_ lowest size siblings levels preorder counts mapped _then_
     rows entered look-name fitting misnamed names ids sound name-bytes within prune
-    gone deleted member-taken placed placed-all planned fresh arrivals arriving rebuilt carried-out update
+    gone deleted member-taken placed placed-all edited-one edited-all planned edit-fields fresh arrivals arriving rebuilt carried-out update
     word16 word32 turned ok-bytes in-pool kind-from name-of field-at from
-    ok-deletion ok-addition path-in entries-ok path-of parent-path deletion-paths addition-paths id-list
+    ok-deletion ok-addition path-in ok-edit edit-in entries-ok path-of parent-path deletion-paths addition-paths
+    edit-path new-name edit-of edit-list id-list
     deep row-with row roots fields decode row24 encode-records encode-names pool-bytes
     room whole sum-from name-sum tree-sized pool-sized sized sized-ids sized-update
 answers =

@@ -11,7 +11,7 @@ use Rattle.paper.specs.Bytes.{turned}
 use Rattle.paper.specs.Entries.{Result, read}
 use Rattle.laws.specs.Members.{_∈_}
 use Rattle.theorems.specs.Numbers.{tally}
-use Rattle.theorems.specs.Run.{Column}
+use Rattle.theorems.specs.Columns.{Column}
 
 -- ---- pruning
 

@@ -24,6 +24,7 @@ nothing-with identifiers room-records room-names =
       deletions = [];
       additions = [];
       added-records = [];
+      edits = [];
       request-pool = [];
       room-records = room-records;
       room-names = room-names;

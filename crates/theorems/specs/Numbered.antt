@@ -9,6 +9,7 @@ use Rattle.paper.specs.Answer.{Answer, ok, refused}
 use Rattle.paper.specs.Refusals.{last-refusal, roomy, limited, unbroken, pooled, misshapen, named, own-ids, own-names}
 use Rattle.paper.specs.Refusals.{identified, matched, found-column, no-identifier, dotless, fillable, found-parent}
 use Rattle.paper.specs.Refusals.{found-struct, free-name, ids-left, rebuilt-within, chosen-directly, ambiguous, standing}
+use Rattle.paper.specs.Refusals.{surviving, permitted}
 use Rattle.theorems.specs.Numbers.{range}
 
 -- No refusal, or one of this number.
@@ -27,10 +28,11 @@ numbers-given =
     number-of (roomy false) ∷ number-of (limited false) ∷ number-of (unbroken 0 (some 0)) ∷ number-of (pooled 0 (some 0))
     ∷ number-of {A = ℕ} (misshapen 0 0) ∷ number-of (named 0 (some 0)) ∷ number-of (own-ids 0 (some 0))
     ∷ number-of (own-names 0 (some 0)) ∷ number-of (identified (some 0)) ∷ number-of (matched false)
-    ∷ number-of (found-column 0 absent) ∷ number-of (no-identifier 0 true) ∷ number-of (dotless 0 true)
+    ∷ number-of (found-column 0 absent) ∷ number-of (no-identifier 0 true) ∷ number-of (dotless 0 0 true)
     ∷ number-of (fillable 0 true) ∷ number-of (found-parent 0 absent) ∷ number-of (found-struct 0 absent)
     ∷ number-of (free-name 0 true) ∷ number-of (ids-left 0 0 true) ∷ number-of (rebuilt-within false)
-    ∷ number-of {A = ℕ} (chosen-directly 0) ∷ number-of {A = ℕ} (ambiguous 0) ∷ number-of (standing 0 true) ∷ []
+    ∷ number-of {A = ℕ} (chosen-directly 0) ∷ number-of {A = ℕ} (ambiguous 0) ∷ number-of (standing 0 true)
+    ∷ number-of (surviving 0 absent) ∷ number-of (permitted 0 true) ∷ []
 
 pub record OneNumberEach : Type 1 where
   -- From 1 to the last, each once;
@@ -48,7 +50,7 @@ pub record OneNumberEach : Type 1 where
   pub of-10 : (equal : Bool) → Only 10 (matched equal)
   pub of-11 : {A : Type 0} (place : ℕ) (column : Option A) → Only 11 (found-column place column)
   pub of-12 : (place : ℕ) (identifier : Bool) → Only 12 (no-identifier place identifier)
-  pub of-13 : (place : ℕ) (dot : Bool) → Only 13 (dotless place dot)
+  pub of-13 : (list place : ℕ) (dot : Bool) → Only 13 (dotless list place dot)
   pub of-14 : (place : ℕ) (bare : Bool) → Only 14 (fillable place bare)
   pub of-15 : {A : Type 0} (place : ℕ) (parent : Option A) → Only 15 (found-parent place parent)
   pub of-16 : {A : Type 0} (place : ℕ) (struct : Option A) → Only 16 (found-struct place struct)
@@ -58,3 +60,5 @@ pub record OneNumberEach : Type 1 where
   pub of-20 : {A : Type 0} (slot : ℕ) → Only {A = A} 20 (chosen-directly slot)
   pub of-21 : {A : Type 0} (second : ℕ) → Only {A = A} 21 (ambiguous second)
   pub of-22 : (place : ℕ) (gone : Bool) → Only 22 (standing place gone)
+  pub of-23 : {A : Type 0} (place : ℕ) (column : Option A) → Only 23 (surviving place column)
+  pub of-24 : (place : ℕ) (forbidden : Bool) → Only 24 (permitted place forbidden)

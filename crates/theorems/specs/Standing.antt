@@ -17,7 +17,8 @@ use Rattle.paper.specs.Lent.{Stored, Lent}
 use Rattle.paper.specs.Entries.{Result}
 use Rattle.laws.specs.Members.{_∈_}
 use Rattle.theorems.specs.Numbers.{tally}
-use Rattle.theorems.specs.Run.{Column, Stands, Has, Found, Missing, Consumed, given}
+use Rattle.theorems.specs.Columns.{Column, Stands, Has, Found, Missing}
+use Rattle.theorems.specs.Run.{Consumed, given}
 use Rattle.theorems.specs.Stored.{schema-of, request-of, to-store}
 
 -- A column of the additions: the root of each under the addition's parent, its inside under itself.

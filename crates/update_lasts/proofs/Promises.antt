@@ -4,9 +4,10 @@ use mathlib.Core.Path.{_≡_}
 use mathlib.Core.List.{List, []}
 use mathlib.Core.Option.{none, some}
 use Rattle.paper.specs.Lent.{Stored, Lent}
-use Rattle.theorems.specs.Stored.{LendsBytes, run-stored, BeginsStored}
-use Rattle.theorems.proofs.Beginning.{T-stored, T-requests, keyed-stored, keyed-by, keyed-requests}
-use Rattle.theorems.proofs.Promises.{runs-begin, runs-go-on, runs-begin-identified, runs-go-on-identified}
+use Rattle.theorems.specs.Stored.{LendsBytes, schema-of, run-stored, stored-sets, BeginsStored}
+use Rattle.theorems.specs.Edited.{EditedInARow}
+use Rattle.theorems.proofs.Beginning.{T-stored, T-requests, keyed-stored, keyed-by, keyed-requests, edits-requests}
+use Rattle.theorems.proofs.Promises.{runs-begin, runs-go-on, runs-begin-identified, runs-go-on-identified, runs-edit-stored}
 use Rattle.record.specs.declared.Sizes.{Sizes}
 use Rattle.record.specs.declared.Changed.{Changed}
 use Rattle.braidhurdle.specs.declared.ChangedNumbers.{ChangedNumbers}
@@ -51,3 +52,13 @@ updates-go-on-identified = (
   shown-accepted _ _ _ (runs-go-on-identified .1),
   refused-shown _ (runs-go-on-identified .2),
 )
+
+-- And there are calls that rename, relax and rename one column, which is each time as last set.
+pub updates-edit : BeginsStored keyed-stored []
+    × Calls of-update (run-stored keyed-stored edits-requests) (calls-of of-update keyed-stored edits-requests)
+    × Calls of-c-update (run-stored keyed-stored edits-requests) (calls-of of-c-update keyed-stored edits-requests)
+    × EditedInARow (λ i. schema-of (run-stored keyed-stored edits-requests i))
+    (stored-sets (run-stored keyed-stored edits-requests) edits-requests)
+updates-edit =
+    let calls = updates-run keyed-stored edits-requests (runs-edit-stored .1) in
+    (runs-edit-stored .0, calls .0, calls .1, runs-edit-stored .2)

@@ -1,6 +1,7 @@
 -- What `of-update` and `of-c-update` say is the `ensures` of the two functions, as their callers learn it: the very
 -- type, at whatever they are lent and leave. `a` has the arguments in order, `s` the same after the call.
--- That the added records are bytes (`Calls`) is no assumption of a caller: `lent_bytes` ensures it of every slice.
+-- That the added records and the edits are bytes (`Calls`) is no assumption of a caller: `lent_bytes` ensures it of every
+-- slice.
 use mathlib.Core.Path.{_≡_, refl}
 use borrow.Fn.World.{ArgsD, ResD}
 use contract.Lifetimes.{Lfts}
@@ -34,7 +35,7 @@ pub update-says : (κs : Lfts 5) (a : ArgsD update.signature κs) (r : ResD upda
     })
 update-says κs a r s = refl
 
--- `records`, `pool`, `identifiers`, `last_id`, `deletions`, `additions`, `added_records`, `request_pool`,
+-- `records`, `pool`, `identifiers`, `last_id`, `deletions`, `additions`, `added_records`, `edits`, `request_pool`,
 -- both buffers.
 pub c-update-says : (κs : Lfts 3) (a : ArgsD c-update.signature κs) (r : ResD c-update.signature κs)
     (s : AtExit c-update.ended κs)
@@ -42,12 +43,12 @@ pub c-update-says : (κs : Lfts 3) (a : ArgsD c-update.signature κs) (r : ResD 
     ≡ Ensures of-c-update (stored (now (a .0)) (now (a .1 .0)) (a .1 .1 .1 .0))
     (record {
       lent = lent (now (a .1 .1 .0)) (now (a .1 .1 .1 .1 .0)) (now (a .1 .1 .1 .1 .1 .0))
-          (now (a .1 .1 .1 .1 .1 .1 .0)) (now (a .1 .1 .1 .1 .1 .1 .1 .0))
-          (length (now (a .1 .1 .1 .1 .1 .1 .1 .1 .0))) (length (now (a .1 .1 .1 .1 .1 .1 .1 .1 .1 .0)));
-      records-before = now (a .1 .1 .1 .1 .1 .1 .1 .1 .0);
-      names-before = now (a .1 .1 .1 .1 .1 .1 .1 .1 .1 .0);
-      records-after = now (s .1 .1 .1 .1 .1 .1 .1 .1 .0);
-      names-after = now (s .1 .1 .1 .1 .1 .1 .1 .1 .1 .0);
+          (now (a .1 .1 .1 .1 .1 .1 .0)) (now (a .1 .1 .1 .1 .1 .1 .1 .0)) (now (a .1 .1 .1 .1 .1 .1 .1 .1 .0))
+          (length (now (a .1 .1 .1 .1 .1 .1 .1 .1 .1 .0))) (length (now (a .1 .1 .1 .1 .1 .1 .1 .1 .1 .1 .0)));
+      records-before = now (a .1 .1 .1 .1 .1 .1 .1 .1 .1 .0);
+      names-before = now (a .1 .1 .1 .1 .1 .1 .1 .1 .1 .1 .0);
+      records-after = now (s .1 .1 .1 .1 .1 .1 .1 .1 .1 .0);
+      names-after = now (s .1 .1 .1 .1 .1 .1 .1 .1 .1 .1 .0);
       answer = r;
     })
 c-update-says κs a r s = refl

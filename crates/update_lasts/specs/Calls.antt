@@ -74,7 +74,7 @@ keeps s (some z) records names =
 
 -- A caller of a function f, that has `at i` stored before call i.
 pub record Calls {A : Type 0} (f : Contract A) (at : ℕ → Stored) (calls : ℕ → Call A) : Type 0 where
-  -- The added records are bytes, below 256, as a slice of u8 always is (`lent_bytes`).
+  -- The added records and the edits are bytes, below 256, as a slice of u8 always is (`lent_bytes`).
   pub bytes : LendsBytes (λ i. calls i .lent)
   -- Each call is given what is stored, and does what f ensures;
   pub ensures : (i : ℕ) → Ensures f (at i) (calls i)

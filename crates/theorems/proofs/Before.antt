@@ -1,0 +1,83 @@
+-- Without edits an update answers what it answered before 02, 5/13: no step of it asks or changes more.
+use Prim.Native.Nat.{ℕ}
+use mathlib.Core.Path.{_≡_, refl, ap, _∙_}
+use mathlib.Core.Bool.{Bool, _&&_, and-true}
+use mathlib.Core.List.{List, []}
+use mathlib.Core.Option.{Option}
+use lib.Dec.{eqb}
+use lib.ListN.{length}
+use Rattle.paper.specs.Answer.{Answer, ok, refused, _>>=_}
+use Rattle.paper.specs.Refusals.{roomy, limited, matched}
+use Rattle.paper.specs.Forest.{siblings}
+use Rattle.paper.specs.Sound.{sound}
+use Rattle.paper.specs.Edits.{edited-all}
+use Rattle.paper.specs.Update.{Request, Schema, deleted, placed-all, planned}
+use Rattle.paper.specs.Rebuild.{carried-out, update}
+use Rattle.paper.specs.Bytes.{turned, from}
+use Rattle.paper.specs.Lists.{ok-deletion, ok-addition, path-in, ok-edit, edit-in, entries-ok, edit-list}
+use Rattle.paper.specs.Decode.{decode}
+use Rattle.paper.specs.Limits.{room, whole, sized, sized-ids, sized-update}
+use Rattle.paper.specs.Lent.{Stored, Lent}
+use Rattle.paper.specs.Entries.{schema-in, request-in, update-entry}
+use Rattle.laws.proofs.Basics.{bind-is}
+use Rattle.theorems.specs.Before as Before
+use Rattle.theorems.specs.Before.{request-before, lent-before}
+use Rattle.theorems.proofs.Passing.{unedited, nothing-edited}
+
+-- Steps that are one, and steps after which all goes the same way.
+then-same : {A B : Type 0} (x : Answer A) (f g : A → Answer B) → ((a : A) → f a ≡ g a) → (x >>= f) ≡ (x >>= g)
+unfolding _>>=_
+then-same (ok a) f g h = h a
+then-same (refused n l p) f g h = refl
+
+both-then : {A P Q B : Type 0} (x : Answer A) (f : A → Answer P) (f′ : A → Answer Q) (g : P → Answer B) (g′ : Q → Answer B)
+    → ((a : A) → (f a >>= g) ≡ (f′ a >>= g′)) → ((x >>= f) >>= g) ≡ ((x >>= f′) >>= g′)
+unfolding _>>=_
+both-then (ok a) f f′ g g′ h = h a
+both-then (refused n l p) f f′ g g′ h = refl
+
+unchanged : (s : Schema) (q : Request) (ds : List ℕ) (parents : List (Option ℕ)) (last : ℕ)
+    → q .edits ≡ []
+    → ((edited-all (s .tree) ds 0 [] (q .edits) >>= λ es. ok (record { dropped = ds; parents = parents; last = last; edits = es }))
+    >>= carried-out s q)
+    ≡ (ok (record { dropped = ds; parents = parents; last = last }) >>= Before.carried-out s (request-before q))
+unfolding edited-all carried-out Before.carried-out _>>=_
+unchanged s q ds parents last e = rw (e, unedited (s .tree))
+
+no-edits : (pool : List ℕ) → edit-list pool [] ≡ []
+unfolding edit-list from
+no-edits pool = refl
+
+pub as-before : (s : Schema) (q : Request) → q .edits ≡ [] → update s q ≡ Before.update s (request-before q)
+unfolding update planned Before.update Before.planned
+as-before s q e =
+    both-then (sound 0 (s .tree) (q .identifiers)) _ _ _ _ λ _.
+    both-then (matched (eqb (siblings (q .added)) (length (q .additions)))) _ _ _ _ λ _.
+    both-then (deleted (s .tree) (q .identifiers) 0 (q .deletions)) _ _ _ _ λ ds.
+    both-then (placed-all (s .tree) ds (s .last) 0 (q .additions) (q .added)) _ _ _ _ λ a.
+    unchanged s q ds (a .parents) (a .last) e
+
+-- ---- over bytes
+
+sized-before : (s : Stored) (q : Lent) → q .edits ≡ [] → sized-update s q ≡ Before.sized-update s (lent-before q)
+unfolding sized-update Before.sized-update whole
+sized-before s q e =
+    let lists = whole 8 64 (q .deletions) && whole 8 64 (q .additions) in
+    rw e
+    (ap (λ (b : Bool). sized-ids 64 (s .records) (s .pool) (q .identifiers) && (b && sized (q .added-records) (q .request-pool)))
+    (and-true lists))
+
+pub as-before-stored : (s : Stored) (q : Lent) → q .edits ≡ []
+    → update-entry s q ≡ Before.update-entry s (lent-before q)
+unfolding update-entry Before.update-entry
+as-before-stored s q e =
+    then-same (roomy (room (q .room-records) (q .room-names))) _ _ λ _.
+    rw (sized-before s q e)
+    (then-same (limited (Before.sized-update s (lent-before q))) _ _ λ _.
+    then-same (decode 0 (s .records) (s .pool)) _ _ λ t.
+    then-same (decode 1 (q .added-records) (q .request-pool)) _ _ λ n.
+    then-same (entries-ok 2 8 ok-deletion path-in (q .deletions) (q .request-pool)) _ _ λ _.
+    then-same (entries-ok 3 8 ok-addition path-in (q .additions) (q .request-pool)) _ _ λ _.
+    bind-is (entries-ok 6 16 ok-edit edit-in (q .edits) (q .request-pool)) _ (tt {0}) (rw e (nothing-edited (q .request-pool)))
+    ∙ ap (λ (a : Answer Schema). a >>= λ u. ok (record { tree = u .tree; identifiers = []; last = turned (u .last) }))
+    (as-before (schema-in s t) (request-in q n) (rw e (no-edits (q .request-pool)))))

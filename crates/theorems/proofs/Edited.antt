@@ -1,0 +1,198 @@
+-- Edits keep a tree fit: a new name is as short as a byte says, and only members are renamed, so elements, keys and
+-- values keep their names. And they keep which records are structs, and which go.
+use Prim.Native.Nat.{ℕ, zero, suc, _-_, _*_, _+_, _<_}
+use mathlib.Core.Path.{_≡_, refl, sym, ap, _∙_}
+use mathlib.Core.Logic.{inl, inr}
+use mathlib.Core.Bool.{Bool, true, false, cond, true≢false}
+use mathlib.Core.List.{List, [], _∷_, _++_, map}
+use mathlib.Core.Option.{Option, none, some}
+use native.Mathlib.Omega.{arith}
+use lib.Dec.{eqb}
+use lib.ListN.{length, drop, length-take}
+use borrow.Author.Tests.{eqb-true}
+use Rattle.paper.specs.declared.Role.{Role}
+use Rattle.paper.specs.declared.Role.the-variants.{Member, Element, Key, Value}
+use Rattle.paper.specs.Forest.{Forest, empty, node, siblings, mapped}
+use Rattle.paper.specs.Field.{Field, id-of, kind-of, is-member, is-required, is-struct}
+use Rattle.paper.specs.Rows.{Row, Start, top, row, below, beside, rows, look-name}
+use Rattle.paper.specs.Sound.{fitting, ids}
+use Rattle.paper.specs.Gone.{gone, gone-columns}
+use Rattle.paper.specs.Edits.{Change, rename, relax, Edit, Edited, forbidden, with-change, edit-field}
+use Rattle.paper.specs.Edits.{edit-fields, edited-tree}
+use Rattle.paper.specs.Bytes.{from}
+use Rattle.paper.specs.Lists.{edit-at, entries, new-name, edit-of, edit-list}
+use Rattle.laws.specs.Members.{_∈_}
+use Rattle.laws.specs.Fit.{Bytes, Holds}
+use Rattle.laws.proofs.Basics.{in-left, in-right, Distinct, distinct-one}
+use Rattle.laws.proofs.Preorder.{siblings-mapped}
+use Rattle.laws.proofs.Ordered.{row-ids}
+use Rattle.laws.proofs.Edited.{edits-keep-id, edits-keep-kind, ids-mapped}
+use Rattle.theorems.specs.Columns.{set-one, set-by, named-by, new-names}
+use Rattle.theorems.proofs.Shaped.{Shaped}
+use Rattle.theorems.proofs.Receiving.{StructIn, gone-node}
+use Rattle.theorems.proofs.Setting.{name-last, AllDecided}
+
+-- ---- new names are short
+
+abbrev ShortChange : Change → Type 0
+ShortChange (rename x) = length x < 256
+ShortChange relax = Unit {0}
+
+abbrev pub ShortEdits : List Edit → Type 0
+ShortEdits [] = Unit {0}
+ShortEdits (e ∷ es) = ShortChange (e .change) × ShortEdits es
+
+abbrev Short : List Edited → Type 0
+Short [] = Unit {0}
+Short (e ∷ es) = ShortChange (e .change) × Short es
+
+pub short-set : (t : Forest Field) (es : List Edit) → ShortEdits es → Short (set-by t es)
+short-set t [] h = tt
+short-set t (e ∷ es) h = go (look-name t (e .path)) (short-set t es (h .1))
+  where
+    go : (o : Option Row) → Short (set-by t es) → Short (set-one o (e .change) ++ set-by t es)
+    go none k = k
+    go (some r) k = (h .0, k)
+
+-- The length of a new name is a byte.
+pub short-lent : (pool edits : List ℕ) → Bytes edits → ShortEdits (edit-list pool edits)
+unfolding edit-list edit-of new-name from
+short-lent pool edits b = go 0 (entries 16 edits)
+  where
+    go : (k m : ℕ) → ShortEdits (from (edit-of pool edits) k m)
+    go k zero = tt
+    go k (suc m) = (one (eqb (edit-at edits k .what) 1), go (suc k) m)
+      where
+        one : (c : Bool) → ShortChange (cond c (rename (new-name pool edits k)) relax)
+        one true =
+            let l = length-take (edit-at edits k .name-len) (drop (edit-at edits k .name-at) pool) in
+            let z = b (k * 16 + 12) in
+            omega arith
+        one false = tt
+
+-- ---- one record
+
+holds-changed : (c : Change) (f : Field) (k : ℕ) → ShortChange c → Holds f k → Holds (with-change c f) k
+holds-changed (rename x) f k s h =
+    record {
+      id = h .id;
+      name = s;
+      flags = h .flags;
+      code = h .code;
+      typed = h .typed;
+      attribute = h .attribute;
+      kids = h .kids;
+    }
+holds-changed relax f k s h =
+    record {
+      id = h .id;
+      name = h .name;
+      flags = below-4 (is-required (f .flags)) (h .flags);
+      code = h .code;
+      typed = h .typed;
+      attribute = h .attribute;
+      kids = h .kids;
+    }
+  where
+    below-4 : (b : Bool) → f .flags < 4 → cond b (f .flags - 1) (f .flags) < 4
+    below-4 true l = omega arith
+    below-4 false l = l
+
+holds-edited : (es : List Edited) (f : Field) (k : ℕ) → Short es → Holds f k → Holds (edit-fields es f) k
+unfolding edit-fields
+holds-edited [] f k s h = h
+holds-edited (e ∷ es) f k s h = holds-edited es (edit-field e f) k (s .1) (go (eqb (e .id) (f .id)))
+  where
+    go : (b : Bool) → Holds (cond b (with-change (e .change) f) f) k
+    go true = holds-changed (e .change) f k (s .0) h
+    go false = h
+
+-- ---- what keeps its name
+
+member-fits : (r : Role) (x : List ℕ) → is-member r ≡ true → fitting r x ≡ true
+unfolding fitting
+member-fits Member x e = refl
+member-fits Element x e = absurd (true≢false (sym e))
+member-fits Key x e = absurd (true≢false (sym e))
+member-fits Value x e = absurd (true≢false (sym e))
+
+-- Rows of one id are one row.
+pub one-row : (t : Forest Field) → Distinct (ids t) → (r q : Row) → r ∈ rows top t → q ∈ rows top t
+    → r .field .id ≡ q .field .id → r ≡ q
+one-row t d r q = distinct-one (λ (x : Row). x .field .id) (rows top t) (rw (row-ids top t) d) r q
+
+-- No element, key or value gets a new name.
+unnamed : (t : Forest Field) (ds : List ℕ) (earlier es : List Edited) → Distinct (ids t) → AllDecided t ds earlier es
+    → (r : Row) → r ∈ rows top t → is-member (r .role) ≡ false → new-names (r .field .id) es ≡ []
+unnamed t ds earlier [] d a r h m = refl
+unnamed t ds earlier (e ∷ es) d a r h m =
+    rw (unnamed t ds (earlier ++ (e ∷ [])) es d (a .1) r h m)
+    (go (eqb (e .id) (r .field .id)) refl (e .change) (a .0 .allowed))
+  where
+    go : (b : Bool) → eqb (e .id) (r .field .id) ≡ b → (c : Change) → forbidden c (a .0 .row .role) ≡ false
+        → cond b (named-by c) [] ++ [] ≡ []
+    go false q c f = refl
+    go true q relax f = refl
+    go true q (rename x) f =
+        let same = one-row t d (a .0 .row) r (a .0 .there) h (a .0 .its-id ∙ eqb-true (e .id) (r .field .id) q) in
+        let no : is-member (a .0 .row .role) ≡ false = rw same m in
+        absurd (true≢false (rw no at f))
+
+-- ---- a tree
+
+abbrev Unnamed : List Edited → Start → Forest Field → Type 0
+Unnamed es s t = (r : Row) → r ∈ rows s t → is-member (r .role) ≡ false → new-names (r .field .id) es ≡ []
+
+shaped-edited : (es : List Edited) → Short es → (s : Start) (t : Forest Field) → Unnamed es s t → Shaped (s .role) t
+    → Shaped (s .role) (edited-tree es t)
+unfolding rows mapped
+shaped-edited es k s empty u h = tt
+shaped-edited es k s (node f m n) u h =
+    let g = edit-fields es f in
+    let inner =
+    shaped-edited es k (below s f) m (λ r i. u r (inr (in-left r (rows (below s f) m) (rows (beside s m) n) i))) (h .2) in
+    let outer =
+    shaped-edited es k (beside s m) n (λ r i. u r (inr (in-right r (rows (below s f) m) (rows (beside s m) n) i))) (h .3) in (
+      rw (siblings-mapped (edit-fields es) m) (holds-edited es f (siblings m) k (h .0)),
+      go (is-member (s .role)) refl,
+      rw (edits-keep-kind es f) inner,
+      outer,
+    )
+  where
+    go : (b : Bool) → is-member (s .role) ≡ b → fitting (s .role) (edit-fields es f .name) ≡ true
+    go true e = member-fits (s .role) (edit-fields es f .name) e
+    go false e = rw (name-last es f, u (row s f m) (inl refl) e) (h .1)
+
+pub edited-shaped : (t : Forest Field) (ds : List ℕ) (es : List Edited) → Distinct (ids t) → AllDecided t ds [] es
+    → Short es → Shaped Member t → Shaped Member (edited-tree es t)
+edited-shaped t ds es d a k h = shaped-edited es k top t (unnamed t ds [] es d a) h
+
+-- ---- ids, structs and what goes
+
+module _ (es : List Edited) where
+  pub edited-ids : (t : Forest Field) → ids (edited-tree es t) ≡ ids t
+  edited-ids = ids-mapped (edit-fields es) (edits-keep-id es)
+
+  pub edited-struct : (x : ℕ) (t : Forest Field) → StructIn x t → StructIn x (edited-tree es t)
+  unfolding mapped
+  edited-struct x empty h = h
+  edited-struct x (node f m n) (inl h) = inl (edits-keep-id es f ∙ h .0, ap is-struct (edits-keep-kind es f) ∙ h .1)
+  edited-struct x (node f m n) (inr (inl h)) = inr (inl (edited-struct x m h))
+  edited-struct x (node f m n) (inr (inr h)) = inr (inr (edited-struct x n h))
+
+  edited-going : (ds : List ℕ) (b : Bool) (t : Forest Field)
+      → map id-of (gone id-of kind-of ds b (edited-tree es t)) ≡ map id-of (gone id-of kind-of ds b t)
+  unfolding mapped
+  edited-going ds b empty = refl
+  edited-going ds b (node f m n) =
+      gone-node ds b (edit-fields es f) (edited-tree es m) (edited-tree es n)
+      ∙ rw (
+        edits-keep-id es f,
+        edits-keep-kind es f,
+        edited-ids m,
+        edited-going ds (is-struct (f .kind)) m,
+        edited-going ds b n,
+      ) (sym (gone-node ds b f m n))
+
+  pub edited-gone : (ds : List ℕ) (t : Forest Field) → gone-columns ds (edited-tree es t) ≡ gone-columns ds t
+  edited-gone ds t = edited-going ds true t
