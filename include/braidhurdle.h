@@ -85,7 +85,7 @@
     X(21, AMBIGUOUS, "two columns match at the same level where case is forgotten") \
     X(22, PARENT_GONE, "the receiving struct, or a record above it, is dropped as a member of a struct or of the root") \
     X(23, NO_SURVIVING_COLUMN, "an edit finds no column that stays") \
-    X(24, EDIT_NOT_ALLOWED, "its column's role forbids it, or it is a second rename of a column")
+    X(24, EDIT_NOT_ALLOWED, "an edit that its column's role forbids, or a second rename of a column")
 
 /* Every list that a refusal may speak of: X(number, name, what it is). Later versions may have more of them. */
 #define BRAIDHURDLE_LISTS(X) \

@@ -108,6 +108,6 @@ standing place gone = fault-if 22 3 place gone
 abbrev pub surviving : {A : Type 0} → (place : ℕ) → Option A → Answer A
 surviving place column = demand 23 6 place column
 
--- refusal 24: its column's role forbids it, or it is a second rename of a column
+-- refusal 24: an edit that its column's role forbids, or a second rename of a column
 abbrev pub permitted : (place : ℕ) → (forbidden : Bool) → Answer (Unit {0})
 permitted place forbidden = fault-if 24 6 place forbidden

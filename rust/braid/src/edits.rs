@@ -85,19 +85,23 @@ fn own_name(edit: &Edit) -> Option<String> {
 fn not_there(given: &Given, place: usize, asked: &Asked) -> Option<String> {
     // the edits behind it are not asked: their paths may lead nowhere
     let before = Asked { edits: &asked.edits[..place], ..*asked };
-    let (path, changes) = (&asked.edits[place].path, Changes::of(given.tree, before));
+    let (path, changes) = (&asked.edits[place].path, Changes::of(given.tree, before)?);
     if let Some(column) = given.found(path) {
-        return Some(format!(": {}", given.goes(&changes?, column.slot.0 as usize)?));
+        return Some(format!(": {}", given.goes(&changes, column.slot.0 as usize)?));
     }
-    let rebuilt = changes.and_then(|changes| Tree::build(&changes.rebuilt()).ok());
-    let later = rebuilt.as_ref().and_then(|tree| tree.column_by_name(path).ok()?);
-    let Some(later) = later else { return Some(near::question(given.tree, path)) };
-    let was = given.tree.find_id(later.id).ok()?;
-    let by = match was.and_then(|slot| given.tree.column(slot).ok()?) {
-        Some(column) => format!("an edit before it gives {} this name", told_of(&column)),
-        None => "this update adds it".into(),
+    let rebuilt = Tree::build(&changes.rebuilt()).ok()?;
+    let Ok(Some(later)) = rebuilt.column_by_name(path) else {
+        return Some(near::question(given.tree, path));
     };
-    Some(format!(": {by}, and paths are looked up in the tree as it was"))
+    let as_it_was = "and paths are looked up in the tree as it was";
+    let was = given.tree.find_id(later.id).ok()?;
+    Some(match was.and_then(|slot| given.tree.column(slot).ok()?) {
+        None => format!(": this update adds it, {as_it_was}"),
+        Some(column) => {
+            let by = renaming(&before, &changes, &Outline::of(&rebuilt), &[later.slot.0 as usize]);
+            format!(": that is the new name of {}, {as_it_was}{by}", told_of(&column))
+        }
+    })
 }
 
 /// Which role forbids an edit, or which edit before it renames the same column.
@@ -153,12 +157,12 @@ pub fn relaxing(given: &Given, changes: &Changes, slot: usize) -> Option<String>
     (!relaxed.is_empty()).then(|| format!("{told}: {}", relaxed.join("; ")))
 }
 
-/// The renames that two records of a rebuilt tree, or those above them, owe their names to.
-pub fn renaming(asked: &Asked, changes: &Changes, rebuilt: &Outline, slots: [usize; 2]) -> String {
+/// The renames to which records of a rebuilt tree owe their full names.
+pub fn renaming(asked: &Asked, changes: &Changes, rebuilt: &Outline, slots: &[usize]) -> String {
     let above = |slot: &usize| rebuilt.0[*slot].above;
     let ids: Vec<_> = slots
-        .into_iter()
-        .flat_map(|slot| successors(Some(slot), above).collect::<Vec<_>>())
+        .iter()
+        .flat_map(|slot| successors(Some(*slot), above).collect::<Vec<_>>())
         .map(|slot| rebuilt.0[slot].record.id)
         .collect();
     let names = |place: &usize| changes.renames(*place).is_some_and(|id| ids.contains(&id));

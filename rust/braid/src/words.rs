@@ -295,7 +295,7 @@ impl<'a> Given<'a> {
         let (column, before) = (outline.told(place), outline.told(earlier));
         let why = match number {
             7 => format!("; the last id {} is below it", asked.last_id),
-            _ => edits::renaming(asked, &changes, &outline, [place, earlier]),
+            _ => edits::renaming(asked, &changes, &outline, &[place, earlier]),
         };
         Some(format!("{column}, and before it {before}{why}"))
     }

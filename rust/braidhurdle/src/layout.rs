@@ -171,9 +171,9 @@ pub(crate) fn entry(offset: u32, length: u16, has_path: bool) -> [u8; ENTRY_BYTE
 }
 
 /// Byte 6 of an edit: a new name.
-const RENAME: u8 = 1;
+pub const RENAME: u8 = 1;
 /// Byte 6 of an edit: no longer required.
-const RELAX: u8 = 2;
+pub const RELAX: u8 = 2;
 
 /// An edit's 16 bytes, with the offset and length of its path and, where it renames, of the new
 /// name; else it relaxes.

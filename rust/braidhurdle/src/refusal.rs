@@ -121,7 +121,7 @@ numbered! {
         ParentGone = 22: "the receiving struct, or a record above it, is dropped as a member \
             of a struct or of the root",
         NoSurvivingColumn = 23: "an edit finds no column that stays",
-        EditNotAllowed = 24: "its column's role forbids it, or it is a second rename of a column",
+        EditNotAllowed = 24: "an edit that its column's role forbids, or a second rename of a column",
     }
 }
 

@@ -286,7 +286,7 @@ fn what_is_told_is_what_the_library_did() {
     ];
     let parents = ["node", "visits", "parts", "visits.element", "parts.value"];
     let mut random = Random::new(14);
-    let (mut accepted, mut refused) = (0, 0);
+    let (mut accepted, mut refused, mut renames) = (0, 0, 0);
     for case in 0..120 {
         let mut arguments = String::from("update T --out U --force");
         let mut dropped = vec![];
@@ -303,6 +303,13 @@ fn what_is_told_is_what_the_library_did() {
                 arguments += &format!(" --under {parent}");
                 let root = parent.split('.').next().expect("a root");
                 gone = gone.or(dropped.contains(&root).then_some(name));
+            }
+        }
+        // what is renamed is told by its new name, and so is what is added below it
+        let stays = |root: &&str| !dropped.contains(root);
+        for root in ["node", "visits", "parts"].into_iter().filter(stays) {
+            if random.chance(1, 3) {
+                arguments += &format!(" --rename {root}=new_{root}");
             }
         }
         let Said { status, out, err } = folder.braid(&arguments);
@@ -326,12 +333,17 @@ fn what_is_told_is_what_the_library_did() {
         assert_eq!(told(&said, "added "), new, "{arguments}\n{said}");
         let last: i32 = folder.last("U").expect("it is kept").trim().parse().expect("a number");
         assert_eq!(new, (11..=last).collect(), "{arguments}\n{said}");
-        for line in said.lines().filter_map(|line| line.strip_prefix("added ")) {
-            let (id, name) = line.split_once(' ').expect("an id and a name");
+        let renamed = said.lines().filter_map(|line| line.strip_prefix("renamed "));
+        renames += renamed.clone().count();
+        let added = said.lines().filter_map(|line| line.strip_prefix("added "));
+        for line in added.chain(renamed) {
+            let (id, names) = line.split_once(' ').expect("an id and a name");
+            let name = names.split_once(" to ").map_or(names, |(_, new)| new);
             let found = folder.braid(&format!("find U {name}")).answer();
             assert!(found.starts_with(&format!("id {id} slot ")), "{line}: {found}");
         }
         accepted += 1;
     }
     assert!(accepted > 60 && refused > 10, "{accepted} accepted, {refused} refused");
+    assert!(renames > 30, "{renames} renames");
 }

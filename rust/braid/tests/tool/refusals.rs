@@ -539,7 +539,7 @@ fn edit_refused(asked: &str, number: u32, place: u32, words: &str) {
     let means = match number {
         13 => DOT,
         23 => "an edit finds no column that stays",
-        _ => "its column's role forbids it, or it is a second rename of a column",
+        _ => "an edit that its column's role forbids, or a second rename of a column",
     };
     refused(
         &Folder::with_t(),
@@ -619,8 +619,8 @@ fn an_edit_of_what_is_not_there_yet_is_told_so() {
         23,
         1,
         &format!(
-            "relaxing of \"v.day\": an edit before it gives id 7 slot 5 visits.element.day this \
-             name, {as_it_was}"
+            "relaxing of \"v.day\": that is the new name of id 7 slot 5 visits.element.day, \
+             {as_it_was}; edit 0 is a rename of \"visits\" to \"v\""
         ),
     );
 }
