@@ -26,15 +26,18 @@
  * all examples 1 is boolean, 2 int, 3 long, 4 date, 5 float, 6 double, 7 timestamp, 8 timestamp_ns and 9 string.
  * A path entry is 8 bytes: offset (4), length (2), has-path (1), then 0 (1). has-path is 1; or 0, with offset and length 0, for
  * an addition at the root. A list of ids is 4 bytes an id.
+ * An edit is 16 bytes, and changes the column that its path finds. Path and new name stand in the pool of the request:
+ *   0-3 path offset           6  1 renames, 2 relaxes (braidhurdle_edit)        8-11 new name offset, 0 unless it renames
+ *   4-5 path length           7  is 0                                          12   new name length, likewise (13-15 are 0)
  *
  * Identifiers are the ids of the columns by which rows are told apart. Each is in the tree, a primitive, required, neither float
  * nor double, and every record above it is a required struct: so no element, key or value is one, nor what is inside of it. The
  * first identifier that breaks any of these is refused with 9, list 5. An update asks that of the tree that is given and of the
- * one that it would write, where an id may be gone, or be that of another column if last_id was too low; renumbering asks it of
- * the tree that is given. From version 6 on: before, an identifier had to be in the tree and no more.
+ * one that it would write, where an id may be gone, be that of another column if last_id was too low, or stand in what is relaxed;
+ * renumbering asks it of the tree that is given. From version 6 on: before, an identifier had to be in the tree and no more.
  *
  * Limits: 1,024 records, 16 levels, 32,768 bytes in a pool, 32,768 as the sum of a tree's name lengths, 64 deletions, 64
- * additions, 64 identifiers, 1,024 selected ids, 1,024 ids asked for at once.
+ * additions, 64 edits, 64 identifiers, 1,024 selected ids, 1,024 ids asked for at once.
  *
  * Output buffers: at least 24,576 record bytes and 32,768 name bytes; identifiers out, as many bytes as identifiers in; slots
  * out, as many bytes as ids in. On acceptance the answer stands at the start of each buffer, and bytes beyond it are unchanged.
@@ -50,7 +53,7 @@
 #include <stdint.h>
 
 /* The version of this boundary. It changes with any name, argument, result or size here, and with a call answered otherwise. */
-#define BRAIDHURDLE_VERSION 6
+#define BRAIDHURDLE_VERSION 7
 /* The least output buffers, in bytes. */
 #define BRAIDHURDLE_RECORD_ROOM 24576
 #define BRAIDHURDLE_NAME_ROOM 32768
@@ -71,7 +74,7 @@
     X(10, UNMATCHED_ROOTS, "roots of the additions tree differ from additions") \
     X(11, NO_SUCH_COLUMN, "a deletion finds no column") \
     X(12, DROPS_IDENTIFIER, "a deletion finds an identifier") \
-    X(13, DOTTED_NAME, "the added column's own name has a dot") \
+    X(13, DOTTED_NAME, "the added column's own name has a dot; or the new name of a rename has one") \
     X(14, NO_DEFAULT, "the added column is required, without initial default") \
     X(15, NO_SUCH_PARENT, "the parent path finds nothing") \
     X(16, NO_STRUCT, "the parent leads to no struct") \
@@ -80,7 +83,9 @@
     X(19, REBUILT_PAST_LIMIT, "the rebuilt tree passes a limit on trees (records, levels or name sum)") \
     X(20, LIST_OR_MAP_CHOSEN, "pruning meets a list or map chosen directly, not in full mode") \
     X(21, AMBIGUOUS, "two columns match at the same level where case is forgotten") \
-    X(22, PARENT_GONE, "the receiving struct, or a record above it, is dropped as a member of a struct or of the root")
+    X(22, PARENT_GONE, "the receiving struct, or a record above it, is dropped as a member of a struct or of the root") \
+    X(23, NO_SURVIVING_COLUMN, "an edit finds no column that stays") \
+    X(24, EDIT_NOT_ALLOWED, "an edit that its column's role forbids, or a second rename of a column")
 
 /* Every list that a refusal may speak of: X(number, name, what it is). Later versions may have more of them. */
 #define BRAIDHURDLE_LISTS(X) \
@@ -89,7 +94,8 @@
     X(2, DELETIONS, "deletions") \
     X(3, ADDITIONS, "additions") \
     X(4, REBUILT_TREE, "rebuilt tree") \
-    X(5, IDENTIFIERS, "identifiers")
+    X(5, IDENTIFIERS, "identifiers") \
+    X(6, EDITS, "edits")
 
 /* The values of `refusal`: BRAIDHURDLE_ACCEPTED, BRAIDHURDLE_SMALL_BUFFER, .. */
 #define BRAIDHURDLE_REFUSAL(number, name, says) BRAIDHURDLE_##name = number,
@@ -98,6 +104,9 @@ enum braidhurdle_refusal { BRAIDHURDLE_ACCEPTED = 0, BRAIDHURDLE_REFUSALS(BRAIDH
 /* The values of `list`: BRAIDHURDLE_LIST_BASE, .. */
 #define BRAIDHURDLE_LIST(number, name, what) BRAIDHURDLE_LIST_##name = number,
 enum braidhurdle_list { BRAIDHURDLE_LISTS(BRAIDHURDLE_LIST) };
+
+/* Byte 6 of an edit: a new name; or no longer required. Later versions may have more of them. */
+enum braidhurdle_edit { BRAIDHURDLE_RENAME = 1, BRAIDHURDLE_RELAX = 2 };
 
 #ifdef __cplusplus
 extern "C" {
@@ -133,20 +142,30 @@ struct braidhurdle_name {
     uint32_t offset, length;
 };
 
-/* Answers 6, the version of this boundary, which its name has too: an archive of another version has another name here. A program
+/* Answers 7, the version of this boundary, which its name has too: an archive of another version has another name here. A program
  * that refers to it therefore links with no archive whose functions are declared otherwise. */
-uint32_t braidhurdle_abi_6(void);
+uint32_t braidhurdle_abi_7(void);
 
-/* Drops and adds columns. Deletions and additions are path entries into request_pool; the k-th root of added_records belongs to
- * the k-th addition, its names too stand in request_pool, and ids in it are ignored. Ids are handed out from last_id + 1: the
- * largest id in the tree is not enough, since that column may have been dropped. The answer's last_id is what to give next time;
- * every id from last_id + 1 up to it is in the answer. Refusals 1 to 19, and 22 between 16 and 17 of the same addition: nothing is
- * added to what the same request drops. An element, key or value that is dropped stays, and takes additions. From version 5 on. */
+/* Drops, adds and edits columns. Deletions and additions are path entries into request_pool; the k-th root of added_records
+ * belongs to the k-th addition, its names too stand in request_pool, and ids in it are ignored. Ids are handed out from last_id +
+ * 1: the largest id in the tree is not enough, since that column may have been dropped. The answer's last_id is what to give next
+ * time; every id from last_id + 1 up to it is in the answer. Refusals 1 to 19, and 22 between 16 and 17 of the same addition:
+ * nothing is added to what the same request drops. An element, key or value that is dropped stays, and takes additions. From
+ * version 5 on.
+ *
+ * Edits come after the additions, and all paths are looked up in the tree as it was: so an edit changes a column of it that stays,
+ * and none that is added. A rename gives a new name, which may be empty; a relaxing makes a column optional, as it may be already.
+ * Each edit in turn, after 18 of the last addition, list 6: 23 where it finds no column that stays; 24 for a rename of an element,
+ * key or value, for a second rename of a column, and for a relaxing of a key, an optional one too; 13 for a dot in the new name.
+ * Two columns can exchange their names; but a name that a rename frees is still taken for an addition (17). Two columns of one
+ * name in the end are refused with 8, list 4, and a relaxed identifier, or one below what is relaxed, with 9. From version 7 on:
+ * before, there was no argument `edits`, and without edits nothing is answered otherwise. */
 struct braidhurdle_changed braidhurdle_update(
     const uint8_t *records, size_t records_len, const uint8_t *pool, size_t pool_len,
     const uint8_t *identifiers, size_t identifiers_len, int32_t last_id,
     const uint8_t *deletions, size_t deletions_len, const uint8_t *additions, size_t additions_len,
-    const uint8_t *added_records, size_t added_records_len, const uint8_t *request_pool, size_t request_pool_len,
+    const uint8_t *added_records, size_t added_records_len, const uint8_t *edits, size_t edits_len,
+    const uint8_t *request_pool, size_t request_pool_len,
     uint8_t *out_records, size_t out_records_len, uint8_t *out_names, size_t out_names_len);
 
 /* Keeps the selected columns. full: not 0 keeps a chosen column's whole type. Selected ids that the tree has not are ignored.

@@ -5,7 +5,7 @@
  *     target/calls
  *
  * It prints each answer, and ends with another status than 0 if one is not what 01 says, or 02 where case is forgotten (1/13),
- * where many ids are looked up (2/13), of additions to what is dropped (3/13) and of identifiers (4/13). */
+ * where many ids are looked up (2/13), of additions to what is dropped (3/13), of identifiers (4/13) and of edits (5/13). */
 #include <stdio.h>
 #include <string.h>
 
@@ -17,6 +17,8 @@
     WORD(id), WORD(offset), length, kind, flags, 0, children, 0, 0, 0, WORD(0), WORD(0)
 #define PATH(offset, length) WORD(offset), length, 0, 1, 0
 #define ROOT WORD(0), 0, 0, 0, 0
+#define RENAME(offset, length, name, name_length) WORD(offset), length, 0, BRAIDHURDLE_RENAME, 0, WORD(name), name_length, 0, 0, 0
+#define RELAX(offset, length) WORD(offset), length, 0, BRAIDHURDLE_RELAX, 0, WORD(0), 0, 0, 0, 0
 
 enum { PRIMITIVE, STRUCT, LIST, MAP };
 enum { OPTIONAL, REQUIRED };
@@ -42,6 +44,7 @@ static const uint8_t *const pool = (const uint8_t *)names;
 static uint8_t records[BRAIDHURDLE_RECORD_ROOM], out_names[BRAIDHURDLE_NAME_ROOM], identifiers[8];
 #define ROOM records, sizeof records, out_names, sizeof out_names
 #define NOTHING NULL, 0
+#define ARRAY(list) list, sizeof list
 #define UNTOUCHED 0xA5
 
 static int failed;
@@ -181,15 +184,15 @@ static void updates(void)
     fresh();
     memcpy(expected, t, sizeof t);
     expected[2 * RECORD_BYTES] = 11;
-    a = braidhurdle_update(T, NOTHING, 10, drop, sizeof drop, under_node, sizeof under_node, cost, sizeof cost, request_pool, 14,
-                           ROOM);
+    a = braidhurdle_update(T, NOTHING, 10, drop, sizeof drop, under_node, sizeof under_node, cost, sizeof cost, NOTHING,
+                           request_pool, 14, ROOM);
     held("update: node.cost dropped and added again has id 11 (P4)", answered(a, expected, sizeof expected, names));
     held("update: the last id is 11", a.last_id == 11);
     fresh();
-    a = braidhurdle_update(T, NOTHING, 10, NOTHING, at_root_twice, sizeof at_root_twice, floor_twice, sizeof floor_twice,
+    a = braidhurdle_update(T, NOTHING, 10, NOTHING, at_root_twice, sizeof at_root_twice, floor_twice, sizeof floor_twice, NOTHING,
                            request_pool, 14, ROOM);
     held("update: floor twice is refused with 8 at list 4, place 11, and nothing is written (P7)", refused(a, 8, 4, 11));
-    a = braidhurdle_update(T, NOTHING, 10, drop_node, sizeof drop_node, under_node, sizeof under_node, cost, sizeof cost,
+    a = braidhurdle_update(T, NOTHING, 10, drop_node, sizeof drop_node, under_node, sizeof under_node, cost, sizeof cost, NOTHING,
                            request_pool, 14, ROOM);
     held("update: cost under node, which is dropped, is refused with 22 at list 3, place 0",
          refused(a, BRAIDHURDLE_PARENT_GONE, BRAIDHURDLE_LIST_ADDITIONS, 0));
@@ -275,12 +278,54 @@ static void identifying(void)
     held("identifiers: so is a column below an optional struct", no_identifier(RENUMBERED(within_optional, both), 1));
     a = braidhurdle_renumber(T, key, sizeof key, 1, ROOM, identifiers, sizeof identifiers);
     held("identifiers: so is a map's key", no_identifier(a, 0));
-    a = braidhurdle_update(KEYED, optional, sizeof optional, 4, NOTHING, NOTHING, NOTHING, NOTHING, ROOM);
+    a = braidhurdle_update(KEYED, optional, sizeof optional, 4, NOTHING, NOTHING, NOTHING, NOTHING, NOTHING, ROOM);
     held("identifiers: an update asks that of the tree that it is given", no_identifier(a, 1));
-    a = braidhurdle_update(KEYED, both, sizeof both, 4, node, sizeof node, NOTHING, NOTHING, (const uint8_t *)"node", 4, ROOM);
+    a = braidhurdle_update(KEYED, both, sizeof both, 4, node, sizeof node, NOTHING, NOTHING, NOTHING, (const uint8_t *)"node", 4,
+                           ROOM);
     held("identifiers: and of the tree that it would write", no_identifier(a, 1));
-    a = braidhurdle_update(KEYED, both, sizeof both, 4, NOTHING, NOTHING, NOTHING, NOTHING, ROOM);
+    a = braidhurdle_update(KEYED, both, sizeof both, 4, NOTHING, NOTHING, NOTHING, NOTHING, NOTHING, ROOM);
     held("identifiers: required columns below required structs are accepted", answered(a, keyed, sizeof keyed, keyed_names));
+}
+
+/* A new name, or no longer required (02, 5/13), of columns of the tree as it was. */
+static void edits(void)
+{
+    /* node at 0, node.serial too, site at 11, unit at 15 */
+    static const char request_names[] = "node.serialsiteunit";
+    const uint8_t rename_and_relax[] = {RENAME(0, 11, 15, 4), RELAX(11, 4)}, serial[] = {RELAX(0, 11)};
+    const uint8_t exchange[] = {RENAME(0, 4, 11, 4), RENAME(11, 4, 0, 4)}, site_again[] = {RENAME(0, 4, 11, 4)};
+    const uint8_t twice[] = {RENAME(0, 4, 15, 4), RENAME(0, 4, 11, 4)}, dotted[] = {RENAME(0, 4, 0, 11)};
+    const uint8_t node[] = {PATH(0, 4)}, both[] = {WORD(4), WORD(2)};
+    uint8_t expected[sizeof keyed];
+    struct braidhurdle_changed a;
+
+#define EDITED(identifiers, deletions, edits) \
+    braidhurdle_update(KEYED, identifiers, 4, deletions, NOTHING, NOTHING, edits, sizeof edits, \
+                       (const uint8_t *)request_names, sizeof request_names - 1, ROOM)
+    fresh();
+    memcpy(expected, keyed, sizeof keyed);
+    expected[RECORD_BYTES + 8] = 4;
+    expected[2 * RECORD_BYTES + 4] -= 2, expected[3 * RECORD_BYTES + 4] -= 2;
+    expected[3 * RECORD_BYTES + 10] = OPTIONAL;
+    a = EDITED(NOTHING, NOTHING, rename_and_relax);
+    held("edits: node.serial is named unit and site is optional, ids and all else as they were",
+         answered(a, expected, sizeof expected, "nodeunitcostsite") && a.last_id == 4);
+    fresh();
+    a = EDITED(NOTHING, NOTHING, exchange);
+    held("edits: node and site exchange their names", answered(a, keyed, sizeof keyed, "siteserialcostnode"));
+    fresh();
+    a = EDITED(NOTHING, NOTHING, site_again);
+    held("edits: a second site is refused with 8 at list 4, place 3",
+         refused(a, BRAIDHURDLE_NAME_TWICE, BRAIDHURDLE_LIST_REBUILT_TREE, 3));
+    a = EDITED(NOTHING, NOTHING, dotted);
+    held("edits: a dot in the new name is refused with 13", refused(a, BRAIDHURDLE_DOTTED_NAME, BRAIDHURDLE_LIST_EDITS, 0));
+    a = EDITED(NOTHING, ARRAY(node), serial);
+    held("edits: one of what goes is refused with 23", refused(a, BRAIDHURDLE_NO_SURVIVING_COLUMN, BRAIDHURDLE_LIST_EDITS, 0));
+    a = EDITED(NOTHING, NOTHING, twice);
+    held("edits: a second rename of a column is refused with 24",
+         refused(a, BRAIDHURDLE_EDIT_NOT_ALLOWED, BRAIDHURDLE_LIST_EDITS, 1));
+    a = EDITED(ARRAY(both), NOTHING, serial);
+    held("edits: an identifier that is relaxed is refused with 9", no_identifier(a, 1));
 }
 
 /* A list of length 0 may be null; so may a buffer, which is then below its size. */
@@ -289,9 +334,9 @@ static void nulls(void)
     struct braidhurdle_changed a;
 
     fresh();
-    a = braidhurdle_update(NOTHING, NOTHING, NOTHING, 10, NOTHING, NOTHING, NOTHING, NOTHING, ROOM);
+    a = braidhurdle_update(NOTHING, NOTHING, NOTHING, 10, NOTHING, NOTHING, NOTHING, NOTHING, NOTHING, ROOM);
     held("null: an update of nothing by nothing gives nothing", answered(a, t, 0, "") && a.last_id == 10);
-    a = braidhurdle_update(T, NOTHING, 10, NOTHING, NOTHING, NOTHING, NOTHING, ROOM);
+    a = braidhurdle_update(T, NOTHING, 10, NOTHING, NOTHING, NOTHING, NOTHING, NOTHING, ROOM);
     held("null: T updated by nothing is T", answered(a, t, sizeof t, names) && a.last_id == 10);
     fresh();
     held("null: nothing pruned", answered(braidhurdle_prune(NOTHING, NOTHING, NOTHING, 1, ROOM), t, 0, ""));
@@ -305,7 +350,7 @@ static void nulls(void)
     held("null: no ids", searched(braidhurdle_find_ids(T, NOTHING, NOTHING), 0, 0));
     held("null: no column above it", nothing(braidhurdle_find_parent(NOTHING, NOTHING, 1)));
     held("null: no room is refused with 1",
-         refused(braidhurdle_update(T, NOTHING, 10, NOTHING, NOTHING, NOTHING, NOTHING, NOTHING, NOTHING), 1, 0, 0) &&
+         refused(braidhurdle_update(T, NOTHING, 10, NOTHING, NOTHING, NOTHING, NOTHING, NOTHING, NOTHING, NOTHING), 1, 0, 0) &&
              refused(braidhurdle_prune(T, NOTHING, 0, NOTHING, NOTHING), 1, 0, 0) &&
              refused(braidhurdle_renumber(T, NOTHING, 1, NOTHING, NOTHING, NOTHING), 1, 0, 0) &&
              searched(braidhurdle_find_ids(T, t, 4, NOTHING), 1, 0));
@@ -313,7 +358,7 @@ static void nulls(void)
 
 int main(void)
 {
-    held("abi_6: the version is the header's", braidhurdle_abi_6() == BRAIDHURDLE_VERSION);
+    held("abi_7: the version is the header's", braidhurdle_abi_7() == BRAIDHURDLE_VERSION);
     look_ups();
     look_ups_without_case();
     look_ups_of_many_ids();
@@ -322,6 +367,7 @@ int main(void)
     prunings();
     renumberings();
     identifying();
+    edits();
     nulls();
     return failed;
 }

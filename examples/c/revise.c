@@ -17,7 +17,7 @@
 #include "braidhurdle.h"
 
 enum { INT = 2, STRING = 9 }; /* type codes, as in all examples */
-enum { RECORD_BYTES = 24, ENTRY_BYTES = 8, ENTRIES = 64, PATHS = 4096, PATH = 1024 };
+enum { RECORD_BYTES = 24, ENTRY_BYTES = 8, EDIT_BYTES = 16, ENTRIES = 64, PATHS = 4096, PATH = 1024 };
 
 /* A tree in memory, and the last id. There is room for one byte more than a tree may have, so that the library sees a file that
  * is too long, and refuses it with 2. */
@@ -29,8 +29,9 @@ struct tree {
 
 /* What an update is asked to do. Paths and new names share one pool. */
 struct request {
-    uint8_t deletions[ENTRIES * ENTRY_BYTES], additions[ENTRIES * ENTRY_BYTES], added[ENTRIES * RECORD_BYTES], pool[PATHS];
-    size_t dropped, adds, pool_len;
+    uint8_t deletions[ENTRIES * ENTRY_BYTES], additions[ENTRIES * ENTRY_BYTES], added[ENTRIES * RECORD_BYTES];
+    uint8_t edits[ENTRIES * EDIT_BYTES], pool[PATHS];
+    size_t dropped, adds, edited, pool_len;
 };
 
 /* The serial number identifies a node. */
@@ -52,7 +53,7 @@ static uint32_t get32(const uint8_t *at)
 static uint32_t pooled(struct request *q, const char *text)
 {
     size_t at = q->pool_len, length = strlen(text);
-    if (length > PATHS - at || q->dropped == ENTRIES || q->adds == ENTRIES) abort();
+    if (length > PATHS - at || q->dropped == ENTRIES || q->adds == ENTRIES || q->edited == ENTRIES) abort();
     memcpy(q->pool + at, text, length);
     q->pool_len += length;
     return (uint32_t)at;
@@ -84,6 +85,29 @@ static void add(struct request *q, const char *parent, const char *name, uint32_
     q->adds++;
 }
 
+/* An edit begins as a path entry does, and byte 6 says what it is. */
+static uint8_t *edit(struct request *q, const char *path, enum braidhurdle_edit what)
+{
+    uint8_t *edit = q->edits + q->edited * EDIT_BYTES;
+    path_entry(q, edit, path);
+    edit[6] = (uint8_t)what;
+    q->edited++;
+    return edit;
+}
+
+static void rename_column(struct request *q, const char *path, const char *name)
+{
+    uint8_t *renamed = edit(q, path, BRAIDHURDLE_RENAME);
+    if (strlen(name) > 255) abort();
+    put32(renamed + 8, pooled(q, name));
+    renamed[12] = (uint8_t)strlen(name);
+}
+
+static void relax(struct request *q, const char *path)
+{
+    edit(q, path, BRAIDHURDLE_RELAX);
+}
+
 /* ---- refusals */
 
 static const char *meaning(uint32_t refusal)
@@ -106,16 +130,21 @@ static void tell(const struct request *q, struct braidhurdle_changed a)
 {
     /* a place in a list of the request is one of its entries; in a tree it is a slot */
     const uint8_t *dropped = q->deletions + a.place * ENTRY_BYTES, *added = q->added + a.place * RECORD_BYTES;
+    const uint8_t *edited = q->edits + a.place * EDIT_BYTES;
     fprintf(stderr, "refused %u at %u %u: %s\n", (unsigned)a.refusal, (unsigned)a.list, (unsigned)a.place, meaning(a.refusal));
     if (a.list == BRAIDHURDLE_LIST_DELETIONS)
         asked(q, "drop", get32(dropped), dropped[4] | dropped[5] << 8);
     else if (a.list == BRAIDHURDLE_LIST_ADDITIONS)
         asked(q, "add", get32(added + 4), added[8]);
+    else if (a.list == BRAIDHURDLE_LIST_EDITS)
+        asked(q, edited[6] == BRAIDHURDLE_RENAME ? "rename" : "relax", get32(edited), edited[4] | edited[5] << 8);
     /* what can be mended is told apart by the number */
     if (a.refusal == BRAIDHURDLE_NO_SUCH_COLUMN)
         fputs("  leave it out: the tree has no such column, or no longer\n", stderr);
     else if (a.refusal == BRAIDHURDLE_NAME_TAKEN)
         fputs("  drop the column of that name in the same request, or choose another name\n", stderr);
+    else if (a.refusal == BRAIDHURDLE_NO_SURVIVING_COLUMN)
+        fputs("  name a column as the tree has it now, and one that the request does not drop\n", stderr);
 }
 
 /* ---- files */
@@ -192,7 +221,7 @@ static uint32_t update(const struct tree *from, const struct request *q, struct 
     struct braidhurdle_changed a = braidhurdle_update(
         from->records, from->records_len, from->names, from->names_len, identifiers, sizeof identifiers, from->last_id,
         q->deletions, q->dropped * ENTRY_BYTES, q->additions, q->adds * ENTRY_BYTES, q->added, q->adds * RECORD_BYTES,
-        q->pool, q->pool_len, to->records, sizeof to->records, to->names, sizeof to->names);
+        q->edits, q->edited * EDIT_BYTES, q->pool, q->pool_len, to->records, sizeof to->records, to->names, sizeof to->names);
     if (a.refusal != BRAIDHURDLE_ACCEPTED) {
         tell(q, a);
         return a.refusal;
@@ -206,7 +235,7 @@ static uint32_t update(const struct tree *from, const struct request *q, struct 
 int main(int argc, char **argv)
 {
     static struct tree now, next;
-    static struct request board_5, board_6;
+    static struct request board_5, board_6, board_7;
     static const char duration[] = "visits.duration";
 
     if (argc != 3) {
@@ -215,10 +244,12 @@ int main(int argc, char **argv)
     }
     if (!load(argv[1], &now)) return 3;
 
-    /* The next board tells no fitter, but how long a visit took; and its country. */
+    /* The next board tells no fitter, but how long a visit took; and its country. It says failures, and may have no battery. */
     drop(&board_5, "visits.fitter");
     add(&board_5, "visits", "duration", INT);
     add(&board_5, NULL, "country", STRING);
+    rename_column(&board_5, "faults", "failures");
+    relax(&board_5, "node.battery");
     if (update(&now, &board_5, &next) != BRAIDHURDLE_ACCEPTED) return 2;
     if (!store(argv[2], &next)) return 3;
     printf("%s: last id %ld, was %ld\n", argv[2], (long)next.last_id, (long)now.last_id);
@@ -231,7 +262,9 @@ int main(int argc, char **argv)
     if (f.refusal != BRAIDHURDLE_ACCEPTED || !f.found || f.id <= before) return 2;
     printf("%s is column %ld, today at slot %u\n", duration, (long)f.id, (unsigned)f.slot);
 
-    /* A column can't be dropped twice. The refusal is told, and nothing has changed. */
+    /* A column can't be dropped twice, and no column is named faults any more. Each refusal is told, and nothing has changed. */
     drop(&board_6, "visits.fitter");
-    return update(&now, &board_6, &next) == BRAIDHURDLE_NO_SUCH_COLUMN ? 0 : 2;
+    if (update(&now, &board_6, &next) != BRAIDHURDLE_NO_SUCH_COLUMN) return 2;
+    relax(&board_7, "faults");
+    return update(&now, &board_7, &next) == BRAIDHURDLE_NO_SURVIVING_COLUMN ? 0 : 2;
 }

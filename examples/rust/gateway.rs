@@ -16,11 +16,13 @@ fn main() -> Result<(), Box<dyn Error>> {
     let (tree, last_id) = first()?;
     print("as it was built", &tree)?;
 
-    // The next revision reports a fault with each visit, and has no floor.
+    // The next revision reports a fault with each visit, has no floor, and calls a button a switch:
+    // that is the same column, and so it has the same id.
     let request = Request::new(last_id)
         .identifiers(&[FieldId(1)])
         .drop("floor")?
-        .add_under("visits", Field::primitive("fault", INT))?;
+        .add_under("visits", Field::primitive("fault", INT))?
+        .rename("button", "switch")?;
     let updated = tree.update(&request)?;
     print("after the update", &updated.tree)?;
 

@@ -61,7 +61,7 @@ found-column place column = demand 11 2 place column
 abbrev pub no-identifier : (place : ℕ) → (identifier : Bool) → Answer (Unit {0})
 no-identifier place identifier = fault-if 12 2 place identifier
 
--- refusal 13: the added column's own name (list 3) or (02, 5/13) the new name of a rename (list 6) has a dot
+-- refusal 13: the added column's own name has a dot; or (02, 5/13) the new name of a rename has one
 abbrev pub dotless : (list place : ℕ) → (dot : Bool) → Answer (Unit {0})
 dotless list place dot = fault-if 13 list place dot
 
@@ -108,6 +108,6 @@ standing place gone = fault-if 22 3 place gone
 abbrev pub surviving : {A : Type 0} → (place : ℕ) → Option A → Answer A
 surviving place column = demand 23 6 place column
 
--- refusal 24: its column's role forbids it, or it is a second rename of a column
+-- refusal 24: an edit that its column's role forbids, or a second rename of a column
 abbrev pub permitted : (place : ℕ) → (forbidden : Bool) → Answer (Unit {0})
 permitted place forbidden = fault-if 24 6 place forbidden

@@ -1,7 +1,8 @@
 //! The benchmark: named schemas, sizes, and the cases that are timed on them; cases that are
-//! built to be bad; searches by id beside a scan; the stack that an entry uses.
+//! built to be bad; updates with edits; searches by id beside a scan; the stack that an entry uses.
 
 mod deepest;
+mod edits;
 mod folded;
 mod ids;
 mod rows;
@@ -13,6 +14,7 @@ mod timing;
 mod worst;
 
 pub use deepest::deepest;
+pub use edits::{Editing, editing};
 pub use folded::worst_folded;
 pub use ids::{FAMILIES, Family};
 pub use rows::{Row, rows};

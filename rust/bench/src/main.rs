@@ -1,22 +1,23 @@
 //! The benchmark: for each schema, size and operation the port's time, the time of iceberg's
 //! own code from the same bytes (build and operation), how many times the port is faster, and
 //! a plain copy of the same bytes. Then the same for trees that are built to be bad, for the
-//! index, for the look-up that forgets case, for additions and for identifiers far down; searches
-//! by id beside a linear scan; the stack that each entry uses. Words behind the command choose
-//! parts of that.
+//! index, for the look-up that forgets case, for additions and for identifiers far down; updates
+//! with edits beside the same ones without; searches by id beside a linear scan; the stack that
+//! each entry uses. Words behind the command choose parts of that.
 
 use std::hint::black_box;
 use std::process::ExitCode;
 
 use bench::{
-    Call, FAMILIES, LINKED, Room, Row, SCHEMAS, SIZES, Search, deepest, marks, rows, searches,
-    times, worst_folded, worst_identifiers, worst_ids, worst_names, worst_parents,
+    Call, Editing, FAMILIES, LINKED, Room, Row, SCHEMAS, SIZES, Search, deepest, editing, marks,
+    rows, searches, times, worst_folded, worst_identifiers, worst_ids, worst_names, worst_parents,
 };
 use oracle::Iceberg;
 use port::Port;
 
 /// The parts besides the schemas.
-const PARTS: [&str; 7] = ["ids", "names", "folded", "parents", "identifiers", "searches", "stack"];
+const PARTS: [&str; 8] =
+    ["ids", "names", "folded", "parents", "identifiers", "edits", "searches", "stack"];
 
 fn main() -> ExitCode {
     let parts: Vec<&str> = SCHEMAS.iter().map(|(name, _)| *name).chain(PARTS).collect();
@@ -68,6 +69,9 @@ fn main() -> ExitCode {
         println!("\nidentifiers: built to be bad for the walk up from an identifier (9)");
         table(worst_identifiers(), iceberg);
     }
+    if wanted("edits") {
+        editings(iceberg);
+    }
     if wanted("searches") {
         searching(iceberg);
     }
@@ -88,6 +92,35 @@ fn table(rows: impl IntoIterator<Item = Row>, iceberg: Option<Iceberg>) {
     for (row, times) in rows.iter().zip(times(&calls).chunks(3)) {
         let records = row.case.records.len() / judge::RECORD_BYTES;
         println!("{records:>7} {:45}{}", row.what, figures(times));
+    }
+}
+
+/// A table for each update without edits, and the same with them: how many times it takes as long.
+/// The crate has no edits, so it is asked for the update without them.
+fn editings(iceberg: Option<Iceberg>) {
+    println!("\nedits: beside the same update without edits, which is what the crate is asked for");
+    for Editing { of, rows } in editing() {
+        println!("\n{of}");
+        println!(
+            "{:>7} {:45}{:>12}{:>9}{:>12}{:>9}",
+            "records", "", "ours", "as long", "iceberg", "times"
+        );
+        let calls: Vec<Option<Call>> = rows.iter().flat_map(|row| calls(row, iceberg)).collect();
+        let times = times(&calls);
+        for (row, ours) in rows.iter().zip(times.iter().step_by(3)) {
+            let records = row.case.records.len() / judge::RECORD_BYTES;
+            let shown = |time: Option<f64>| time.map_or("-".into(), |t| format!("{:.3}", t / 1e3));
+            let longer = ours
+                .zip(times[0])
+                .map_or("-".into(), |(with, without)| format!("{:.2}", with / without));
+            println!(
+                "{records:>7} {:45}{:>12}{longer:>9}{:>12}{:>9}",
+                row.what,
+                shown(*ours),
+                shown(times[1]),
+                ratio(*ours, times[1])
+            );
+        }
     }
 }
 

@@ -6,6 +6,7 @@ use judge::{Node, OUT_NAMES, OUT_RECORDS, PRIMITIVE, Tree};
 use crate::schemas::schema;
 
 /// A case with the operation's word and what is done.
+#[derive(Clone)]
 pub struct Row {
     pub what: &'static str,
     pub case: Case,
@@ -19,9 +20,7 @@ pub struct Row {
 pub fn rows(name: &str, records: usize) -> Vec<Row> {
     let base = schema(name, records);
     let tree = Tree::of(&base);
-    let primitives: Vec<usize> = (1..records)
-        .filter(|slot| tree.rows[*slot].kind == PRIMITIVE && member(&tree, *slot))
-        .collect();
+    let primitives = primitives(&tree);
     let ids: Vec<i32> = primitives.iter().step_by(2).map(|slot| tree.rows[*slot].id).collect();
     let every: Vec<i32> = tree.rows.iter().map(|row| row.id).collect();
     let last = records - 1;
@@ -48,8 +47,14 @@ pub fn row(what: &'static str, case: Case) -> Row {
     Row { what, case, refusal: 0, crate_too: true }
 }
 
+/// The slots of the primitives that a deletion takes out, but for the first, the identifier.
+pub fn primitives(tree: &Tree) -> Vec<usize> {
+    let goes = |slot: &usize| tree.rows[*slot].kind == PRIMITIVE && member(tree, *slot);
+    (1..tree.rows.len()).filter(goes).collect()
+}
+
 /// Is a record a root or a struct's member, so that a deletion takes it out?
-fn member(tree: &Tree, slot: usize) -> bool {
+pub fn member(tree: &Tree, slot: usize) -> bool {
     tree.rows[slot].parent.is_none_or(|up| tree.rows[up].kind == judge::STRUCT)
 }
 
@@ -65,7 +70,7 @@ fn deep(tree: &Tree) -> i32 {
 }
 
 /// Deletions spread over the primitives, again from the front where there are too few.
-fn update(base: &[Node], tree: &Tree, primitives: &[usize], count: usize) -> Case {
+pub fn update(base: &[Node], tree: &Tree, primitives: &[usize], count: usize) -> Case {
     let spread = (primitives.len() / count).max(1);
     let slot = |n: usize| primitives[n * spread % primitives.len()];
     let deletions: Vec<Vec<u8>> = (0..count).map(|n| tree.full_name(slot(n))).collect();
@@ -79,7 +84,7 @@ fn update(base: &[Node], tree: &Tree, primitives: &[usize], count: usize) -> Cas
     case
 }
 
-fn base_last(tree: &Tree) -> i32 {
+pub fn base_last(tree: &Tree) -> i32 {
     tree.rows.len() as i32
 }
 

@@ -1,13 +1,13 @@
 //! The benchmark times what its table says.
 
-use std::collections::HashMap;
+use std::collections::{HashMap, HashSet};
 
 use bench::{
-    FAMILIES, Room, SCHEMAS, SIZES, rows, schema, searches, worst_folded, worst_identifiers,
-    worst_ids, worst_names, worst_parents,
+    Editing, FAMILIES, Room, SCHEMAS, SIZES, editing, rows, schema, searches, worst_folded,
+    worst_identifiers, worst_ids, worst_names, worst_parents,
 };
 use cases::{Answer, Ask, ByJudge, Case, answer};
-use judge::{ID_BYTES, LEVELS, RECORD_BYTES, Tree};
+use judge::{Change, Edit, ID_BYTES, LEVELS, Names, RECORD_BYTES, Tree, UpdateCall};
 
 #[test]
 fn every_schema_has_exactly_its_records() {
@@ -26,6 +26,7 @@ fn every_row_goes_as_far_as_it_says() {
     let pairs = worst_ids().into_iter().flatten().chain(worst_folded().into_iter().flatten());
     let worst = worst_names().into_iter().chain(pairs).chain(worst_parents());
     let worst = worst.chain(worst_identifiers());
+    let worst = worst.chain(editing().into_iter().flat_map(|editing| editing.rows));
     for row in table.flatten().chain(worst) {
         let records = row.case.records.len() / RECORD_BYTES;
         let refusal = answer(&row.case).refusal().map_or(0, |r| r.number);
@@ -74,6 +75,34 @@ fn identifiers_far_down_have_many_records_above_them() {
         }
         let place = answer(&row.case).refusal().map(|refusal| (refusal.list, refusal.place));
         assert_eq!(place, (row.refusal == 9).then_some((5, 63)), "{}", row.what);
+    }
+}
+
+/// Each row with edits is the first one, and 64 edits of different columns, of which each changes
+/// something.
+#[test]
+fn updates_with_edits_are_those_without_and_64_edits_more() {
+    let all = editing();
+    assert_eq!(all.len(), 2 * SCHEMAS.len() + 2);
+    for Editing { of, rows } in all {
+        let calls: Vec<UpdateCall> =
+            rows.iter().map(|row| row.case.update_call().expect("an update")).collect();
+        let tree = judge::read_tree(calls[0].records, calls[0].pool, judge::BASE).expect("read");
+        let names = Names::of(&tree);
+        assert_eq!(tree.rows.len(), 1_024, "{of}");
+        let renames = calls.iter().map(|call| {
+            let edits = judge::read_edits(call.edits, call.request_pool).expect("read");
+            let slots = edits.iter().map(|edit| names.find(&edit.path).expect("it is there"));
+            let slots: HashSet<usize> = slots.collect();
+            assert_eq!(slots.len(), edits.len(), "{of}");
+            assert!(slots.iter().all(|slot| tree.rows[*slot].flags & judge::REQUIRED != 0));
+            assert!(!of.starts_with("level 16") || slots.iter().all(|s| tree.rows[*s].level == 16));
+            let rest = UpdateCall { edits: &[], request_pool: calls[0].request_pool, ..*call };
+            assert_eq!(rest, calls[0], "{of}");
+            let renames = |edit: &&Edit| matches!(edit.change, Change::Rename(_));
+            [edits.len(), edits.iter().filter(renames).count()]
+        });
+        assert_eq!(renames.collect::<Vec<_>>(), [[0, 0], [64, 32], [64, 64]], "{of}");
     }
 }
 
@@ -178,7 +207,8 @@ fn iceberg_does_what_the_table_says() {
             assert_eq!(iceberg.operate(&row.case), done, "{name} {}", row.what);
         }
     }
-    for row in worst_identifiers() {
+    let edits = editing().into_iter().flat_map(|editing| editing.rows);
+    for row in worst_identifiers().into_iter().chain(edits.filter(|row| row.crate_too)) {
         assert_eq!(iceberg.operate(&row.case), row.refusal == 0, "{}", row.what);
     }
 }

@@ -18,6 +18,8 @@ standard output is closed, or can't be written.
 
 Every subcommand has an example in its own --help. docs/FORMAT.md has the layouts.";
 
+const NO_NAME: &str = "no = before a new name";
+
 const FORCE: &str = "Replaces files and links that are there, never a folder";
 const FORCE_LAST: &str =
     "Replaces files and links that are there, never a folder; takes a --last-id that is too low";
@@ -46,6 +48,15 @@ pub struct Addition<T, U = Vec<u8>> {
 pub enum Added {
     Column(Field),
     Tree(PathBuf),
+}
+
+/// What is to become of a column that stays.
+pub enum Edit {
+    /// A path and a new name with a `=` between them. Both may have more of them, so the tree tells
+    /// which it is.
+    Rename(Vec<u8>),
+    RenameId(FieldId, Vec<u8>),
+    Relax(Named),
 }
 
 /// What is asked for.
@@ -83,6 +94,7 @@ pub enum Of {
         identifiers: Vec<Named>,
         drop: Vec<Named>,
         add: Vec<Addition<Added, Named>>,
+        edit: Vec<Edit>,
         out: Out,
     },
 }
@@ -129,6 +141,7 @@ pub fn given() -> Result<Ask, clap::Error> {
                 let update = command.find_subcommand_mut("update").expect("it was given");
                 update.error(ErrorKind::ArgumentConflict, why)
             })?,
+            edit: edits(of),
             out: out(of),
         },
         "explain" => return Ok(Ask::Explain(of.get_one("N").copied())),
@@ -266,7 +279,7 @@ fn renumber() -> Command {
 
 fn update() -> Command {
     Command::new("update")
-        .about("Drops and adds columns")
+        .about("Drops, adds, renames and relaxes columns")
         .arg(path("IN", "The tree to update: IN.rec, IN.names and IN.last"))
         .arg(an_id(option("last-id", "ID", "The last id consumed so far, else that of IN.last")))
         .arg(some(many("identifiers", "ID|PATH,..", "Identifiers, which no drop may find")))
@@ -288,6 +301,17 @@ fn update() -> Command {
             many("attribute", "N", "The attribute number of the --add before it")
                 .value_parser(value_parser!(u32)),
         )
+        .arg(
+            many("rename", "PATH=NAME", "Gives the column of this path a new name of its own")
+                .value_parser(OsStringValueParser::new().try_map(path_and_name)),
+        )
+        .arg(
+            many("rename-id", "ID=NAME", "The same by the column's id")
+                .value_parser(OsStringValueParser::new().try_map(id_and_name))
+                .allow_hyphen_values(true),
+        )
+        .arg(bytes(many("relax", "PATH", "Makes the column of this path optional")))
+        .arg(ids(many("relax-id", "ID,..", "Makes the columns of these ids optional")))
         .args(out_arguments(FORCE_LAST))
         .after_help(
             "The order counts: --under belongs to the --add or --add-tree before it; --required,\n\
@@ -296,8 +320,14 @@ fn update() -> Command {
              their own. The last id is not the largest id present: a dropped id never returns.\n\
              A --last-id below an id of the tree or below IN.last is not taken without --force.\n\
              Prints what became of each column, and the new last id, which OUT.last keeps.\n\n\
+             Renamed and relaxed are columns that were there and stay, after all additions. A\n\
+             column keeps its id, and gets one new name at most: not its path, and without a\n\
+             dot. In PATH=NAME both may have a = of their own: PATH is what names a column of the\n\
+             tree, and where two do, nothing is done; say it by --rename-id.\n\n\
              Example:\n  braid update examples/T --drop node.cost --drop-id 7 \\\n    \
-             --add cost:3 --under node --add floor:2 --out U",
+             --add cost:3 --under node --add floor:2 --out U\n  \
+             braid update examples/node-4 --rename faults=failures \\\n    \
+             --rename-id 6=storey --relax node.battery --out node-5",
         )
 }
 
@@ -408,6 +438,20 @@ fn name_and_code(given: OsString) -> Result<(Vec<u8>, u32), &'static str> {
     Ok((given[..colon].to_vec(), code))
 }
 
+/// A path and a new name, which the tree parts.
+fn path_and_name(given: OsString) -> Result<Vec<u8>, &'static str> {
+    let both = given.into_encoded_bytes();
+    if both.contains(&b'=') { Ok(both) } else { Err(NO_NAME) }
+}
+
+/// An id and a new name; the name may have a `=` of its own.
+fn id_and_name(given: OsString) -> Result<(FieldId, Vec<u8>), &'static str> {
+    let given = given.into_encoded_bytes();
+    let sign = given.iter().position(|byte| *byte == b'=').ok_or(NO_NAME)?;
+    let id = std::str::from_utf8(&given[..sign]).ok().and_then(|id| id.parse().ok());
+    Ok((id.ok_or("no id before the =")?, given[sign + 1..].to_vec()))
+}
+
 /// The value of an argument that is always there.
 fn one<T: Clone + Send + Sync + 'static>(of: &ArgMatches, name: &str) -> T {
     of.get_one::<T>(name).expect("clap asks for it").clone()
@@ -428,6 +472,16 @@ fn drops(of: &ArgMatches) -> Vec<Named> {
     gather(of, "drop", Named::Path, &mut drops);
     gather(of, "drop-id", Named::Id, &mut drops);
     in_order(drops).collect()
+}
+
+/// The edits, in the order given.
+fn edits(of: &ArgMatches) -> Vec<Edit> {
+    let mut edits = vec![];
+    gather(of, "rename", Edit::Rename, &mut edits);
+    gather(of, "rename-id", |(id, name)| Edit::RenameId(id, name), &mut edits);
+    gather(of, "relax", |path| Edit::Relax(Named::Path(path)), &mut edits);
+    gather(of, "relax-id", |id| Edit::Relax(Named::Id(id)), &mut edits);
+    in_order(edits).collect()
 }
 
 /// A word about additions: a new one, or something about the last.

@@ -4,6 +4,7 @@ use braidhurdle::names::shown;
 use braidhurdle::{Column, Field, FieldId, Kind, Tree};
 
 use crate::arguments::Addition;
+use crate::edits::{Change, Edit};
 
 /// What is asked of an update, as people say it.
 #[derive(Clone, Copy)]
@@ -12,6 +13,7 @@ pub struct Asked<'a> {
     /// The path of each deletion.
     pub dropped: &'a [Vec<u8>],
     pub added: &'a [Addition<Field>],
+    pub edits: &'a [Edit],
 }
 
 /// An update of which every path finds its column.
@@ -22,11 +24,13 @@ pub struct Changes<'a> {
     /// Each addition, with its new ids, and the slot of the struct that receives it; none is the
     /// root.
     adds: Vec<(Option<usize>, Field)>,
+    /// Each edit, with the slot that it finds.
+    edits: Vec<(usize, &'a Edit)>,
 }
 
 impl<'a> Changes<'a> {
     /// None where the tree is refused or a path leads nowhere.
-    pub fn of(tree: &'a Tree, asked: Asked) -> Option<Changes<'a>> {
+    pub fn of(tree: &'a Tree, asked: Asked<'a>) -> Option<Changes<'a>> {
         let columns: Vec<Column> = tree.columns().ok()?.collect();
         let find = |path: &Vec<u8>| Some(tree.find_name(path).ok()??.1.0 as usize);
         let drops = asked.dropped.iter().map(find).collect::<Option<_>>()?;
@@ -39,7 +43,9 @@ impl<'a> Changes<'a> {
             };
             adds.push((above, numbered(what, &mut last)));
         }
-        Some(Changes { columns, drops, adds })
+        let edits = asked.edits.iter().map(|edit| Some((find(&edit.path)?, edit)));
+        let edits = edits.collect::<Option<_>>()?;
+        Some(Changes { columns, drops, adds, edits })
     }
 
     /// The slot of the struct that receives an addition; none is the root.
@@ -54,6 +60,31 @@ impl<'a> Changes<'a> {
         let outer = above.and_then(|above| self.taken_by(above));
         let is_member = above.is_none_or(|above| self.columns[above].kind == Kind::Struct);
         outer.or((is_member && self.drops.contains(&slot)).then_some(slot))
+    }
+
+    /// The first edit that relaxes the column of a slot.
+    pub fn relaxing(&self, slot: usize) -> Option<usize> {
+        self.edits.iter().position(|(at, edit)| *at == slot && edit.new_name().is_none())
+    }
+
+    /// The id of the column that an edit renames.
+    pub fn renames(&self, edit: usize) -> Option<FieldId> {
+        let (slot, edit) = self.edits[edit];
+        edit.new_name().map(|_| self.columns[slot].id)
+    }
+
+    /// The own name of a column in the end.
+    fn name(&self, slot: usize) -> &[u8] {
+        let new = self.edits.iter().filter(|(at, _)| *at == slot);
+        new.filter_map(|(_, edit)| edit.new_name()).next().unwrap_or(self.columns[slot].name)
+    }
+
+    /// The full name of a column in the end.
+    fn full_name(&self, slot: usize) -> Vec<u8> {
+        match self.columns[slot].parent {
+            Some((_, above)) => joined(&self.full_name(above.0 as usize), self.name(slot)),
+            None => self.name(slot).to_vec(),
+        }
     }
 
     /// The roots of the tree that the library would write, were it not refused.
@@ -76,8 +107,9 @@ impl<'a> Changes<'a> {
             Kind::Struct => self.members(Some(slot)),
             _ => self.children(Some(slot)).map(|child| self.field(child)).collect(),
         };
-        let Column { id, kind, required, default, type_code, attribute, .. } = *column;
-        let name = column.name.to_vec();
+        let Column { id, kind, default, type_code, attribute, .. } = *column;
+        let name = self.name(slot).to_vec();
+        let required = column.required && self.relaxing(slot).is_none();
         Field { id, name, kind, required, default, type_code, attribute, inside }
     }
 
@@ -86,7 +118,8 @@ impl<'a> Changes<'a> {
         (above.map_or(0, |above| above + 1)..self.columns.len()).filter(of)
     }
 
-    /// A line for each column that was dropped, stays although a deletion finds it, or was added.
+    /// A line for each column that was dropped, stays although a deletion finds it, was added, or
+    /// was edited.
     pub fn lines(&self) -> String {
         let mut lines = String::new();
         for (nth, slot) in self.drops.iter().enumerate() {
@@ -95,7 +128,10 @@ impl<'a> Changes<'a> {
             }
         }
         for (under, field) in &self.adds {
-            add_lines(under.map(|slot| self.columns[slot].full_name()), field, &mut lines);
+            add_lines(under.map(|slot| self.full_name(slot)), field, &mut lines);
+        }
+        for (nth, (slot, edit)) in self.edits.iter().enumerate() {
+            lines += &self.edit_line(nth, *slot, &edit.change);
         }
         lines
     }
@@ -119,6 +155,20 @@ impl<'a> Changes<'a> {
         }
     }
 
+    fn edit_line(&self, nth: usize, slot: usize, change: &Change) -> String {
+        let (told, column) = (self.told(slot), &self.columns[slot]);
+        match change {
+            Change::Rename(name) if name == column.name => {
+                format!("stays {told}: it has this name already\n")
+            }
+            Change::Rename(_) => format!("renamed {told} to {}\n", shown(&self.full_name(slot))),
+            Change::Relax if column.required && self.relaxing(slot) == Some(nth) => {
+                format!("relaxed {told}\n")
+            }
+            Change::Relax => format!("stays {told}: it is optional already\n"),
+        }
+    }
+
     /// How many columns stand inside another.
     fn inside(&self, slot: usize) -> usize {
         let level = self.columns[slot].level;
@@ -132,10 +182,15 @@ impl<'a> Changes<'a> {
     }
 }
 
+/// A name below another.
+fn joined(above: &[u8], name: &[u8]) -> Vec<u8> {
+    [above, b".", name].concat()
+}
+
 /// A line for an added column, and for each inside it.
 fn add_lines(above: Option<Vec<u8>>, field: &Field, lines: &mut String) {
     let name = match above {
-        Some(above) => [&above, &b"."[..], &field.name].concat(),
+        Some(above) => joined(&above, &field.name),
         None => field.name.clone(),
     };
     *lines += &format!("added {} {}\n", field.id, shown(&name));

@@ -9,8 +9,9 @@ use braidhurdle::layout::RECORD_BYTES;
 use braidhurdle::names::{quoted, shown};
 use braidhurdle::{Column, Columns, Field, FieldId, Mode, Overlong, Refusal, Request, Slot, Tree};
 
-use crate::arguments::{Added, Addition, Ask, Named, Of, Out};
+use crate::arguments::{self, Added, Addition, Ask, Named, Of, Out};
 use crate::changes::{self, Changes};
+use crate::edits::{self, Change, Edit};
 use crate::last::{self, Last};
 use crate::words::{Asked, Given, told_of};
 use crate::{Fault, explain, names, near, picture, streams};
@@ -44,13 +45,15 @@ pub fn answer(ask: Ask) -> Result<Vec<u8>, Fault> {
         Of::Parent(id) => parent(&given, id),
         Of::Prune { keep, full, out } => prune(given, &keep, full, &out),
         Of::Renumber { from, identifiers, out } => renumber(given, from, &identifiers, &out),
-        Of::Update { last_id, identifiers, drop, add, out } => {
+        Of::Update { last_id, identifiers, drop, add, edit, out } => {
             let Last { id: last_id, note } = last::of_update(&given, last_id, kept, out.force)?;
             let identifiers = ids(&given, &identifiers)?;
             let dropped = drop.into_iter().map(|column| path(&given, column));
             let dropped = dropped.collect::<Result<Vec<_>, _>>()?;
             let added = added(&given, add)?;
-            let asked = changes::Asked { last_id, dropped: &dropped, added: &added };
+            let edits = edit.into_iter().map(|edit| edited(&given, edit));
+            let edits = edits.collect::<Result<Vec<_>, _>>()?;
+            let asked = changes::Asked { last_id, dropped: &dropped, added: &added, edits: &edits };
             let request = request(&identifiers, asked).map_err(overlong)?;
             let ask = Asked::Update { asked, request: &request };
             let given = Given { identifiers: &identifiers, ask, ..given };
@@ -246,6 +249,21 @@ fn added(
     Ok(added)
 }
 
+/// What is to become of a column that stays.
+fn edited(given: &Given, edit: arguments::Edit) -> Result<Edit, Fault> {
+    let (column, change) = match edit {
+        arguments::Edit::Relax(column) => (column, Change::Relax),
+        arguments::Edit::RenameId(id, name) => (Named::Id(id), Change::Rename(name)),
+        arguments::Edit::Rename(both) => {
+            let (path, name) = edits::parted(given.tree, &both).map_err(|why| {
+                Fault::Given(format!("--rename {why}; --rename-id ID=NAME tells which is meant"))
+            })?;
+            (Named::Path(path), Change::Rename(name))
+        }
+    };
+    Ok(Edit { path: path(given, column)?, change })
+}
+
 fn request(identifiers: &[FieldId], asked: changes::Asked) -> Result<Request, Overlong> {
     let mut request = Request::new(asked.last_id).identifiers(identifiers);
     for path in asked.dropped {
@@ -255,6 +273,12 @@ fn request(identifiers: &[FieldId], asked: changes::Asked) -> Result<Request, Ov
         request = match under {
             Some(path) => request.add_under(path, what.clone())?,
             None => request.add(what.clone())?,
+        };
+    }
+    for Edit { path, change } in asked.edits {
+        request = match change {
+            Change::Rename(name) => request.rename(path, name)?,
+            Change::Relax => request.relax(path)?,
         };
     }
     Ok(request)

@@ -8,7 +8,7 @@ use braidhurdle::layout::{
 use crate::outline::Outline;
 use crate::words::{Asked, Given};
 
-/// Most deletions, and most additions.
+/// Most deletions, most additions, and most edits.
 const MOST_ENTRIES: usize = 64;
 
 /// Every limit of refusal 2 that what was given passes.
@@ -29,6 +29,7 @@ pub fn passed(given: &Given) -> Vec<String> {
         Asked::Update { asked, request } => {
             limit("deletions", asked.dropped.len(), MOST_ENTRIES);
             limit("additions", asked.added.len(), MOST_ENTRIES);
+            limit("edits", asked.edits.len(), MOST_ENTRIES);
             limit("bytes of paths and new names", request.pool.len(), NAME_ROOM);
             let added = asked.added.iter().map(|addition| columns(&addition.what)).sum();
             limit("added columns", added, MOST_RECORDS);

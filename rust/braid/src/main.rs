@@ -4,6 +4,7 @@
 mod arguments;
 mod changes;
 mod commands;
+mod edits;
 mod explain;
 mod identifiers;
 mod last;

@@ -2,13 +2,14 @@
 
 use std::path::Path;
 
-use braidhurdle::layout::{ENTRY_BYTES, ID_BYTES, RECORD_BYTES};
+use braidhurdle::layout::{EDIT_BYTES, ENTRY_BYTES, ID_BYTES, RECORD_BYTES};
 use braidhurdle::{Column, Field, FieldId, Refusal, RefusalKind, Request, Tree};
 use cases::{Ask, Case, Generator, OPERATIONS, Random, Sizes};
-use judge::UpdateCall;
+use judge::{UpdateCall, read_edits};
 
 use crate::arguments::Addition;
 use crate::changes::{self, Changes};
+use crate::edits::{Change, Edit};
 use crate::outline::Outline;
 use crate::words::{Asked, Given};
 use crate::{Fault, identifiers};
@@ -33,16 +34,22 @@ fn fields(records: &[u8], pool: &[u8]) -> Option<Vec<Field>> {
     Tree::new(records, pool.to_vec()).fields().ok()
 }
 
-/// What is dropped and added.
-type Words = (Vec<Vec<u8>>, Vec<Addition<Field>>);
+/// What is dropped, added and edited.
+type Words = (Vec<Vec<u8>>, Vec<Addition<Field>>, Vec<Edit>);
 
 /// What people would say to ask for this; none where the tool can't be told so.
 fn said(call: &UpdateCall) -> Option<Words> {
     let dropped: Option<Vec<Vec<u8>>> =
         paths(call.deletions, call.request_pool)?.into_iter().collect();
-    let lists = [call.identifiers, call.deletions, call.additions, call.added_records];
     let is_whole = |(list, unit): (&[u8], usize)| list.len() % unit == 0;
-    if !lists.into_iter().zip([ID_BYTES, ENTRY_BYTES, ENTRY_BYTES, RECORD_BYTES]).all(is_whole) {
+    let lists = [
+        (call.identifiers, ID_BYTES),
+        (call.deletions, ENTRY_BYTES),
+        (call.additions, ENTRY_BYTES),
+        (call.added_records, RECORD_BYTES),
+        (call.edits, EDIT_BYTES),
+    ];
+    if !lists.into_iter().all(is_whole) {
         return None;
     }
     let roots = fields(call.added_records, call.request_pool)?;
@@ -51,7 +58,16 @@ fn said(call: &UpdateCall) -> Option<Words> {
         return None;
     }
     let added = roots.into_iter().zip(under).map(|(what, under)| Addition { what, under });
-    Some((dropped?, added.collect()))
+    Some((dropped?, added.collect(), edits(call)?))
+}
+
+/// The edits; none where 3 or 4 turns them down.
+fn edits(call: &UpdateCall) -> Option<Vec<Edit>> {
+    let edit = |judge::Edit { path, change }| match change {
+        judge::Change::Rename(name) => Edit { path, change: Change::Rename(name) },
+        judge::Change::Relax => Edit { path, change: Change::Relax },
+    };
+    Some(read_edits(call.edits, call.request_pool).ok()?.into_iter().map(edit).collect())
 }
 
 /// The first line of a refusal.
@@ -79,31 +95,50 @@ fn goes(line: &str) -> bool {
     addition && line.contains(", which deletion ") && line.ends_with(" drops")
 }
 
-/// Does a line of 9 speak of the tree after the update, with the deletion that takes the identifier
-/// away, and not of the tree as given?
+/// Does a line of 9 speak of the tree as given (0), or of the tree after the update, with the
+/// deletion that takes the identifier away (1) or the edit that relaxes it (2)?
 #[track_caller]
-fn after(line: &str) -> bool {
-    let goes =
-        line.contains(": after the update: identifier ") && line.contains(", which deletion ");
-    assert_ne!(goes, line.contains(": base: identifier "), "{line}");
-    goes
+fn of_which(line: &str) -> usize {
+    let after = line.contains(": after the update: identifier ");
+    let told = [
+        line.contains(": base: identifier "),
+        after && line.contains(", which deletion "),
+        after && line.contains(" relaxes "),
+    ];
+    assert_eq!(told.iter().filter(|told| **told).count(), 1, "{line}");
+    told.iter().position(|told| *told).expect("one of them")
+}
+
+/// Does a line of an edit tell why?
+fn edit_is_told(line: &str, found: bool, number: u32) -> bool {
+    let forbidden = ["is not renamed", "is not relaxed", "and a column is renamed once"];
+    line.contains(": edit ")
+        && match number {
+            23 => found == (line.contains(", which deletion ") && line.ends_with(" drops")),
+            24 => forbidden.iter().any(|end| line.ends_with(end)),
+            _ => true,
+        }
 }
 
 #[test]
 fn a_tree_that_is_rebuilt_for_words_is_the_librarys_own() {
     let generator = Generator { seed: 141, sizes: Sizes::Usual };
     let (mut same, mut told) = (0, [0; RefusalKind::ALL.len() + 1]);
-    let mut nines = [0; 2];
+    let (mut nines, mut of_edits) = ([0; 3], [0; RefusalKind::ALL.len() + 1]);
     for n in 0..20_000 {
         let case = generator.case(n);
-        let Some((call, (dropped, added))) =
+        let Some((call, (dropped, added, edits))) =
             case.update_call().and_then(|call| Some((call, said(&call)?)))
         else {
             continue;
         };
         let tree = Tree::new(case.records.clone(), case.pool.clone());
-        let asked =
-            changes::Asked { last_id: FieldId(call.last_id), dropped: &dropped, added: &added };
+        let asked = changes::Asked {
+            last_id: FieldId(call.last_id),
+            dropped: &dropped,
+            added: &added,
+            edits: &edits,
+        };
         let ids: Vec<FieldId> = call
             .identifiers
             .chunks_exact(ID_BYTES)
@@ -115,6 +150,7 @@ fn a_tree_that_is_rebuilt_for_words_is_the_librarys_own() {
             deletions: call.deletions.to_vec(),
             additions: call.additions.to_vec(),
             added_records: call.added_records.to_vec(),
+            edits: call.edits.to_vec(),
             pool: call.request_pool.to_vec(),
         };
         match tree.update(&request) {
@@ -134,17 +170,26 @@ fn a_tree_that_is_rebuilt_for_words_is_the_librarys_own() {
                 told[refusal.number as usize] += 1;
                 if refusal.number == 9 {
                     let of_base = tree.check_identifiers(&ids) == Err(refusal);
-                    assert_eq!(after(&line), !of_base, "case {n}: {line}");
-                    nines[usize::from(of_base)] += 1;
+                    assert_eq!(of_which(&line) == 0, of_base, "case {n}: {line}");
+                    nines[of_which(&line)] += 1;
+                }
+                if refusal.list == 6 {
+                    let edit = &edits[refusal.place as usize];
+                    let found = tree.find_name(&edit.path).is_ok_and(|found| found.is_some());
+                    assert!(edit_is_told(&line, found, refusal.number), "case {n}: {line}");
+                    of_edits[refusal.number as usize] += 1;
                 }
             }
             Err(_) => {}
         }
     }
     assert!(same > 200, "{same} trees");
-    assert!(nines.iter().all(|count| *count > 0), "9 after the update, and of the base: {nines:?}");
-    for number in (2..=9).chain(11..=19).chain([22]) {
+    assert!(nines.iter().all(|count| *count > 0), "9 of the base, and after the update: {nines:?}");
+    for number in (2..=9).chain(11..=19).chain(22..=24) {
         assert!(told[number] > 0, "refusal {number} was not met: {told:?}");
+    }
+    for number in [13, 23, 24] {
+        assert!(of_edits[number] > 0, "refusal {number} of an edit was not met: {of_edits:?}");
     }
 }
 

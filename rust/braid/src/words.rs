@@ -10,7 +10,7 @@ use braidhurdle::{Column, Field, FieldId, Kind, Refusal, Request, Tree};
 use crate::arguments::Addition;
 use crate::changes::{self, Changes, receiver};
 use crate::outline::{Outline, told};
-use crate::{Fault, explain, identifiers, limits, names, near, rules};
+use crate::{Fault, edits, explain, identifiers, limits, names, near, rules};
 
 /// What the library was given.
 pub struct Given<'a> {
@@ -68,6 +68,7 @@ impl<'a> Given<'a> {
             (number, 0, _) => self.record(number, place),
             (11 | 12, _, Asked::Update { asked, .. }) => self.deletion(place, asked.dropped),
             (number, 3, Asked::Update { asked, .. }) => self.addition(number, place, asked),
+            (number, 6, Asked::Update { asked, .. }) => edits::refused(self, number, place, asked),
             (number, 4, Asked::Update { asked, .. }) => self
                 .rebuilt(number, place, asked)
                 .unwrap_or_else(|| format!("record {place} of the rebuilt tree")),
@@ -164,12 +165,15 @@ impl<'a> Given<'a> {
         }
     }
 
-    /// The column of an identifier, the deletion that takes it away and, where a new column gets
-    /// its id, why that one is no identifier.
+    /// The column of an identifier, the edits that relax it or what stands above it; or else the
+    /// deletion that takes it away and, where a new column gets its id, why that one is no
+    /// identifier.
     fn identifier_after(&self, slot: usize) -> Option<String> {
         let Asked::Update { asked, .. } = self.ask else { return None };
         let changes = Changes::of(self.tree, asked)?;
-        let goes = self.goes(&changes, slot)?;
+        let Some(goes) = self.goes(&changes, slot) else {
+            return edits::relaxing(self, &changes, slot);
+        };
         let rebuilt = Tree::build(&changes.rebuilt()).ok()?;
         let (old, new) = (columns(self.tree), columns(&rebuilt));
         let Some(again) = new.iter().position(|column| column.id == old[slot].id) else {
@@ -183,15 +187,15 @@ impl<'a> Given<'a> {
     }
 
     /// The struct that would receive an addition, and the deletion that takes it away. Additions
-    /// behind this one are not asked: their paths may lead nowhere.
+    /// behind this one, and edits, are not asked: their paths may lead nowhere.
     fn receiver_goes(&self, place: usize, asked: &changes::Asked) -> Option<String> {
-        let asked = changes::Asked { added: &asked.added[..=place], ..*asked };
+        let asked = changes::Asked { added: &asked.added[..=place], edits: &[], ..*asked };
         let changes = Changes::of(self.tree, asked)?;
         self.goes(&changes, changes.receiver(place)?)
     }
 
     /// A column that goes, and the deletion that takes it away.
-    fn goes(&self, changes: &Changes, slot: usize) -> Option<String> {
+    pub fn goes(&self, changes: &Changes, slot: usize) -> Option<String> {
         let outer = changes.taken_by(slot)?;
         let drop = changes.drops.iter().position(|drop| *drop == outer)?;
         let outline = Outline::of(self.tree);
@@ -226,7 +230,10 @@ impl<'a> Given<'a> {
             (15, _) => self.no_parent(under.as_deref().unwrap_or_default(), asked.added),
             (16, Some(parent)) => format!(": {}, a {}", told_of(&parent), self.kinds(&parent)),
             (17, parent) => match self.taken(parent, &what.name) {
-                Some(column) => format!(": so is named {}", told_of(&column)),
+                Some(column) => {
+                    let freed = edits::freed(self, asked, &column);
+                    format!(": so is named {}{freed}", told_of(&column))
+                }
                 None => String::new(),
             },
             (22, _) => match self.receiver_goes(place, asked) {
@@ -278,27 +285,29 @@ impl<'a> Given<'a> {
 
     /// What is refused of the rebuilt tree, which is built here once more to be told.
     fn rebuilt(&self, number: u32, place: usize, asked: &changes::Asked) -> Option<String> {
-        let tree = Tree::build(&Changes::of(self.tree, *asked)?.rebuilt()).ok()?;
+        let changes = Changes::of(self.tree, *asked)?;
+        let tree = Tree::build(&changes.rebuilt()).ok()?;
         let outline = Outline::of(&tree);
         if number == 19 {
             return Some(limits::of_tree("the rebuilt tree", &outline).join("; "));
         }
-        let (column, earlier) = (outline.told(place), outline.told(outline.equal(number, place)?));
-        let last = match number {
+        let earlier = outline.equal(number, place)?;
+        let (column, before) = (outline.told(place), outline.told(earlier));
+        let why = match number {
             7 => format!("; the last id {} is below it", asked.last_id),
-            _ => String::new(),
+            _ => edits::renaming(asked, &changes, &outline, &[place, earlier]),
         };
-        Some(format!("{column}, and before it {earlier}{last}"))
+        Some(format!("{column}, and before it {before}{why}"))
     }
 
     /// The column that a path finds.
-    fn found(&self, path: &[u8]) -> Option<Column<'a>> {
+    pub fn found(&self, path: &[u8]) -> Option<Column<'a>> {
         self.tree.column_by_name(path).ok()?
     }
 }
 
 /// The columns of a tree; none where it is refused.
-fn columns(tree: &Tree) -> Vec<Column<'_>> {
+pub fn columns(tree: &Tree) -> Vec<Column<'_>> {
     tree.columns().map(Iterator::collect).unwrap_or_default()
 }
 

@@ -91,9 +91,9 @@ pub struct Name {
 #[used]
 static DECLARED: unsafe extern "C" fn() -> u32 = {
     unsafe extern "C" {
-        fn braidhurdle_abi_6() -> u32;
+        fn braidhurdle_abi_7() -> u32;
     }
-    braidhurdle_abi_6
+    braidhurdle_abi_7
 };
 
 /// One function of the archive. Its arguments are lists, a number, lists, and buffers to write, in
@@ -140,9 +140,10 @@ macro_rules! function {
 }
 
 function! {
-    /// Drops and adds columns. Ids are handed out from `last_id` + 1.
+    /// Drops, adds and edits columns. Ids are handed out from `last_id` + 1.
     update is braidhurdle_update(
-        records pool identifiers; last_id: i32; deletions additions added_records request_pool;
+        records pool identifiers; last_id: i32;
+        deletions additions added_records edits request_pool;
         out_records out_names
     ) -> Changed
 }

@@ -8,6 +8,8 @@ use crate::FieldId;
 pub const RECORD_BYTES: usize = 24;
 /// Bytes of a path entry.
 pub const ENTRY_BYTES: usize = 8;
+/// Bytes of an edit.
+pub const EDIT_BYTES: usize = 16;
 /// Bytes of an id in a list of ids.
 pub const ID_BYTES: usize = 4;
 /// Most records in a tree.
@@ -165,5 +167,22 @@ pub(crate) fn entry(offset: u32, length: u16, has_path: bool) -> [u8; ENTRY_BYTE
     b[0..4].copy_from_slice(&offset.to_le_bytes());
     b[4..6].copy_from_slice(&length.to_le_bytes());
     b[6] = has_path.into();
+    b
+}
+
+/// Byte 6 of an edit: a new name.
+pub const RENAME: u8 = 1;
+/// Byte 6 of an edit: no longer required.
+pub const RELAX: u8 = 2;
+
+/// An edit's 16 bytes, with the offset and length of its path and, where it renames, of the new
+/// name; else it relaxes.
+pub(crate) fn edit((offset, length): (u32, u16), name: Option<(u32, u8)>) -> [u8; EDIT_BYTES] {
+    let mut b = [0; EDIT_BYTES];
+    b[..ENTRY_BYTES].copy_from_slice(&entry(offset, length, true));
+    b[6] = if name.is_some() { RENAME } else { RELAX };
+    let (offset, length) = name.unwrap_or_default();
+    b[8..12].copy_from_slice(&offset.to_le_bytes());
+    b[12] = length;
     b
 }

@@ -30,6 +30,7 @@
 //!     .drop("visits.day")?
 //!     .add_under("visits", Field::primitive("day", 9))?
 //!     .add(Field::primitive("floor", 2))?
+//!     .rename("button", "switch")?
 //!     .identifiers(&[FieldId(1)]);
 //! let Updated { tree, last_id } = tree.update(&request)?;
 //! assert_eq!(last_id, FieldId(6));
@@ -37,6 +38,8 @@
 //! // The new `day` is another column than the old one.
 //! assert_eq!(tree.find_name("visits.day")?.map(|(id, _)| id), Some(FieldId(5)));
 //! assert_eq!(tree.find_id(FieldId(3))?, None);
+//! // A renamed column is the same one.
+//! assert_eq!(tree.find_name("switch")?.map(|(id, _)| id), Some(FieldId(1)));
 //! # Ok::<(), Box<dyn std::error::Error>>(())
 //! ```
 //!

@@ -107,7 +107,8 @@ numbered! {
         UnmatchedRoots = 10: "roots of the additions tree differ from additions",
         NoSuchColumn = 11: "a deletion finds no column",
         DropsIdentifier = 12: "a deletion finds an identifier",
-        DottedName = 13: "the added column's own name has a dot",
+        DottedName = 13: "the added column's own name has a dot; or the new name of a rename has \
+            one",
         NoDefault = 14: "the added column is required, without initial default",
         NoSuchParent = 15: "the parent path finds nothing",
         NoStruct = 16: "the parent leads to no struct",
@@ -119,6 +120,8 @@ numbered! {
         Ambiguous = 21: "two columns match at the same level where case is forgotten",
         ParentGone = 22: "the receiving struct, or a record above it, is dropped as a member \
             of a struct or of the root",
+        NoSurvivingColumn = 23: "an edit finds no column that stays",
+        EditNotAllowed = 24: "an edit that its column's role forbids, or a second rename of a column",
     }
 }
 
@@ -131,6 +134,7 @@ numbered! {
         Additions = 3: "additions",
         RebuiltTree = 4: "rebuilt tree",
         Identifiers = 5: "identifiers",
+        Edits = 6: "edits",
     }
 }
 

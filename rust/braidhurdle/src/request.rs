@@ -3,12 +3,12 @@
 use alloc::vec::Vec;
 
 use crate::field::{end, write};
-use crate::layout::entry;
+use crate::layout::{ENTRY_BYTES, edit, entry};
 use crate::{Field, FieldId, Overlong};
 
-/// What an update is asked to do: the columns to drop and to add, in this order, the last id that
-/// was handed out, and the ids of the identifier fields. Later versions may have more to ask for;
-/// what is not named has a default.
+/// What an update is asked to do: the columns to drop, to add and to edit, in this order, the last
+/// id that was handed out, and the ids of the identifier fields. Later versions may have more to
+/// ask for; what is not named has a default.
 ///
 /// ```
 /// use braidhurdle::{Field, FieldId, Request};
@@ -17,6 +17,8 @@ use crate::{Field, FieldId, Overlong};
 ///     .drop("node.cost")?
 ///     .add_under("node", Field::primitive("cost", 3))?
 ///     .add(Field::primitive("floor", 2))?
+///     .rename("node.button", "push")?
+///     .relax("parts.value")?
 ///     .identifiers(&[FieldId(1)]);
 /// # Ok::<(), braidhurdle::Overlong>(())
 /// ```
@@ -33,6 +35,8 @@ pub struct Request {
     pub additions: Vec<u8>,
     /// The added columns: the k-th root belongs to the k-th addition.
     pub added_records: Vec<u8>,
+    /// The paths to edit, and how, 16 bytes an edit.
+    pub edits: Vec<u8>,
     /// Paths and new names.
     pub pool: Vec<u8>,
 }
@@ -50,6 +54,8 @@ pub struct RequestRef<'a> {
     pub additions: &'a [u8],
     /// The added columns: the k-th root belongs to the k-th addition.
     pub added_records: &'a [u8],
+    /// The paths to edit, and how, 16 bytes an edit.
+    pub edits: &'a [u8],
     /// Paths and new names.
     pub pool: &'a [u8],
 }
@@ -112,6 +118,55 @@ impl Request {
         Ok(self)
     }
 
+    /// Also gives a column a new name. It is a column of the tree as it was, one that stays, and
+    /// neither an element, key or value; its id is as it was. Each column gets one new name at
+    /// most, without a dot. Two can exchange their names:
+    ///
+    /// ```
+    /// use braidhurdle::{Field, FieldId, RefusalKind, Request, Tree, Updated};
+    ///
+    /// let [a, b] = [("a", 1), ("b", 2)].map(|(name, id)| Field::primitive(name, 2).id(FieldId(id)));
+    /// let tree = Tree::build(&[a, b])?;
+    /// let request = Request::new(FieldId(2)).rename("a", "b")?.rename("b", "a")?;
+    /// let Updated { tree, last_id } = tree.update(&request)?;
+    /// assert_eq!(tree.to_string(), "1 b: primitive 2\n2 a: primitive 2\n");
+    ///
+    /// // All paths are looked up in the tree as it was: there is no column `c` yet.
+    /// let request = Request::new(last_id).rename("a", "c")?.relax("c")?;
+    /// let refusal = tree.update(&request).unwrap_err();
+    /// assert_eq!(refusal.kind(), Some(RefusalKind::NoSurvivingColumn));
+    /// # Ok::<(), Box<dyn std::error::Error>>(())
+    /// ```
+    ///
+    /// # Errors
+    ///
+    /// What the layout can't hold.
+    pub fn rename(
+        mut self,
+        path: impl AsRef<[u8]>,
+        name: impl AsRef<[u8]>,
+    ) -> Result<Request, Overlong> {
+        let name = name.as_ref();
+        let length = u8::try_from(name.len()).map_err(|_| Overlong::Name(name.len()))?;
+        let path = pooled(path.as_ref(), &mut self.pool)?;
+        self.edits.extend(edit(path, Some((end(&self.pool)?, length))));
+        self.pool.extend_from_slice(name);
+        Ok(self)
+    }
+
+    /// Also makes a column optional, as it may be already. It is a column of the tree as it was,
+    /// one that stays, and no key. An identifier, and what stands above one, is required, so then
+    /// the update is refused with 9.
+    ///
+    /// # Errors
+    ///
+    /// What the layout can't hold.
+    pub fn relax(mut self, path: impl AsRef<[u8]>) -> Result<Request, Overlong> {
+        let path = pooled(path.as_ref(), &mut self.pool)?;
+        self.edits.extend(edit(path, None));
+        Ok(self)
+    }
+
     /// The same request with these identifier fields. They can't be dropped. Each is a required
     /// primitive, no float and no double, with nothing above it but required structs; else the
     /// update is refused with 9. [`Tree::check_identifiers`](crate::Tree::check_identifiers) asks
@@ -131,6 +186,7 @@ impl Request {
             deletions: &self.deletions,
             additions: &self.additions,
             added_records: &self.added_records,
+            edits: &self.edits,
             pool: &self.pool,
         }
     }
@@ -143,9 +199,14 @@ impl<'a> From<&'a Request> for RequestRef<'a> {
 }
 
 /// The entry of a path; the path goes to the end of the pool.
-fn path_entry(path: &[u8], pool: &mut Vec<u8>) -> Result<[u8; 8], Overlong> {
+fn path_entry(path: &[u8], pool: &mut Vec<u8>) -> Result<[u8; ENTRY_BYTES], Overlong> {
+    pooled(path, pool).map(|(offset, length)| entry(offset, length, true))
+}
+
+/// Puts a path to the end of the pool, and tells its offset and length.
+fn pooled(path: &[u8], pool: &mut Vec<u8>) -> Result<(u32, u16), Overlong> {
     let length = u16::try_from(path.len()).map_err(|_| Overlong::Path(path.len()))?;
-    let entry = entry(end(pool)?, length, true);
+    let offset = end(pool)?;
     pool.extend_from_slice(path);
-    Ok(entry)
+    Ok((offset, length))
 }

@@ -68,11 +68,12 @@ impl Tree {
         TreeRef { records: &self.records, pool: &self.pool }
     }
 
-    /// Drops and adds columns. New ones come behind those that stay, in the order of the request.
+    /// Drops, adds and edits columns. New ones come behind those that stay, in the order of the
+    /// request.
     ///
     /// # Errors
     ///
-    /// Refusals 2 to 19 and 22.
+    /// Refusals 2 to 19 and 22 to 24.
     pub fn update(&self, request: &Request) -> Result<Updated, Refusal> {
         let mut room = Room::boxed();
         let Updated { tree, last_id } = self.lent().update_in(request.lent(), &mut room)?;
@@ -237,11 +238,11 @@ impl<'a> TreeRef<'a> {
         Tree::new(self.records.to_vec(), self.pool.to_vec())
     }
 
-    /// Drops and adds columns; the answer stands in the room.
+    /// Drops, adds and edits columns; the answer stands in the room.
     ///
     /// # Errors
     ///
-    /// Refusals 2 to 19 and 22.
+    /// Refusals 2 to 19 and 22 to 24.
     pub fn update_in<'r>(
         self,
         request: RequestRef<'_>,
@@ -255,6 +256,7 @@ impl<'a> TreeRef<'a> {
             request.deletions,
             request.additions,
             request.added_records,
+            request.edits,
             request.pool,
             &mut room.records,
             &mut room.names,

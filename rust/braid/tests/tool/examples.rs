@@ -4,6 +4,8 @@ use std::fs;
 use std::path::Path;
 use std::process::{Command, Output};
 
+use braidhurdle::{Overlong, Request};
+
 use crate::folder::{BRAID, Folder, checkout};
 
 fn text(name: &str) -> String {
@@ -55,13 +57,18 @@ fn running_make_gives_the_very_files_that_are_here() {
 fn show_shows_a_picture_an_update_look_ups_and_a_refusal() {
     let said = script("examples/show", &[]);
     assert!(said.starts_with("$ braid list examples/node-4\n1 node: struct required\n"), "{said}");
-    assert!(said.contains("\nlast id 25\n"), "{said}");
+    let edited = "renamed 3 faults to failures\nrelaxed 19 node.battery\nlast id 25\n";
+    assert!(said.contains(edited), "{said}");
+    assert!(said.contains("\n  19 battery: primitive 4 default\n"), "{said}");
+    assert!(said.contains("failures.day\nid 12 slot 11 failures.element.day\n"), "{said}");
     assert!(said.contains("visits.duration\nid 24 slot 15 visits.element.duration\n"), "{said}");
     assert!(said.contains("-i Node.Serial\nid 5 slot 1 node.serial\n"), "{said}");
     let lines = "id 5 slot 1 node.serial\nno column has id 7\nid 24 slot 15 ";
     assert!(said.contains(&format!("--id 5,7,24\n{lines}")), "{said}");
     assert!(said.contains("\nrefused 11 at 2 0: "), "{said}");
     assert!(said.contains("\nrefused 12 at 2 0: "), "{said}");
+    assert!(said.contains("\nrefused 23 at 6 0: "), "{said}");
+    assert!(said.contains("\nrefused 9 at 5 0: "), "{said}");
     assert!(said.contains("\nidentifier id 5 slot 1 node.serial\n"), "{said}");
     assert!(said.contains("\nrefused 9 at 5 1: "), "{said}");
 }
@@ -93,16 +100,27 @@ fn the_example_t_is_01s_and_stands_on_the_page_byte_by_byte() {
     assert_eq!(bytes_of(blocks.next().expect("the names")), names);
 }
 
+/// The bytes of the line of docs/FORMAT.md that begins with a word.
+fn line_of(word: &str) -> Vec<u8> {
+    let (page, front) = (text("docs/FORMAT.md"), format!("    {word} "));
+    let line = page.lines().find_map(|line| line.strip_prefix(&front)).expect("a line of bytes");
+    let byte = |word| u8::from_str_radix(word, 16).expect("a byte");
+    line.split_whitespace().map(byte).collect()
+}
+
+#[test]
+fn the_page_has_the_edits_that_the_safe_crate_writes() -> Result<(), Overlong> {
+    let request = Request::default().rename("node.cost", "price")?.relax("parts")?;
+    assert_eq!(request.edits, [line_of("rename"), line_of("relax")].concat());
+    let pool = String::from_utf8(request.pool).expect("text");
+    assert!(text("docs/FORMAT.md").contains(&format!("request pool\n`{pool}`:")));
+    Ok(())
+}
+
 #[test]
 fn the_page_has_the_slots_that_the_library_finds_of_its_ids() {
     let (records, names) = cases::packed(&cases::the_tree());
-    let page = text("docs/FORMAT.md");
-    let bytes = |front: &str| -> Vec<u8> {
-        let line = page.lines().find_map(|line| line.strip_prefix(front)).expect("a line of bytes");
-        let byte = |word| u8::from_str_radix(word, 16).expect("a byte");
-        line.split_whitespace().map(byte).collect()
-    };
-    let (ids, shown) = (bytes("    ids "), bytes("    slots "));
+    let (ids, shown) = (line_of("ids"), line_of("slots"));
     let mut slots = vec![0; ids.len()];
     let found = braidhurdle::c::find_ids(&records, &names, &ids, &mut slots).found;
     assert_eq!((found, slots), (2, shown));

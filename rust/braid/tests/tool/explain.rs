@@ -92,7 +92,7 @@ macro_rules! call {
 #[test]
 fn the_calls_of_the_page_that_the_tool_can_not_make_answer_as_it_says() {
     let (records, pool) = cases::packed(&cases::the_tree());
-    let (mut out_records, mut out_names) = ([0; 24_576], [0; 32_768]);
+    let (mut out, mut out_names) = ([0; 24_576], [0; 32_768]);
     let (one, text) = call!(c::prune(&records, &pool, &[], 0, &mut [0; 24_575], &mut [0; 32_768]));
     assert_eq!((one.refusal, one.list, one.place), (1, 0, 0));
     assert!(flat(&parts()[0]).contains(&flat(text)), "{text}");
@@ -108,7 +108,8 @@ fn the_calls_of_the_page_that_the_tool_can_not_make_answer_as_it_says() {
         &[0; 8],
         &[],
         &[],
-        &mut out_records,
+        &[],
+        &mut out,
         &mut out_names
     ));
     assert_eq!((ten.refusal, ten.list, ten.place), (10, 3, 0));

@@ -113,6 +113,86 @@ fn a_parent_is_named_by_its_id_too() {
 }
 
 #[test]
+fn an_edited_column_is_told_with_its_new_name_or_why_it_stays() {
+    let folder = Folder::with_k();
+    let arguments = "update K --drop node.cost --add cost:2 --under node --relax node.serial \
+                     --rename node=board --rename-id 2=no --relax-id 4,4 --relax node.serial \
+                     --rename site=site --out U";
+    let lines = "\
+dropped 3 node.cost
+added 5 board.cost
+relaxed 2 node.serial
+renamed 1 node to board
+renamed 2 node.serial to board.no
+relaxed 4 site
+stays 4 site: it is optional already
+stays 2 node.serial: it is optional already
+stays 4 site: it has this name already
+last id 5
+";
+    assert_eq!(folder.braid(arguments).answer(), lines);
+    let picture = "1 board: struct required\n  2 no: primitive 9\n  5 cost: primitive 2\n\
+                   4 site: primitive 2 default\n";
+    assert_eq!(folder.braid("list U").answer(), picture);
+}
+
+#[test]
+fn a_new_name_may_be_empty_or_look_like_anything_but_a_path() {
+    let folder = Folder::with_t();
+    let said = folder
+        .run(&["update", "T", "--rename", "node.cost=", "--rename", "node=a b\"", "--out", "U"])
+        .answer();
+    let name = r#""a b\"""#;
+    let below = r#""a b\".""#;
+    assert_eq!(
+        said,
+        format!("renamed 5 node.cost to {below}\nrenamed 1 node to {name}\nlast id 10\n")
+    );
+    let picture = folder.braid("list U").answer();
+    assert!(picture.starts_with(&format!("1 {name}: struct\n  4 button: primitive 0\n  5 \"\": ")));
+}
+
+/// The tree tells which = parts the path from the name.
+#[test]
+fn a_rename_is_parted_where_a_column_is_named_before_it() {
+    let folder = Folder::new();
+    folder.draw("X", "1 a: struct\n  2 b=c: primitive 0\n3 d=: primitive 0\n4 =: primitive 0\n");
+    let renamed = |edit: &str, line: &str| {
+        let said = folder.braid(&format!("update X {edit} --out U --force")).answer();
+        assert_eq!(said, format!("renamed {line}\nlast id 4\n"), "{edit}");
+    };
+    renamed("--rename a=x", "1 a to x");
+    renamed("--rename a=b=c", "1 a to b=c");
+    renamed("--rename a.b=c=d", "2 a.b=c to a.d");
+    renamed("--rename a.b=c==d=", "2 a.b=c to a.=d=");
+    renamed("--rename d==x", "3 d= to x");
+    renamed("--rename ==x", "4 = to x");
+    renamed("--rename-id 2==x", "2 a.b=c to a.=x");
+    renamed("--rename-id=2=-x", "2 a.b=c to a.-x");
+    // no column is named before any of them: the first one
+    let said = folder.braid("update X --rename e=f=g --out V").refusal();
+    assert!(said[0].contains(": edit 0, rename of \"e\" to \"f=g\""), "{said:?}");
+    // columns are named before two of them
+    folder.draw("Y", "1 a: struct\n2 a=b: struct\n-3 c: struct\n");
+    assert_eq!(
+        folder.braid("update Y --rename a=b=c --out V").complaint(3),
+        "--rename \"a=b=c\" begins with the names of several columns: \"a\", \"a=b\"; --rename-id \
+         ID=NAME tells which is meant\n"
+    );
+    for (id, line) in [("1=b=c", "1 a to b=c"), ("2=c=", "2 a=b to c="), ("-3=d", "-3 c to d")] {
+        let said = folder.braid(&format!("update Y --rename-id {id} --out V --force")).answer();
+        assert_eq!(said, format!("renamed {line}\nlast id 2\n"));
+    }
+    for wrong in ["--rename a", "--rename-id 1", "--rename-id a=b", "--rename-id =b"] {
+        folder.braid(&format!("update Y {wrong} --out W")).complaint(3);
+    }
+    let said = folder.braid("update Y --rename-id 9=b --out W").complaint(1);
+    assert_eq!(said, "no column has id 9\n");
+    assert_eq!(folder.braid("update Y --relax-id 1,9 --out W").complaint(1), said);
+    assert!(!folder.files().contains(&"W.rec".into()));
+}
+
+#[test]
 fn columns_are_kept_by_id_and_by_name() {
     let folder = Folder::with_t();
     let ids = |stem: &str| {
@@ -206,7 +286,7 @@ fn what_is_told_is_what_the_library_did() {
     ];
     let parents = ["node", "visits", "parts", "visits.element", "parts.value"];
     let mut random = Random::new(14);
-    let (mut accepted, mut refused) = (0, 0);
+    let (mut accepted, mut refused, mut renames) = (0, 0, 0);
     for case in 0..120 {
         let mut arguments = String::from("update T --out U --force");
         let mut dropped = vec![];
@@ -223,6 +303,13 @@ fn what_is_told_is_what_the_library_did() {
                 arguments += &format!(" --under {parent}");
                 let root = parent.split('.').next().expect("a root");
                 gone = gone.or(dropped.contains(&root).then_some(name));
+            }
+        }
+        // what is renamed is told by its new name, and so is what is added below it
+        let stays = |root: &&str| !dropped.contains(root);
+        for root in ["node", "visits", "parts"].into_iter().filter(stays) {
+            if random.chance(1, 3) {
+                arguments += &format!(" --rename {root}=new_{root}");
             }
         }
         let Said { status, out, err } = folder.braid(&arguments);
@@ -246,12 +333,17 @@ fn what_is_told_is_what_the_library_did() {
         assert_eq!(told(&said, "added "), new, "{arguments}\n{said}");
         let last: i32 = folder.last("U").expect("it is kept").trim().parse().expect("a number");
         assert_eq!(new, (11..=last).collect(), "{arguments}\n{said}");
-        for line in said.lines().filter_map(|line| line.strip_prefix("added ")) {
-            let (id, name) = line.split_once(' ').expect("an id and a name");
+        let renamed = said.lines().filter_map(|line| line.strip_prefix("renamed "));
+        renames += renamed.clone().count();
+        let added = said.lines().filter_map(|line| line.strip_prefix("added "));
+        for line in added.chain(renamed) {
+            let (id, names) = line.split_once(' ').expect("an id and a name");
+            let name = names.split_once(" to ").map_or(names, |(_, new)| new);
             let found = folder.braid(&format!("find U {name}")).answer();
             assert!(found.starts_with(&format!("id {id} slot ")), "{line}: {found}");
         }
         accepted += 1;
     }
     assert!(accepted > 60 && refused > 10, "{accepted} accepted, {refused} refused");
+    assert!(renames > 30, "{renames} renames");
 }

@@ -47,6 +47,9 @@ fn chain(levels: i32) -> Node {
     strukt(levels, "s", inside)
 }
 
+/// What 13 means.
+const DOT: &str = "the added column's own name has a dot; or the new name of a rename has one";
+
 #[test]
 fn a_broken_byte_is_told_with_its_rule() {
     let broken = "a byte rule of a record or entry is broken";
@@ -224,8 +227,12 @@ fn what_passes_a_limit_is_told_with_the_limit() {
     let most = "and at most 64 may be given";
     let renumber = format!("renumber T --from 1 --identifiers {ids} --out U");
     says(&renumber, &format!("65 identifiers, {most}"));
-    let update = format!("update T {} {} --out U", "--drop a ".repeat(65), "--add a:1 ".repeat(66));
-    says(&update, &format!("65 deletions, {most}; 66 additions, {most}"));
+    let [drops, adds] = ["--drop a ".repeat(65), "--add a:1 ".repeat(66)];
+    let edits = ["--rename a=b ".repeat(33), "--relax a ".repeat(34)].concat();
+    says(
+        &format!("update T {drops} {adds} {edits} --out U"),
+        &format!("65 deletions, {most}; 66 additions, {most}; 67 edits, {most}"),
+    );
     let (records, names) =
         packed(&[strukt(0, "s", (1..600).map(|id| prim(id, &format!("{id}"))).collect())]);
     folder.put("half", &records, &names);
@@ -448,10 +455,7 @@ fn an_addition_is_told_with_its_name_its_parent_and_what_is_in_the_way() {
         let arguments = format!("update T --add ok:0 {added} --out U");
         refused(&folder, &arguments, words);
     };
-    says(
-        "--add a.b:0",
-        "13 at 3 1: the added column's own name has a dot: addition 1, \"a.b\" at the root",
-    );
+    says("--add a.b:0", &format!("13 at 3 1: {DOT}: addition 1, \"a.b\" at the root"));
     says(
         "--add a:0 --under node --required",
         "14 at 3 1: the added column is required, without initial default: addition 1, \"a\" under \
@@ -527,6 +531,216 @@ fn an_addition_to_what_is_dropped_is_told_with_the_deletion_that_takes_it() {
     let said = folder.braid(&arguments).refusal();
     let end = format!("{}: it goes with id 15 slot 1 s.s, which deletion 0 drops", path(16));
     assert!(said[0].ends_with(&end), "{said:?}");
+}
+
+/// An update of T by these arguments is refused with these words of an edit.
+#[track_caller]
+fn edit_refused(asked: &str, number: u32, place: u32, words: &str) {
+    let means = match number {
+        13 => DOT,
+        23 => "an edit finds no column that stays",
+        _ => "an edit that its column's role forbids, or a second rename of a column",
+    };
+    refused(
+        &Folder::with_t(),
+        &format!("update T {asked} --out U"),
+        &format!("{number} at 6 {place}: {means}: edit {place}, {words}"),
+    );
+}
+
+#[test]
+fn an_edit_that_finds_nothing_is_told_with_what_may_have_been_meant() {
+    for (path, end) in [
+        ("node.prise", "; did you mean parts.value.price?"),
+        ("Node.Cost", "; did you mean node.cost? Only `find -i` forgets case"),
+        ("elevator", ""),
+        ("", ""),
+    ] {
+        let words = format!("rename of \"{path}\" to \"x\"{end}");
+        edit_refused(&format!("--relax node --rename {path}=x"), 23, 1, &words);
+    }
+    edit_refused("--relax nodes", 23, 0, "relaxing of \"nodes\"; did you mean node?");
+}
+
+#[test]
+fn an_edit_of_what_goes_is_told_with_the_deletion_that_takes_it() {
+    let node = "id 1 slot 0 node, which deletion 1 drops";
+    let drops = "--drop visits.day --drop node --drop node";
+    edit_refused(
+        &format!("{drops} --rename node=x --relax no"),
+        23,
+        0,
+        &format!("rename of \"node\" to \"x\": {node}"),
+    );
+    edit_refused(
+        &format!("{drops} --relax visits --relax-id 5"),
+        23,
+        1,
+        "relaxing of \"node.cost\": id 5 slot 2 node.cost: it goes with id 1 slot 0 node, which \
+         deletion 1 drops",
+    );
+    edit_refused(
+        "--drop visits.element --drop visits --rename-id 7=date",
+        23,
+        0,
+        "rename of \"visits.element.day\" to \"date\": id 7 slot 5 visits.element.day: it goes with \
+         id 2 slot 3 visits, which deletion 1 drops",
+    );
+    // a list's element stays, and so do its members
+    let folder = Folder::with_t();
+    let said = folder.braid("update T --drop visits.element --rename visits.day=date --out U");
+    assert!(
+        said.answer()
+            .ends_with("\nrenamed 7 visits.element.day to visits.element.date\nlast id 10\n")
+    );
+}
+
+#[test]
+fn an_edit_of_what_is_not_there_yet_is_told_so() {
+    let as_it_was = "and paths are looked up in the tree as it was";
+    let adds = format!("this update adds it, {as_it_was}");
+    edit_refused("--add x:0 --relax x", 23, 0, &format!("relaxing of \"x\": {adds}"));
+    edit_refused(
+        "--add x:0 --under visits --rename visits=v --rename visits.y=z",
+        23,
+        1,
+        "rename of \"visits.y\" to \"z\"",
+    );
+    for path in ["v.x", "v.element.x"] {
+        edit_refused(
+            &format!("--add x:0 --under visits --rename visits=v --relax {path}"),
+            23,
+            1,
+            &format!("relaxing of \"{path}\": {adds}"),
+        );
+    }
+    edit_refused(
+        "--rename visits=v --relax v.day",
+        23,
+        1,
+        &format!(
+            "relaxing of \"v.day\": that is the new name of id 7 slot 5 visits.element.day, \
+             {as_it_was}; edit 0 is a rename of \"visits\" to \"v\""
+        ),
+    );
+}
+
+#[test]
+fn an_edit_that_is_forbidden_is_told_with_the_role_or_the_rename_before_it() {
+    for (path, label) in [
+        ("visits.element", "id 6 slot 4 visits.element: a list's element"),
+        ("parts.key", "id 8 slot 7 parts.key: a map's key"),
+        ("parts.value", "id 9 slot 8 parts.value: a map's value"),
+    ] {
+        let words = format!("rename of \"{path}\" to \"a.b\": {label} is not renamed");
+        edit_refused(&format!("--relax node --rename {path}=a.b"), 24, 1, &words);
+    }
+    edit_refused(
+        "--relax parts.value --relax visits.element --relax-id 8",
+        24,
+        2,
+        "relaxing of \"parts.key\": id 8 slot 7 parts.key: a map's key is not relaxed",
+    );
+    for second in ["--rename visits.element.day=e", "--rename-id 7=e"] {
+        edit_refused(
+            &format!("--relax visits.day --rename visits.day=d {second}"),
+            24,
+            2,
+            "rename of \"visits.element.day\" to \"e\": id 7 slot 5 visits.element.day: edit 1 \
+             renames it to \"d\", and a column is renamed once",
+        );
+    }
+}
+
+#[test]
+fn a_dot_in_a_new_name_is_told_with_the_name_that_may_be_meant() {
+    for (edit, words) in [
+        ("node.cost=node.price", "\"node.cost\" to \"node.price\"; did you mean \"price\"?"),
+        ("node.cost=node.a.b", "\"node.cost\" to \"node.a.b\""),
+        ("node.cost=price.", "\"node.cost\" to \"price.\""),
+        ("node=a.b", "\"node\" to \"a.b\""),
+    ] {
+        edit_refused(&format!("--rename {edit}"), 13, 0, &format!("rename of {words}"));
+    }
+}
+
+#[test]
+fn a_name_that_a_rename_frees_is_told_to_be_taken_still() {
+    let taken = "17 at 3 0: the name is taken: addition 0,";
+    let but = "but after the additions: rename it in an update before this one";
+    for (added, words) in [
+        ("--add cost:0 --under node", "\"cost\" under \"node\": so is named id 5 slot 2 node.cost"),
+        ("--add node:0", "\"node\" at the root: so is named id 1 slot 0 node"),
+    ] {
+        refused(
+            &Folder::with_t(),
+            &format!("update T {added} --rename-id 5=c --rename node=n --out U"),
+            &format!(
+                "{taken} {words}, which edit {} renames, {but}",
+                u8::from(added.ends_with(":0"))
+            ),
+        );
+    }
+    // an edit that leaves the name is no reason
+    refused(
+        &Folder::with_t(),
+        "update T --add node:0 --rename node=node --relax node --out U",
+        &format!("{taken} \"node\" at the root: so is named id 1 slot 0 node"),
+    );
+}
+
+#[test]
+fn an_identifier_that_is_relaxed_is_told_with_the_edit() {
+    let folder = Folder::with_k();
+    for (edits, words) in [
+        ("--relax node.serial", "edit 0 relaxes it"),
+        ("--relax site --relax-id 1", "edit 1 relaxes id 1 slot 0 node above it"),
+        (
+            "--relax-id 1,2 --relax node",
+            "edit 1 relaxes it; edit 0 relaxes id 1 slot 0 node above it",
+        ),
+    ] {
+        refused(
+            &folder,
+            &format!("update K --identifiers node.serial {edits} --out U"),
+            &format!(
+                "9 at 5 0: {NINE}: after the update: identifier 0, id 2 slot 1 node.serial: {words}"
+            ),
+        );
+    }
+    let said = folder.braid("update K --identifiers node.serial --relax site --out U").answer();
+    assert_eq!(said, "relaxed 4 site\nlast id 4\n");
+}
+
+#[test]
+fn equal_names_because_of_a_rename_are_told_with_it() {
+    let says = |asked: &str, place: u32, words: &str| {
+        refused(
+            &Folder::with_t(),
+            &format!("update T {asked} --out U"),
+            &format!("8 at 4 {place}: a full name equals an earlier one: {words}"),
+        );
+    };
+    says(
+        "--relax node --rename visits=node",
+        3,
+        "id 2 slot 3 node, and before it id 1 slot 0 node; edit 1 is a rename of \"visits\" to \
+         \"node\"",
+    );
+    says(
+        "--add x:0 --rename parts=y --rename node=x",
+        10,
+        "id 11 slot 10 x, and before it id 1 slot 0 x; edit 1 is a rename of \"node\" to \"x\"",
+    );
+    // a rename of what stands above is a reason too
+    let folder = Folder::new();
+    folder.draw("D", "1 a: struct\n  2 b: primitive 0\n3 c.b: primitive 0\n");
+    refused(
+        &folder,
+        "update D --rename a=c --out U",
+        "8 at 4 2: a full name equals an earlier one: id 3 slot 2 c.b, and before it id 2 slot 1 \
+         c.b; edit 0 is a rename of \"a\" to \"c\"",
+    );
 }
 
 #[test]
@@ -608,6 +822,11 @@ fn a_rebuilt_tree_that_passes_a_limit_is_told_with_the_limit() {
         "update L --add-tree more --out U",
         "38300 bytes in all names together, and may have 32768",
     );
+    let full: String = (1..=128).map(|id| format!("{id} {id:0>255}: primitive 0\n")).collect();
+    folder.draw("full", &(full + "129 x: primitive 0\n"));
+    let renamed = |bytes: usize| format!("update full --rename x={} --out U", "x".repeat(bytes));
+    says(&renamed(129), "32769 bytes in all names together, and may have 32768");
+    folder.braid(&renamed(128)).answer();
 }
 
 #[test]

@@ -49,14 +49,15 @@ fn no_bytes_are_without_an_answer() {
         let mode = if random.chance(1, 2) { Mode::Plain } else { Mode::Full };
         let _ = tree.lent().prune_in(&[id], mode, &mut room).map(used);
         let _ = tree.lent().renumber_in(id, &[id], &mut room).map(|answer| used(answer.tree));
-        let parts: [Vec<u8>; 5] = [4, 8, 8, 24, 40].map(|unit| random.noise(unit));
-        let [identifiers, deletions, additions, added_records, pool] = &parts;
+        let parts: [Vec<u8>; 6] = [4, 8, 8, 24, 16, 40].map(|unit| random.noise(unit));
+        let [identifiers, deletions, additions, added_records, edits, pool] = &parts;
         let request = RequestRef {
             last_id: FieldId(random.any_id()),
             identifiers,
             deletions,
             additions,
             added_records,
+            edits,
             pool,
         };
         let _ = tree.lent().update_in(request, &mut room).map(|answer| used(answer.tree));

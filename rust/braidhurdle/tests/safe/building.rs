@@ -47,8 +47,10 @@ fn a_request_is_built_byte_for_byte() -> Result<(), Overlong> {
         .drop("node.cost")?
         .add_under("node", Field::primitive("cost", 4))?
         .add(Field::structure("s", [Field::primitive("m", 5)]))?
+        .rename("node.button", "push")?
+        .relax("parts")?
         .identifiers(&[FieldId(1), FieldId(-1)]);
-    assert_eq!(request.pool, b"node.costnodecostsm");
+    assert_eq!(request.pool, b"node.costnodecostsmnode.buttonpushparts");
     assert_eq!(request.deletions, [0, 0, 0, 0, 9, 0, 1, 0]);
     assert_eq!(request.additions, [9, 0, 0, 0, 4, 0, 1, 0, 0, 0, 0, 0, 0, 0, 0, 0]);
     assert_eq!(request.identifiers, [1, 0, 0, 0, 255, 255, 255, 255]);
@@ -58,6 +60,24 @@ fn a_request_is_built_byte_for_byte() -> Result<(), Overlong> {
     };
     let records = [record(13, 4, 0, 0, 4), record(17, 1, 1, 1, 0), record(18, 1, 0, 0, 5)];
     assert_eq!(request.added_records, records.concat());
+    let rename = [19, 0, 0, 0, 11, 0, 1, 0, 30, 0, 0, 0, 4, 0, 0, 0];
+    let relax = [34, 0, 0, 0, 5, 0, 2, 0, 0, 0, 0, 0, 0, 0, 0, 0];
+    assert_eq!(request.edits, [rename, relax].concat());
+    Ok(())
+}
+
+/// 65 edits are built, as 65 deletions are, and refused when they are used.
+#[test]
+fn edits_are_counted_up_to_their_limit() -> Result<(), Overlong> {
+    let relaxed = |count: usize| {
+        let mut request = Request::new(FieldId(10));
+        for _ in 0..count {
+            request = request.relax("node")?;
+        }
+        Ok(t().update(&request).map(|updated| updated.tree))
+    };
+    assert_eq!(relaxed(64)?, Ok(t()));
+    assert_eq!(relaxed(65)?, Err(Refusal { number: 2, list: 0, place: 0 }));
     Ok(())
 }
 
@@ -68,6 +88,9 @@ fn a_name_of_255_bytes_fits_and_one_of_256_is_told() {
     assert_eq!(named(256), Err(Overlong::Name(256)));
     let added = Request::new(FieldId(1)).add(primitive(1, &"n".repeat(256)));
     assert_eq!(added, Err(Overlong::Name(256)));
+    let renamed = |bytes: usize| Request::new(FieldId(10)).rename("node", "n".repeat(bytes));
+    assert!(t().update(&renamed(255).expect("it fits")).is_ok());
+    assert_eq!(renamed(256), Err(Overlong::Name(256)));
     let inside = Field::structure("s", [primitive(1, &"n".repeat(300))]);
     assert_eq!(Tree::build(&[inside]), Err(Overlong::Name(300)));
 }
@@ -80,6 +103,9 @@ fn a_path_of_65_535_bytes_fits_and_one_more_is_told() {
     assert_eq!(dropped(65_536), Err(Overlong::Path(65_536)));
     let under = Request::new(FieldId(10)).add_under(vec![b'p'; 65_536], primitive(0, "x"));
     assert_eq!(under, Err(Overlong::Path(65_536)));
+    let path = vec![b'p'; 65_536];
+    assert_eq!(Request::new(FieldId(10)).rename(&path, "x"), Err(Overlong::Path(65_536)));
+    assert_eq!(Request::new(FieldId(10)).relax(&path), Err(Overlong::Path(65_536)));
 }
 
 #[test]

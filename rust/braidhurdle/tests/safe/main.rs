@@ -2,6 +2,7 @@
 
 mod any_bytes;
 mod building;
+mod edits;
 mod examples;
 mod files;
 mod find_ids;

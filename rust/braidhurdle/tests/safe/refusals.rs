@@ -35,7 +35,7 @@ fn every_number_up_to_20_has_the_words_of_01s_table() {
         assert!(SCOPE.contains(&format!("| {number} | {meaning}")), "{number}: {meaning}");
         added.extend(words.map(|_| number));
     }
-    assert_eq!(added, [9]);
+    assert_eq!(added, [9, 13]);
 }
 
 #[test]
@@ -49,11 +49,15 @@ fn every_number_from_21_on_is_given_by_a_request_of_02() {
 }
 
 #[test]
-fn every_list_has_01s_name() {
+fn every_list_up_to_5_has_01s_name_and_the_others_are_given_by_02() {
     for list in RefusalList::ALL {
         let list = list.number();
         let name = refused(3, list, 0).list_name();
-        assert!(SCOPE.contains(&format!("{list} {name}")), "{list}: {name}");
+        let given = match list {
+            0..=5 => SCOPE.contains(&format!("{list} {name}")),
+            _ => REQUESTS.contains(&format!("list {list}, place")) && REQUESTS.contains(name),
+        };
+        assert!(given, "{list}: {name}");
     }
 }
 
@@ -268,6 +272,60 @@ fn refusal_22_is_met_by_an_addition_to_a_dropped_parent() -> Result<(), braidhur
     for (stays, parent) in [("visits.element", "visits"), ("parts.value", "parts")] {
         assert_eq!(beneath(stays, parent)?, Ok(FieldId(12)), "{stays}");
     }
+    Ok(())
+}
+
+#[test]
+fn refusal_23_is_met_by_an_edit_of_no_column_that_stays() -> Result<(), braidhurdle::Overlong> {
+    let dropped = || request().drop("node")?.drop("visits.element")?.add(floor());
+    for path in ["nothing", "day", "node", "node.cost", "floor", ""] {
+        let request = dropped()?.relax("visits")?.rename(path, "x")?;
+        assert_eq!(update_refusal(request), refused(23, 6, 1), "{path}");
+        assert_eq!(update_refusal(dropped()?.relax(path)?), refused(23, 6, 0), "{path}");
+    }
+    // a list's element stays although a deletion finds it, and so do its members
+    assert!(t().update(&dropped()?.relax("visits.element")?.rename("visits.day", "x")?).is_ok());
+    Ok(())
+}
+
+#[test]
+fn refusal_24_is_met_by_a_role_or_a_second_rename() -> Result<(), braidhurdle::Overlong> {
+    for label in ["visits.element", "parts.key", "parts.value"] {
+        let request = request().rename("node", "n")?.rename(label, "x")?;
+        assert_eq!(update_refusal(request), refused(24, 6, 1), "{label}");
+    }
+    assert_eq!(update_refusal(request().relax("parts.key")?), refused(24, 6, 0));
+    for name in ["n", "node", "a.b"] {
+        let request = request().rename("node", "n")?.relax("node")?.rename("node", name)?;
+        assert_eq!(update_refusal(request), refused(24, 6, 2), "{name}");
+    }
+    for relaxed in ["visits.element", "parts.value", "node"] {
+        assert!(t().update(&request().relax(relaxed)?.relax(relaxed)?).is_ok(), "{relaxed}");
+    }
+    Ok(())
+}
+
+#[test]
+fn refusals_8_9_13_17_and_19_are_met_by_edits() -> Result<(), braidhurdle::Overlong> {
+    assert_eq!(update_refusal(request().relax("node")?.rename("node", "a.b")?), refused(13, 6, 1));
+    // a name that is taken by a column, or by an addition
+    assert_eq!(update_refusal(request().rename("visits", "node")?), refused(8, 4, 3));
+    let added = request().add(floor())?.rename("node", "floor")?;
+    assert_eq!(update_refusal(added), refused(8, 4, 10));
+    // one that is freed is taken for additions all the same
+    let freed = request().add(Field::primitive("node", 0))?.rename("node", "n")?;
+    assert_eq!(update_refusal(freed), refused(17, 3, 0));
+    for relaxed in ["node.serial", "node"] {
+        let request = request().identifiers(&[FieldId(4), FieldId(2)]).relax(relaxed)?;
+        assert_eq!(keyed().update(&request), Err(refused(9, 5, 1)), "{relaxed}");
+    }
+    let long: Vec<Field> = (0..128).map(|id| primitive(id, &format!("{id:0>255}"))).collect();
+    let tree = Tree::build(&[&long[..], &[primitive(128, "x")]].concat())?;
+    let renamed = |bytes: usize| -> Result<_, braidhurdle::Overlong> {
+        Ok(tree.update(&request().rename("x", vec![b'x'; bytes])?).map(|updated| updated.last_id))
+    };
+    assert_eq!(renamed(128)?, Ok(FieldId(10)));
+    assert_eq!(renamed(129)?, Err(refused(19, 4, 0)));
     Ok(())
 }
 

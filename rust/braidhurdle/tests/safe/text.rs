@@ -39,6 +39,7 @@ fn safe(case: &Case, room: &mut Room) -> Option<Result<Answer, Refusal>> {
                 deletions: call.deletions,
                 additions: call.additions,
                 added_records: call.added_records,
+                edits: call.edits,
                 pool: call.request_pool,
             };
             tree.update_in(request, room).map(|updated| {
