@@ -7,6 +7,8 @@ mod case;
 mod damage;
 mod dropped;
 mod edges;
+mod edited;
+mod edits;
 mod folded;
 mod generate;
 mod identifiers;

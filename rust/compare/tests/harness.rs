@@ -275,7 +275,7 @@ fn passed_over(case: &Case, identifiers: &[u8], over: Over) -> Option<Vec<u8>> {
 
 fn updated_over(call: &UpdateCall, r: &mut [u8], n: &mut [u8], over: Over) -> Changed {
     let answer = judge::update(call, r, n);
-    let [records, pool, identifiers, deletions, additions, added_records, request_pool] =
+    let [records, pool, identifiers, deletions, additions, added_records, edits, request_pool] =
         call.lists().map(<[u8]>::to_vec);
     let (last_id, out_records, out_names) = (call.last_id, r.len(), n.len());
     let ask = Ask::Update {
@@ -284,6 +284,7 @@ fn updated_over(call: &UpdateCall, r: &mut [u8], n: &mut [u8], over: Over) -> Ch
         deletions,
         additions,
         added_records,
+        edits,
         request_pool,
         out_records,
         out_names,
