@@ -3,7 +3,7 @@
 
 use judge::{
     Change, EDIT_BYTES, Edit, LIST, MAP, MOST_ADDITIONS, MOST_DELETIONS, MOST_EDITS, NAME_SUM,
-    Names, Node, REQUIRED, Tree, read_paths, read_tree,
+    Names, Node, POOL_BYTES, REQUIRED, Tree, read_paths, read_tree,
 };
 
 use crate::build::{Addition, edited, packed, prim, relax, rename, request, update_by};
@@ -21,7 +21,7 @@ pub fn editing(random: &mut Random, shape: Shape) -> Case {
     let rows = Tree::of(&base);
     let (mut gone, mut new) = (vec![], vec![]);
     if random.chance(5, 6) {
-        gone = deletions(random, &rows, &ids, true, 3);
+        gone = deletions(random, &rows, &ids, true, if shape.records > 5 { 3 } else { 1 });
         new = added(random, &rows, true, 2);
     }
     let last_id = last_id(random, &rows, new.iter().map(|a| size(&a.column)).sum());
@@ -286,7 +286,7 @@ pub fn damage_edit(random: &mut Random, case: &mut Case) {
 /// Edits at a limit or one past it.
 pub fn edge(random: &mut Random) -> Case {
     let past = random.below(2);
-    match random.below(4) {
+    match random.below(5) {
         0 => {
             let base: Vec<Node> = (0..70).map(|n| prim(n, &format!("n{n}"))).collect();
             let case = update_by(packed(&base), &[], 100, request(&[], &[]));
@@ -310,15 +310,35 @@ pub fn edge(random: &mut Random) -> Case {
             }
             case
         }
-        2 => {
-            let long = |k: usize| format!("{k:0255}");
-            let mut roots: Vec<Node> = (0..128).map(|k| prim(k, &long(k as usize))).collect();
-            roots.push(prim(200, "x"));
-            let case = update_by(packed(&roots), &[], 500, request(&[], &[]));
-            edited(case, &[rename("x", &"y".repeat(NAME_SUM - 128 * 255 + past))])
-        }
+        2 => name_sum(random, past),
+        3 => pool(random, past),
         _ => full(random),
     }
+}
+
+/// A rename that makes the sum of name lengths 32,768 or one more, alone or by what it leaves to an
+/// addition.
+fn name_sum(random: &mut Random, past: usize) -> Case {
+    let long = |k: usize| format!("{k:0255}");
+    let mut roots: Vec<Node> = (0..128).map(|k| prim(k, &long(k as usize))).collect();
+    roots.push(prim(200, "x"));
+    let left = NAME_SUM - 128 * 255 + past;
+    let taken = if random.chance(1, 2) { 0 } else { 1 + random.below(left) };
+    let column = prim(0, &"z".repeat(taken));
+    let added = if taken == 0 { vec![] } else { vec![Addition { path: None, column }] };
+    let case = update_by(packed(&roots), &[], 500, request(&[], &added));
+    edited(case, &[rename("x", &"y".repeat(left - taken))])
+}
+
+/// A request pool of 32,768 bytes or one more, of which an edit has the last.
+fn pool(random: &mut Random, past: usize) -> Case {
+    let mut case = update_by(packed(&[prim(1, "a"), prim(2, "b")]), &[], 5, request(&[], &[]));
+    let last = if random.chance(1, 2) { rename("a", "c") } else { relax("b") };
+    if let Ask::Update { request_pool, .. } = &mut case.ask {
+        let bytes = if last.change == Change::Relax { 1 } else { 2 };
+        request_pool.resize(POOL_BYTES + past - bytes, b'z');
+    }
+    edited(case, &[last])
 }
 
 /// 64 deletions, 64 additions and 64 edits of a large tree.

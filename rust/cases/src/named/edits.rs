@@ -515,17 +515,7 @@ fn limits(all: &mut Cases) {
         long(&[to(129)], 0),
         refused(19, 4, 0),
     );
-    all.put("5/13: a name sum that a rename makes less", long(&[to(0)], 128), Expected::Count(130));
     all.put("5/13: a name sum with an addition", long(&[to(1)], 128), refused(19, 4, 0));
-    let pool = |bytes: usize| {
-        but(editing(&two(), &[rename("a", "c")]), |case| {
-            request_of(case)[3].resize(bytes, b'b');
-            // the path stays; the new name is the pool's last byte
-            edits_of(case)[8..12].copy_from_slice(&(bytes as u32 - 1).to_le_bytes());
-        })
-    };
-    all.put("5/13: the last byte of 32,768", pool(32_768), refused(8, 4, 1));
-    all.put("5/13: a request pool of 32,769 bytes", pool(32_769), refused(2, 0, 0));
     let small = but(editing(&two(), &vec![relax("a"); 65]), |case| {
         if let Ask::Update { out_names, .. } = &mut case.ask {
             *out_names = 0;
