@@ -317,7 +317,8 @@ fn passing(
 ) -> Changed {
     let answer = judge::update(call, r, n);
     let place = answer.place as usize;
-    if answer.list != judge::EDITS || !over(call, answer.refusal, place) {
+    let decided = answer.list == judge::EDITS && answer.refusal > 4;
+    if !decided || !over(call, answer.refusal, place) {
         return answer;
     }
     passing(&UpdateCall { edits: &without(call.edits, place), ..*call }, r, n, over)
