@@ -20,9 +20,15 @@ use update::update;
 ghost use Prim.Native.Nat.{_≤_};
 ghost use lib.ListN.{length};
 
+// Whether a line is an update's; one with edits has a field more before the sign.
+fn is_update(line: &[u8]) -> bool {
+    readable(line, b"wwbbbwbbbbww=") | readable(line, b"wwbbbwbbbbwwb=")
+}
+
 // update JUDGE RECORDS POOL IDENTIFIERS LAST_ID DELETIONS ADDITIONS ADDED_RECORDS REQUEST_POOL OUT_RECORDS OUT_NAMES = answer
+// with EDITS behind OUT_NAMES where there are any
 pub fn replay(line: &[u8], inputs: &mut [u8], records: &mut [u8], names: &mut [u8]) -> Verdict {
-    if !readable(line, b"wwbbbwbbbbww=") {
+    if !is_update(line) {
         return Verdict::Unreadable;
     }
     let Parsed::Number(last_id) = number(field(line, 5)) else {
@@ -72,24 +78,28 @@ struct Request {
     additions: usize,
     added: usize,
     pool: usize,
+    edits: usize,
 }
 
-// Puts the inputs of the request into the buffer from `from` on, one after the other.
+// Puts the inputs of the request into the buffer from `from` on, one after the other. Where there are no edits the sign stands in their
+// place, which spells no bytes.
 fn decode_request(line: &[u8], buffer: &mut [u8], from: usize) -> Request
     requires { ⌜ from ≤ length (now buffer) ⌝ }
     ensures { λ r. ⌜ (from ≤ r .deletions) × (r .deletions ≤ r .additions)
-        × (r .additions ≤ r .added) × (r .added ≤ r .pool)
-        × (r .pool ≤ length (now (buffer .exit))) ⌝ }
+        × (r .additions ≤ r .added) × (r .added ≤ r .pool) × (r .pool ≤ r .edits)
+        × (r .edits ≤ length (now (buffer .exit))) ⌝ }
 {
     let deletions = decode(field(line, 6), buffer, from);
     let additions = decode(field(line, 7), buffer, deletions);
     let added = decode(field(line, 8), buffer, additions);
     let pool = decode(field(line, 9), buffer, added);
+    let edits = decode(field(line, 12), buffer, pool);
     Request {
         deletions,
         additions,
         added,
         pool,
+        edits,
     }
 }
 
@@ -118,13 +128,14 @@ fn call(
     requires { ⌜ (base .records ≤ base .pool) × (base .pool ≤ base .third)
         × (base .third ≤ request .deletions) × (request .deletions ≤ request .additions)
         × (request .additions ≤ request .added) × (request .added ≤ request .pool)
-        × (request .pool ≤ length (now inputs)) ⌝ }
+        × (request .pool ≤ request .edits) × (request .edits ≤ length (now inputs)) ⌝ }
 {
     let trees = [
         part(inputs, 0, base.records),
         part(inputs, base.records, base.pool),
         part(inputs, request.additions, request.added),
         part(inputs, request.added, request.pool),
+        part(inputs, request.pool, request.edits),
     ];
     let lists = [
         part(inputs, base.pool, base.third),

@@ -1,6 +1,9 @@
 //! Trees and requests made by hand.
 
-use judge::{ID_BYTES, LIST, MAP, Node, OUT_NAMES, OUT_RECORDS, PRIMITIVE, RECORD_BYTES, STRUCT};
+use judge::{
+    Change, EDIT_BYTES, Edit, ID_BYTES, LIST, MAP, Node, OUT_NAMES, OUT_RECORDS, PRIMITIVE,
+    RECORD_BYTES, RELAX, RENAME, STRUCT,
+};
 
 use crate::case::{Ask, Case};
 
@@ -153,11 +156,48 @@ pub fn update_by(
         deletions,
         additions,
         added_records,
+        edits: vec![],
         request_pool,
         out_records: OUT_RECORDS,
         out_names: OUT_NAMES,
     };
     Case { records, pool, ask }
+}
+
+/// An edit that gives a column another name.
+pub fn rename(path: &str, name: &str) -> Edit {
+    Edit { path: path.into(), change: Change::Rename(name.into()) }
+}
+
+/// An edit that makes a column optional.
+pub fn relax(path: &str) -> Edit {
+    Edit { path: path.into(), change: Change::Relax }
+}
+
+/// The bytes of an edit: where its path and its new name stand, and what it does.
+fn edit_entry(path: (usize, usize), what: u8, name: (usize, usize)) -> [u8; EDIT_BYTES] {
+    let mut e = [0; EDIT_BYTES];
+    e[..8].copy_from_slice(&entry(path.0, path.1, what));
+    e[8..12].copy_from_slice(&(name.0 as u32).to_le_bytes());
+    e[12] = u8::try_from(name.1).expect("a name has at most 255 bytes");
+    e
+}
+
+/// An update with more edits; their paths and new names stand at the end of its request pool.
+pub fn edited(mut case: Case, more: &[Edit]) -> Case {
+    let Ask::Update { edits, request_pool, .. } = &mut case.ask else {
+        panic!("only an update has edits")
+    };
+    for Edit { path, change } in more {
+        let path = (at_the_end(request_pool, path), path.len());
+        edits.extend(match change {
+            Change::Relax => edit_entry(path, RELAX, (0, 0)),
+            Change::Rename(name) => {
+                edit_entry(path, RENAME, (at_the_end(request_pool, name), name.len()))
+            }
+        });
+    }
+    case
 }
 
 /// A pruning with buffers of the least size.

@@ -1,6 +1,6 @@
 //! Damaged copies of a case.
 
-use judge::{ENTRY_BYTES, ID_BYTES, RECORD_BYTES};
+use judge::{EDIT_BYTES, ENTRY_BYTES, ID_BYTES, RECORD_BYTES};
 
 use crate::case::{Ask, Case};
 use crate::random::Random;
@@ -9,14 +9,27 @@ use crate::random::Random;
 pub fn lists(case: &mut Case) -> Vec<(&mut Vec<u8>, usize)> {
     let mut lists = vec![(&mut case.records, RECORD_BYTES), (&mut case.pool, 1)];
     match &mut case.ask {
-        Ask::Update { identifiers, deletions, additions, added_records, request_pool, .. } => lists
-            .extend([
+        Ask::Update {
+            identifiers,
+            deletions,
+            additions,
+            added_records,
+            request_pool,
+            edits,
+            ..
+        } => {
+            lists.extend([
                 (identifiers, ID_BYTES),
                 (deletions, ENTRY_BYTES),
                 (additions, ENTRY_BYTES),
                 (added_records, RECORD_BYTES),
                 (request_pool, 1),
-            ]),
+            ]);
+            // last, and where there are any: a list more would change the cases that have none
+            if !edits.is_empty() {
+                lists.push((edits, EDIT_BYTES));
+            }
+        }
         Ask::Prune { selected, .. } => lists.push((selected, ID_BYTES)),
         Ask::Renumber { identifiers, .. } => lists.push((identifiers, ID_BYTES)),
         Ask::Name(name) | Ask::Folded(name) => lists.push((name, 1)),

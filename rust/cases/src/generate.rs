@@ -11,6 +11,7 @@ use crate::case::{Ask, Case};
 use crate::damage::damage;
 use crate::dropped::dropped_parent;
 use crate::edges::edge;
+use crate::edits::{self, damage_edit, editing, with_edits};
 use crate::folded::folded;
 use crate::identifiers::{give_floats, renumbering, updating};
 use crate::ids::{many_ids, turn_ids};
@@ -26,10 +27,12 @@ pub const OPERATIONS: [&str; 9] =
 const FIRST: u64 = 7;
 
 /// Sets the row of updates that add beneath what they drop apart from the others; so for cases of
-/// identifiers, and for the types of columns.
+/// identifiers, for the types of columns, for updates with edits, and for edits beside the rest.
 const DROPPED_PARENT: u64 = 3 << 40;
 const IDENTIFIERS: u64 = 4 << 40;
 const TYPES: u64 = 5 << 40;
+const EDITS: u64 = 6 << 40;
+const EDITS_BESIDE: u64 = 7 << 40;
 
 /// How large the trees are.
 #[derive(Clone, Copy, Debug, PartialEq, Eq)]
@@ -97,6 +100,26 @@ impl Generator {
         (case, Origin::Whole)
     }
 
+    /// The n-th update with edits, from a row of its own.
+    pub fn edits(&self, n: u64) -> Case {
+        self.edited(n).0
+    }
+
+    fn edited(&self, n: u64) -> (Case, Origin) {
+        let mut random = Random::nth(self.seed ^ EDITS, n);
+        let usual = self.sizes == Sizes::Usual;
+        if usual && random.chance(1, 25) {
+            return (edits::edge(&mut random), Origin::Edge);
+        }
+        let shape = self.shape(&mut random);
+        let mut case = editing(&mut random, shape);
+        if random.chance(1, 6) {
+            damage_edit(&mut random, &mut case);
+            return (case, Origin::Damaged);
+        }
+        (case, Origin::Whole)
+    }
+
     fn shape(&self, random: &mut Random) -> Shape {
         let records = match self.sizes {
             Sizes::Small => 5,
@@ -114,15 +137,21 @@ impl Generator {
         let operation = OPERATIONS[turn as usize];
         // the recorded list has them apart, so that its other cases stay
         let usual = self.sizes == Sizes::Usual;
-        if usual && ["update", "renumber"].contains(&operation) && round % 6 == 2 {
-            return self.identified(operation, round);
-        }
-        let (mut case, origin) = match usual && operation == "update" && round % 6 == 5 {
-            true => (self.dropped_parent(round), Origin::Whole),
-            false => self.taking_turns(round, turn),
+        let identified = ["update", "renumber"].contains(&operation) && round % 6 == 2;
+        let (mut case, origin) = match (usual, operation, round % 6) {
+            (true, "update", 1) => return self.edited(round),
+            (true, "update", 5) => (self.dropped_parent(round), Origin::Whole),
+            (true, ..) if identified => self.identified(operation, round),
+            _ => self.taking_turns(round, turn),
         };
-        if usual {
+        if usual && !identified {
             give_floats(&mut Random::nth(self.seed ^ TYPES, n), &mut case);
+        }
+        if usual && operation == "update" && origin != Origin::Edge {
+            let mut random = Random::nth(self.seed ^ EDITS_BESIDE, n);
+            if random.chance(1, 12) {
+                case = with_edits(&mut random, case, 2);
+            }
         }
         (case, origin)
     }

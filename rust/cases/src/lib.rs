@@ -7,6 +7,8 @@ mod case;
 mod damage;
 mod dropped;
 mod edges;
+mod edited;
+mod edits;
 mod folded;
 mod generate;
 mod identifiers;
@@ -21,8 +23,8 @@ mod trees;
 
 pub use broken::{Broken, Of, base_breaks_9, broken, broken_in};
 pub use build::{
-    Addition, additions, ask_of, ids_by, list_of, map_of, packed, prim, prune_by, renumber_by,
-    request, strukt, the_tree, update_by, update_of,
+    Addition, additions, ask_of, edited, ids_by, list_of, map_of, packed, prim, prune_by, relax,
+    rename, renumber_by, request, strukt, the_tree, update_by, update_of,
 };
 pub use case::{Answer, Ask, ByJudge, Case, Numbers, Operations, Outcome, answer, outcome, shown};
 pub use damage::lists;

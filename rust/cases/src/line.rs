@@ -4,6 +4,7 @@
 //! OP JUDGE RECORDS POOL inputs.. = answer..
 //!
 //! update   IDENTIFIERS LAST_ID DELETIONS ADDITIONS ADDED_RECORDS REQUEST_POOL OUT_RECORDS OUT_NAMES
+//!          and EDITS, where there are any
 //! prune    SELECTED FULL OUT_RECORDS OUT_NAMES
 //! renumber IDENTIFIERS START OUT_RECORDS OUT_NAMES OUT_IDENTIFIERS
 //! name     NAME
@@ -98,19 +99,27 @@ fn ask_words(ask: &Ask) -> Vec<String> {
             deletions,
             additions,
             added_records,
+            edits,
             request_pool,
             out_records,
             out_names,
-        } => vec![
-            hex(identifiers),
-            (*last_id as u32).to_string(),
-            hex(deletions),
-            hex(additions),
-            hex(added_records),
-            hex(request_pool),
-            out_records.to_string(),
-            out_names.to_string(),
-        ],
+        } => {
+            let mut words = vec![
+                hex(identifiers),
+                (*last_id as u32).to_string(),
+                hex(deletions),
+                hex(additions),
+                hex(added_records),
+                hex(request_pool),
+                out_records.to_string(),
+                out_names.to_string(),
+            ];
+            // last, so that a line from before 02's 5/13 is read as it was
+            if !edits.is_empty() {
+                words.push(hex(edits));
+            }
+            words
+        }
         Ask::Prune { selected, full, out_records, out_names } => {
             vec![hex(selected), full.to_string(), out_records.to_string(), out_names.to_string()]
         }
@@ -169,6 +178,16 @@ impl Words<'_> {
     fn size(&mut self) -> Result<usize, String> {
         Ok(self.number()? as usize)
     }
+    /// The bytes of a word that is left out where there are none.
+    fn more_bytes(&mut self) -> Result<Vec<u8>, String> {
+        if self.0.clone().next() == Some("=") {
+            return Ok(vec![]);
+        }
+        match self.bytes()? {
+            none if none.is_empty() => Err("edits that are none".into()),
+            bytes => Ok(bytes),
+        }
+    }
 }
 
 /// The case, judge and answer of a line.
@@ -203,6 +222,7 @@ fn read_ask(operation: &str, words: &mut Words) -> Result<Ask, String> {
             request_pool: words.bytes()?,
             out_records: words.size()?,
             out_names: words.size()?,
+            edits: words.more_bytes()?,
         },
         "prune" => Ask::Prune {
             selected: words.bytes()?,

@@ -8,11 +8,12 @@ use judge::{
 
 use crate::broken::{SHAPES_OF_9, nine_shapes};
 use crate::case::{Answer, Ask, Case};
-use crate::trees::{path_up, receiver};
+use crate::edited::{SHAPES_OF_EDITS, edit_refused_shapes, edit_shapes};
+use crate::trees::{held, path_up, receiver};
 
-/// Every shape: those of 9 are last.
+/// Every shape: those of 9 and those of edits are last.
 pub fn all_shapes() -> impl Iterator<Item = &'static str> {
-    SHAPES.iter().chain(SHAPES_OF_9.as_flattened()).copied()
+    SHAPES.iter().chain(SHAPES_OF_9.as_flattened()).chain(SHAPES_OF_EDITS).copied()
 }
 
 /// The shapes. Those of a tree can come up in every operation, the others in the one named.
@@ -176,18 +177,22 @@ const SHAPES: &[&str] = &[
 pub fn shapes_of(case: &Case, answer: &Answer) -> Vec<&'static str> {
     let mut shapes = vec![];
     let mut met = |shape, is: bool| {
-        if is {
+        if is && !shapes.contains(&shape) {
             shapes.push(shape);
         }
     };
     if let Some(refusal) = answer.refusal() {
         refused_shapes(case, refusal, &mut met);
+        edit_refused_shapes(case, refusal, &mut met);
         return shapes;
     }
     let tree = read_tree(&case.records, &case.pool, 0).expect("an accepted base is read");
     tree_shapes(case, &tree, &mut met);
     match &case.ask {
-        Ask::Update { .. } => update_shapes(case, &tree, answer, &mut met),
+        Ask::Update { .. } => {
+            update_shapes(case, &tree, answer, &mut met);
+            edit_shapes(case, &tree, answer, &mut met);
+        }
         Ask::Prune { .. } => prune_shapes(case, &tree, answer, &mut met),
         Ask::Renumber { identifiers, start, .. } => {
             met("renumber: accepted", true);
@@ -231,7 +236,7 @@ fn twice<T: PartialEq>(row: impl Iterator<Item = T>) -> bool {
 }
 
 /// The sum of the length bytes.
-fn name_sum(records: &[u8]) -> usize {
+pub fn name_sum(records: &[u8]) -> usize {
     records.chunks_exact(RECORD_BYTES).map(|record| usize::from(record[8])).sum()
 }
 
@@ -446,11 +451,6 @@ fn update_shapes(
     let found = |path: &[u8]| called.find(path).expect("an accepted path finds a record");
     deletion_shapes(case, tree, &found, &after, met);
     addition_shapes(case, tree, &found, met);
-}
-
-/// Is a record an element, a key or a value, which a deletion does not take out?
-fn held(tree: &Tree, slot: usize) -> bool {
-    tree.rows[slot].parent.is_some_and(|above| tree.rows[above].kind >= LIST)
 }
 
 fn deletion_shapes(

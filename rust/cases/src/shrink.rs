@@ -1,6 +1,6 @@
 //! A failing case made small.
 
-use judge::{ENTRY_BYTES, ID_BYTES, RECORD_BYTES};
+use judge::{EDIT_BYTES, ENTRY_BYTES, ID_BYTES, RECORD_BYTES};
 
 use crate::case::{Ask, Case};
 
@@ -124,7 +124,9 @@ fn smaller_asks(ask: &Ask) -> Vec<Ask> {
         }
     };
     match ask {
-        Ask::Update { identifiers: i, deletions: d, added_records, request_pool, .. } => {
+        Ask::Update {
+            identifiers: i, deletions: d, added_records, edits: e, request_pool, ..
+        } => {
             each(i, ID_BYTES, &|ask, less| {
                 if let Ask::Update { identifiers, .. } = ask {
                     *identifiers = less;
@@ -133,6 +135,11 @@ fn smaller_asks(ask: &Ask) -> Vec<Ask> {
             each(d, ENTRY_BYTES, &|ask, less| {
                 if let Ask::Update { deletions, .. } = ask {
                     *deletions = less;
+                }
+            });
+            each(e, EDIT_BYTES, &|ask, less| {
+                if let Ask::Update { edits, .. } = ask {
+                    *edits = less;
                 }
             });
             each(request_pool, 1, &|ask, less| {

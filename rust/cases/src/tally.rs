@@ -3,7 +3,9 @@
 use std::collections::BTreeMap;
 use std::fmt;
 
-use judge::{ADDED, ADDITIONS, BASE, DELETIONS, IDENTIFIERS, LAST_REFUSAL, REBUILT, RECORD_BYTES};
+use judge::{
+    ADDED, ADDITIONS, BASE, DELETIONS, EDITS, IDENTIFIERS, LAST_REFUSAL, REBUILT, RECORD_BYTES,
+};
 
 use crate::case::{Answer, Case};
 use crate::generate::{OPERATIONS, Origin};
@@ -71,6 +73,7 @@ fn possible(operation: &str) -> Vec<(u32, u32)> {
             possible.extend([3, 4, 5, 6].map(|n| (n, ADDED)));
             possible.extend([3, 4, 11, 12].map(|n| (n, DELETIONS)));
             possible.extend([3, 4, 10, 13, 14, 15, 16, 17, 18, 22].map(|n| (n, ADDITIONS)));
+            possible.extend([3, 4, 13, 23, 24].map(|n| (n, EDITS)));
             possible.extend([7, 8, 19].map(|n| (n, REBUILT)));
             possible.push((9, IDENTIFIERS));
         }

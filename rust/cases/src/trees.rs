@@ -370,6 +370,11 @@ pub fn parents(tree: &Tree) -> Vec<usize> {
     (0..tree.rows.len()).filter(|slot| receiver(tree, *slot).is_some()).collect()
 }
 
+/// Is a record an element, a key or a value, which a deletion does not take out?
+pub fn held(tree: &Tree, slot: usize) -> bool {
+    tree.rows[slot].parent.is_some_and(|above| tree.rows[above].kind >= LIST)
+}
+
 /// A record and those above it, up to the root.
 pub fn path_up(tree: &Tree, slot: usize) -> Vec<usize> {
     std::iter::successors(Some(slot), |slot| tree.rows[*slot].parent).collect()

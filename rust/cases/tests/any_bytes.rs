@@ -1,7 +1,7 @@
 //! The second judge answers every operation on any bytes, and writes only its answer.
 
 use cases::{Ask, ByJudge, Case, Generator, Numbers, Random, Sizes, answer, outcome};
-use judge::{ENTRY_BYTES, ID_BYTES, OUT_NAMES, OUT_RECORDS, RECORD_BYTES};
+use judge::{EDIT_BYTES, ENTRY_BYTES, ID_BYTES, OUT_NAMES, OUT_RECORDS, RECORD_BYTES};
 
 fn any_case(random: &mut Random) -> Case {
     let (records, pool) = (random.noise(RECORD_BYTES), random.noise(40));
@@ -13,6 +13,7 @@ fn any_case(random: &mut Random) -> Case {
             deletions: random.noise(ENTRY_BYTES),
             additions: random.noise(ENTRY_BYTES),
             added_records: random.noise(RECORD_BYTES),
+            edits: random.noise(EDIT_BYTES),
             request_pool: random.noise(40),
             out_records,
             out_names,

@@ -93,6 +93,62 @@ fn additions_beneath_what_is_dropped_are_common() {
     }
 }
 
+/// Edits that pass, and those that break a rule, one after another.
+#[test]
+fn edits_are_common() {
+    let tally = tally_of("update");
+    let cases = tally.cases.sum();
+    for (often, shape) in [
+        (40, "update: a required column relaxed"),
+        (40, "update: a root renamed"),
+        (40, "update: a struct's member renamed"),
+        (60, "update: edits beside a deletion and an addition"),
+        (200, "update: two columns exchange names"),
+        (400, "update: renamed to a dropped sibling's name"),
+        (200, "update: 8 for a rename onto a sibling"),
+        (400, "update: 23 beneath a dropped member"),
+        (400, "update: 24 for a second rename"),
+        (100, "update: 23, 24 or 13 of the last of several edits"),
+    ] {
+        let times = tally.shapes[shape].sum();
+        assert!(times * often > cases, "{shape}: {times} of {cases}");
+    }
+    let with = of("update", 2_000).filter(|n| match &usual().case(*n).ask {
+        Ask::Update { edits, .. } => !edits.is_empty(),
+        _ => false,
+    });
+    let with = with.count() as u64;
+    assert!(with * 5 > cases && with * 3 < cases, "{with} of {cases}");
+}
+
+/// Where edits are accepted it does not matter which comes first, and each column that is edited
+/// has the name and the flag that it was given; all else is as it is without edits.
+#[test]
+fn edits_change_names_and_flags_alone() {
+    let mut shown = 0;
+    for n in 0..6_000 {
+        let case = usual().edits(n);
+        let Answer::Updated { records, .. } = answer(&case) else { continue };
+        let mut other = case.clone();
+        let Ask::Update { edits, .. } = &mut other.ask else { continue };
+        let turned: Vec<u8> = edits.chunks(16).rev().flatten().copied().collect();
+        *edits = turned;
+        assert_eq!(answer(&other), answer(&case), "case {n}");
+        let Ask::Update { edits, .. } = &mut other.ask else { continue };
+        edits.clear();
+        // without its edits two columns may meet
+        let Answer::Updated { records: plain, .. } = answer(&other) else { continue };
+        assert_eq!(records.len(), plain.len(), "case {n}");
+        for (one, other) in records.chunks(24).zip(plain.chunks(24)) {
+            let rest = |r: &[u8]| [&r[..4], &r[9..10], &r[11..]].concat();
+            assert_eq!(rest(one), rest(other), "case {n}");
+            assert!(one[10] == other[10] || one[10] == other[10] & !1, "case {n}");
+        }
+        shown += 1;
+    }
+    assert!(shown > 2_000, "{shown} cases");
+}
+
 /// 02, 3/13: every id that an accepted update consumes is that of one column in its answer.
 #[test]
 fn nothing_that_is_added_vanishes() {

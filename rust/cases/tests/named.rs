@@ -27,8 +27,13 @@ fn a_line_reads_back_as_it_was_written() {
 
 #[test]
 fn a_damaged_line_is_told() {
-    let line = "id both - - 7 = nothing";
-    assert!(read_line(line).is_ok());
+    for line in [
+        "id both - - 7 = nothing",
+        "update both - - - 0 - - - - 0 0 = refused 1 0 0",
+        "update both - - - 0 - - - - 0 0 00 = refused 1 0 0",
+    ] {
+        assert!(read_line(line).is_ok());
+    }
     for bad in [
         "",
         "id",
@@ -42,6 +47,8 @@ fn a_damaged_line_is_told() {
         "ids both - - - 0 = nothing",
         "ids both - - - 0 = ok -",
         "folder both - - 7 = nothing",
+        "update both - - - 0 - - - - 0 0 - = refused 1 0 0",
+        "update both - - - 0 - - - - 0 0 00 00 = refused 1 0 0",
         "id both 0 - 7 = nothing",
         "id both 0G - 7 = nothing",
         "id both AB - 7 = nothing",
@@ -62,8 +69,8 @@ fn the_named_cases_hold_every_refusal_and_all_worked_examples() {
         assert!(titles.iter().any(|title| title.starts_with(&start)), "{start}");
     }
     // 25 and 36 are points that no input can show; 36 has a case all the same
-    for reading in (1..=67).filter(|n| *n != 25).chain(145..=148).chain(161..=164).chain(168..=171)
-    {
+    let of_02 = (145..=148).chain(161..=164).chain(168..=171).chain(181..=188);
+    for reading in (1..=67).filter(|n| *n != 25).chain(of_02) {
         let start = format!("reading {reading}:");
         assert!(titles.iter().any(|title| title.starts_with(&start)), "{start}");
     }

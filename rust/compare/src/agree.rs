@@ -3,7 +3,9 @@
 use std::collections::BTreeSet;
 
 use cases::{Answer, Ask, Case, Numbers, Outcome, base_breaks_9, shown};
-use judge::{ENTRY_BYTES, ID_BYTES, Names, OUT_NAMES, OUT_RECORDS, RECORD_BYTES, Refusal, Unwrap};
+use judge::{
+    EDIT_BYTES, ENTRY_BYTES, ID_BYTES, Names, OUT_NAMES, OUT_RECORDS, RECORD_BYTES, Refusal, Unwrap,
+};
 use oracle::Verdict;
 
 /// How the crate's word stands to the paper's. The words are those of docs/DIFFERENCES.md.
@@ -33,10 +35,12 @@ const VALUE_YIELDS_NOTHING: &str =
 const ONLY_LETTERS: &str = "only 26 letters fold";
 const AMBIGUOUS: &str = "ambiguity is refused";
 const DROPPED_PARENT: &str = "no additions to a dropped parent";
+const EDITED: &str = "renaming and relaxing";
+const REFUSED_EDIT: &str = "24 and 13 of an edit";
 const BYTES: &str = "1 to 6 and 10 speak of bytes that the crate never sees";
 
 /// Every agreement that is none of the same answer: all that a run may meet.
-pub const LISTED: [Agreement; 11] = [
+pub const LISTED: [Agreement; 13] = [
     Fact,
     Departure(ELEMENT_KEY_VALUE),
     Departure(PAST_LARGEST),
@@ -47,6 +51,8 @@ pub const LISTED: [Agreement; 11] = [
     Departure(ONLY_LETTERS),
     Departure(AMBIGUOUS),
     Departure(DROPPED_PARENT),
+    Departure(EDITED),
+    Outside(REFUSED_EDIT),
     Outside(BYTES),
 ];
 
@@ -91,8 +97,9 @@ pub fn not_the_crates(case: &Case, paper: &Answer) -> Option<Agreement> {
 fn whole(case: &Case) -> bool {
     let fit = |list: &[u8], unit| list.len().is_multiple_of(unit);
     let lists = match &case.ask {
-        Ask::Update { identifiers, deletions, additions, added_records, .. } => {
+        Ask::Update { identifiers, deletions, additions, added_records, edits, .. } => {
             fit(identifiers, ID_BYTES)
+                && fit(edits, EDIT_BYTES)
                 && fit(deletions, ENTRY_BYTES)
                 && fit(additions, ENTRY_BYTES)
                 && fit(added_records, RECORD_BYTES)
@@ -119,9 +126,18 @@ pub fn agreement(case: &Case, paper: &Answer, said: &Verdict) -> Agreement {
     if let Some(own) = not_the_crates(case, paper) {
         return own;
     }
-    if paper.refusal().is_some_and(|refusal| refusal.number == 22) {
-        return dropped_parent(case, said);
+    match paper.refusal() {
+        Some(refusal) if refusal.number == 22 => return dropped_parent(case, said),
+        Some(refusal) if refusal.list == judge::EDITS => return refused_edit(refusal, said),
+        _ => {}
     }
+    match judged(case, paper, said) {
+        Same | Fact if of_an_edited_tree(case, paper) => Departure(EDITED),
+        other => other,
+    }
+}
+
+fn judged(case: &Case, paper: &Answer, said: &Verdict) -> Agreement {
     match said {
         Verdict::Unfit("a name that is not UTF-8") => Departure(NOT_UTF8),
         Verdict::Unfit(_) => Differ,
@@ -133,11 +149,47 @@ pub fn agreement(case: &Case, paper: &Answer, said: &Verdict) -> Agreement {
     }
 }
 
+/// Does the paper's answer speak of a tree with edits in it? The crate has none, and its builder is
+/// asked for the tree that they leave.
+fn of_an_edited_tree(case: &Case, paper: &Answer) -> bool {
+    let edited = case.update_call().is_some_and(|call| !call.edits.is_empty());
+    edited
+        && paper.refusal().is_none_or(|refusal| match refusal.number {
+            9 => !base_breaks_9(case),
+            _ => refusal.list == judge::REBUILT,
+        })
+}
+
+/// The crate has taken the deletions and additions. Whether a column survives is told by its own
+/// look-up and its own rebuilding, up to the edit that is refused; what else forbids an edit is not.
+fn refused_edit(refusal: Refusal, said: &Verdict) -> Agreement {
+    match said {
+        Verdict::Unfit("a name that is not UTF-8") => Departure(NOT_UTF8),
+        Verdict::Refused { number: 23, place, .. } if refusal.number == 23 => {
+            if *place == Some(refusal.place) { Departure(EDITED) } else { Differ }
+        }
+        _ if refusal.number == 23 => Differ,
+        Verdict::Refused { number: 23, place: Some(place), .. } => {
+            if *place > refusal.place {
+                Outside(REFUSED_EDIT)
+            } else {
+                Differ
+            }
+        }
+        Verdict::Answer(_) | Verdict::Refused { number: 7..=9, base: false, .. } => {
+            Outside(REFUSED_EDIT)
+        }
+        _ => Differ,
+    }
+}
+
 /// The crate has no 22 and goes by the text as it was before: the addition is nowhere, or a later
 /// refusal is met. So its word is held to that answer, whatever it is.
 fn dropped_parent(case: &Case, said: &Verdict) -> Agreement {
     match agreement(case, &before_22(case), said) {
-        Same | Fact | Departure(PAST_LARGEST | LIMITS) => Departure(DROPPED_PARENT),
+        Same | Fact | Departure(PAST_LARGEST | LIMITS | EDITED) | Outside(REFUSED_EDIT) => {
+            Departure(DROPPED_PARENT)
+        }
         other => other,
     }
 }

@@ -20,6 +20,9 @@ const DROPPED_PARENT: u64 = 80;
 /// Random updates, and as many renumberings, whose identifiers are mostly refused.
 const IDENTIFIERS: u64 = 48;
 
+/// Random updates with edits.
+const EDITS: u64 = 72;
+
 /// Where the list stands in the repository.
 pub fn recorded_path() -> PathBuf {
     PathBuf::from(env!("CARGO_MANIFEST_DIR")).join("../../crates/recorded/data/recorded.txt")
@@ -46,6 +49,8 @@ pub fn recorded_list(iceberg: Iceberg) -> String {
         let identified = (0..IDENTIFIERS).map(|n| generator.identifiers(operation, n));
         lines.extend(identified.map(|case| entry(case, iceberg)));
     }
+    lines.push(format!("# 5/13: edits, random, seed {SEED}"));
+    lines.extend((0..EDITS).map(|n| entry(generator.edits(n), iceberg)));
     header(&lines) + &lines.join("\n") + "\n"
 }
 
@@ -76,6 +81,7 @@ fn header(lines: &[String]) -> String {
 # OP JUDGE RECORDS POOL inputs.. = answer..
 #
 # update   JUDGE RECORDS POOL IDENTIFIERS LAST_ID DELETIONS ADDITIONS ADDED_RECORDS REQUEST_POOL OUT_RECORDS OUT_NAMES = ok RECORDS NAMES LAST_ID
+#          with EDITS behind OUT_NAMES where there are any
 # prune    JUDGE RECORDS POOL SELECTED FULL OUT_RECORDS OUT_NAMES = ok RECORDS NAMES
 # renumber JUDGE RECORDS POOL IDENTIFIERS START OUT_RECORDS OUT_NAMES OUT_IDENTIFIERS = ok RECORDS NAMES IDENTIFIERS
 # name     JUDGE RECORDS POOL NAME = found ID SLOT, or nothing

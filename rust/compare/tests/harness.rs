@@ -6,7 +6,8 @@ use cases::{
 };
 use compare::{Run, iceberg, replay};
 use judge::{
-    Changed, Found, ID_BYTES, NO_SLOT, Names, RECORD_BYTES, Row, Searched, Tree, UpdateCall,
+    Change, Changed, EDIT_BYTES, Edit, Found, ID_BYTES, NO_SLOT, Names, RECORD_BYTES, RELAX,
+    REQUIRED, Row, Searched, Tree, UpdateCall,
 };
 use port::{Guarded, beside_paper};
 
@@ -262,6 +263,518 @@ fn wrong_ways_to_refuse_a_dropped_parent_are_found() {
     }
 }
 
+/// The base of a call, and each of its edits with the slot that its path finds; none where 2 to 6
+/// refuse.
+fn edits_of(call: &UpdateCall) -> Option<(Tree, Vec<(Option<usize>, Edit)>)> {
+    let tree = judge::read_tree(call.records, call.pool, judge::BASE).ok()?;
+    let names = Names::of(&tree);
+    let edits = judge::read_edits(call.edits, call.request_pool).ok()?;
+    let found = |edit: Edit| (names.find(&edit.path), edit);
+    let edits = edits.into_iter().map(found).collect();
+    Some((tree, edits))
+}
+
+/// The edit at a place, with the row that it finds.
+fn edit_at(call: &UpdateCall, place: usize) -> (Option<Row>, Edit) {
+    let (tree, edits) = edits_of(call).expect("4 comes before");
+    let (slot, edit) = edits[place].clone();
+    (slot.map(|slot| tree.rows[slot].clone()), edit)
+}
+
+/// The place of an earlier edit that renames the same column.
+fn renamed_before(call: &UpdateCall, place: usize) -> Option<usize> {
+    let (_, edits) = edits_of(call)?;
+    let renames = |(slot, edit): &(Option<usize>, Edit)| {
+        *slot == edits[place].0 && edit.change != Change::Relax
+    };
+    edits[..place].iter().position(renames)
+}
+
+fn is_key(call: &UpdateCall, slot: usize) -> bool {
+    let tree = judge::read_tree(call.records, call.pool, judge::BASE).expect("it was read");
+    let above = tree.rows[slot].parent.map(|above| &tree.rows[above]);
+    above.is_some_and(|above| above.kind == judge::MAP && above.children[0] == slot)
+}
+
+fn has_dot(edit: &Edit) -> bool {
+    matches!(&edit.change, Change::Rename(name) if name.contains(&b'.'))
+}
+
+fn with_edits(call: &UpdateCall, edits: &[u8], r: &mut [u8], n: &mut [u8]) -> Changed {
+    judge::update(&UpdateCall { edits, ..*call }, r, n)
+}
+
+fn without(edits: &[u8], place: usize) -> Vec<u8> {
+    [&edits[..place * EDIT_BYTES], &edits[(place + 1) * EDIT_BYTES..]].concat()
+}
+
+/// Every refused edit that a rule passes over is left out.
+fn passing(
+    call: &UpdateCall,
+    r: &mut [u8],
+    n: &mut [u8],
+    over: fn(&UpdateCall, u32, usize) -> bool,
+) -> Changed {
+    let answer = judge::update(call, r, n);
+    let place = answer.place as usize;
+    let decided = answer.list == judge::EDITS && answer.refusal > 4;
+    if !decided || !over(call, answer.refusal, place) {
+        return answer;
+    }
+    passing(&UpdateCall { edits: &without(call.edits, place), ..*call }, r, n, over)
+}
+
+/// The answer to another call where the rule says so of both answers.
+fn instead(
+    call: &UpdateCall,
+    other: &UpdateCall,
+    (r, n): (&mut [u8], &mut [u8]),
+    rule: fn(Changed, Changed) -> bool,
+) -> Changed {
+    let (mut other_r, mut other_n) = (r.to_vec(), n.to_vec());
+    let (was, is) = (judge::update(call, r, n), judge::update(other, &mut other_r, &mut other_n));
+    if !rule(was, is) {
+        return was;
+    }
+    r.copy_from_slice(&other_r);
+    n.copy_from_slice(&other_n);
+    is
+}
+
+/// The refusal of an edit where an accepted one breaks a rule that is none.
+fn refused_edit_if(
+    call: &UpdateCall,
+    r: &mut [u8],
+    n: &mut [u8],
+    (number, wrong): (u32, fn(&UpdateCall, usize, &Edit) -> bool),
+) -> Changed {
+    let (mut other_r, mut other_n) = (r.to_vec(), n.to_vec());
+    let answer = judge::update(call, &mut other_r, &mut other_n);
+    if answer.refusal != 0 {
+        return answer;
+    }
+    let (_, edits) = edits_of(call).expect("it was accepted");
+    let is = |(slot, edit): &(Option<usize>, Edit)| wrong(call, slot.expect("found"), edit);
+    match edits.iter().position(is) {
+        Some(place) => judge::Refusal::new(number, judge::EDITS, place).into(),
+        None => {
+            r.copy_from_slice(&other_r);
+            n.copy_from_slice(&other_n);
+            answer
+        }
+    }
+}
+
+/// The flags of each relaxed column of an answer, told otherwise.
+fn relaxed_by(call: &UpdateCall, r: &mut [u8], n: &mut [u8], other: fn(u8, u8) -> u8) -> Changed {
+    let answer = judge::update(call, r, n);
+    if answer.refusal == 0 {
+        let (tree, edits) = edits_of(call).expect("it was accepted");
+        for (slot, _) in edits.iter().filter(|(_, edit)| edit.change == Change::Relax) {
+            let row = &tree.rows[slot.expect("it was accepted")];
+            let is = |record: &&mut [u8]| record[..4] == row.id.to_le_bytes();
+            let records = r.chunks_exact_mut(RECORD_BYTES).take(answer.records as usize);
+            records.filter(is).for_each(|record| record[10] = other(row.flags, record[10]));
+        }
+    }
+    answer
+}
+
+/// The base with the edits made, as if they came first: records and pool.
+fn edited_first(call: &UpdateCall) -> Option<(Vec<u8>, Vec<u8>)> {
+    let (_, edits) = edits_of(call)?;
+    let (mut records, mut pool) = (call.records.to_vec(), call.pool.to_vec());
+    for (slot, edit) in edits {
+        let record = &mut records[slot? * RECORD_BYTES..];
+        match edit.change {
+            Change::Relax => record[10] &= !REQUIRED,
+            Change::Rename(name) => {
+                record[4..8].copy_from_slice(&(pool.len() as u32).to_le_bytes());
+                record[8] = name.len() as u8;
+                pool.extend(name);
+            }
+        }
+    }
+    Some((records, pool))
+}
+
+/// The answer where edits come first, if the rule says so of both answers.
+fn edits_first(
+    call: &UpdateCall,
+    r: &mut [u8],
+    n: &mut [u8],
+    rule: fn(Changed, Changed) -> bool,
+) -> Changed {
+    match edited_first(call) {
+        Some((records, pool)) => {
+            let first = UpdateCall { records: &records, pool: &pool, edits: &[], ..*call };
+            instead(call, &first, (r, n), rule)
+        }
+        None => judge::update(call, r, n),
+    }
+}
+
+/// Each edit looks in the tree that the one before it left; for updates of edits alone.
+fn one_by_one(call: &UpdateCall, r: &mut [u8], n: &mut [u8]) -> Changed {
+    let alone = call.deletions.is_empty() && call.additions.is_empty();
+    let whole = judge::update(call, r, n);
+    if !alone || (1..=10).contains(&whole.refusal) || call.edits.is_empty() {
+        return whole;
+    }
+    let (mut records, mut pool) = (call.records.to_vec(), call.pool.to_vec());
+    let mut answer = whole;
+    for (place, edit) in call.edits.chunks_exact(EDIT_BYTES).enumerate() {
+        let one = UpdateCall { records: &records, pool: &pool, edits: edit, ..*call };
+        answer = judge::update(&one, r, n);
+        if answer.refusal != 0 {
+            let places = answer.list == judge::EDITS;
+            let place = if places { place as u32 } else { answer.place };
+            return Changed { place, ..answer };
+        }
+        records = r[..answer.records as usize * RECORD_BYTES].to_vec();
+        pool = n[..answer.names as usize].to_vec();
+    }
+    answer
+}
+
+/// What is asked with no edits, no additions, or no deletions.
+fn no_edits<'a>(call: &UpdateCall<'a>) -> UpdateCall<'a> {
+    UpdateCall { edits: &[], ..*call }
+}
+
+fn no_additions<'a>(call: &UpdateCall<'a>) -> UpdateCall<'a> {
+    UpdateCall { additions: &[], added_records: &[], ..*call }
+}
+
+/// The edits with some of their bytes changed where 2, 3 or 4 refuses them.
+fn mended(
+    call: &UpdateCall,
+    r: &mut [u8],
+    n: &mut [u8],
+    (number, mend): (u32, fn(&mut Vec<u8>)),
+) -> Changed {
+    let answer = judge::update(call, r, n);
+    if answer.refusal != number || ![judge::BASE, judge::EDITS].contains(&answer.list) {
+        return answer;
+    }
+    let mut edits = call.edits.to_vec();
+    mend(&mut edits);
+    with_edits(call, &edits, r, n)
+}
+
+fn of_an_edit(answer: Changed) -> bool {
+    answer.refusal != 0 && answer.list == judge::EDITS
+}
+
+/// 02, 5/13: which edits are refused, and with what.
+#[test]
+fn edits_that_are_wrongly_let_through_are_found() {
+    let wrong: [(&str, Updated); 16] = [
+        ("what is not there is passed over", |c, r, n| passing(c, r, n, |_, no, _| no == 23)),
+        ("what is gone is passed over", |c, r, n| {
+            passing(c, r, n, |c, no, at| no == 23 && edit_at(c, at).0.is_some())
+        }),
+        ("what stands beneath a dropped member is passed over", |c, r, n| {
+            passing(c, r, n, |c, no, at| {
+                let (tree, edits) = edits_of(c).expect("4 comes before");
+                let dropped = judge::read_paths(c.deletions, c.request_pool, 2).expect("read");
+                let names = Names::of(&tree);
+                let found: Vec<_> = dropped.iter().flatten().map(|path| names.find(path)).collect();
+                no == 23 && edits[at].0.is_some() && !found.contains(&edits[at].0)
+            })
+        }),
+        ("24 is passed over", |c, r, n| passing(c, r, n, |_, no, _| no == 24)),
+        ("the first rename stays", |c, r, n| {
+            passing(c, r, n, |c, no, at| no == 24 && renamed_before(c, at).is_some())
+        }),
+        ("the second rename wins", |c, r, n| {
+            let answer = judge::update(c, r, n);
+            let again = answer.refusal == 24;
+            match again.then(|| renamed_before(c, answer.place as usize)).flatten() {
+                Some(first) => with_edits(c, &without(c.edits, first), r, n),
+                None => answer,
+            }
+        }),
+        ("the same name again is no rename", |c, r, n| {
+            passing(c, r, n, |c, no, at| {
+                let first = renamed_before(c, at).map(|first| edit_at(c, first).1.change);
+                no == 24 && first == Some(edit_at(c, at).1.change)
+            })
+        }),
+        ("the present name is no rename", |c, r, n| {
+            passing(c, r, n, |c, no, at| {
+                let (row, edit) = edit_at(c, at);
+                let first = renamed_before(c, at);
+                let own = |change: &Change| matches!(change, Change::Rename(name) if row.as_ref().is_some_and(|r| r.name == *name));
+                no == 24 && first.is_some() && own(&edit.change)
+            })
+        }),
+        ("an optional key is relaxed", |c, r, n| {
+            passing(c, r, n, |c, no, at| {
+                let (row, edit) = edit_at(c, at);
+                no == 24
+                    && edit.change == Change::Relax
+                    && row.is_some_and(|row| row.flags & 1 == 0)
+            })
+        }),
+        ("a key is relaxed", |c, r, n| {
+            let answer = judge::update(c, r, n);
+            let relaxes = |at: usize| edit_at(c, at).1.change == Change::Relax;
+            if answer.refusal != 24 || !relaxes(answer.place as usize) {
+                return answer;
+            }
+            let (_, edits) = edits_of(c).expect("4 comes before");
+            let slot = edits[answer.place as usize].0.expect("23 comes before");
+            let mut records = c.records.to_vec();
+            records[slot * RECORD_BYTES + 10] &= !REQUIRED;
+            let edits = without(c.edits, answer.place as usize);
+            judge::update(&UpdateCall { records: &records, edits: &edits, ..*c }, r, n)
+        }),
+        ("a rename of an element, key or value is passed over", |c, r, n| {
+            passing(c, r, n, |c, no, at| {
+                no == 24
+                    && edit_at(c, at).1.change != Change::Relax
+                    && renamed_before(c, at).is_none()
+            })
+        }),
+        ("a dot is passed over", |c, r, n| passing(c, r, n, |_, no, _| no == 13)),
+        ("9 is not asked of what edits leave", |c, r, n| {
+            let free = UpdateCall { identifiers: &[], ..*c };
+            let edited = !c.edits.is_empty();
+            match judge::update(&no_edits(c), &mut r.to_vec(), &mut n.to_vec()).refusal {
+                0 if edited => instead(c, &free, (r, n), |was, _| was.refusal == 9),
+                _ => judge::update(c, r, n),
+            }
+        }),
+        ("65 edits are 64", |c, r, n| {
+            mended(c, r, n, (2, |edits| edits.truncate(64 * EDIT_BYTES)))
+        }),
+        ("edits need not be whole", |c, r, n| {
+            mended(c, r, n, (2, |edits| edits.truncate(edits.len() / EDIT_BYTES * EDIT_BYTES)))
+        }),
+        ("19 is not asked of what edits leave", |c, r, n| {
+            instead(c, &no_edits(c), (r, n), |was, is| was.refusal == 19 && is.refusal == 0)
+        }),
+    ];
+    for (what, updated) in wrong {
+        assert!(failures(Altered { updated, ..right() }) > 0, "{what}");
+    }
+}
+
+/// Too strict a rule for edits, or one byte that is not asked.
+#[test]
+fn edits_that_are_wrongly_read_or_refused_are_found() {
+    let wrong: [(&str, Updated); 12] = [
+        ("a value is not relaxed", |c, r, n| {
+            refused_edit_if(
+                c,
+                r,
+                n,
+                (24, |c, slot, edit| {
+                    edit.change == Change::Relax
+                        && edit.path.ends_with(b"value")
+                        && !is_key(c, slot)
+                }),
+            )
+        }),
+        ("an element is not relaxed", |c, r, n| {
+            refused_edit_if(
+                c,
+                r,
+                n,
+                (24, |_, _, edit| edit.change == Change::Relax && edit.path.ends_with(b".element")),
+            )
+        }),
+        ("what is optional is not relaxed", |c, r, n| {
+            refused_edit_if(
+                c,
+                r,
+                n,
+                (24, |c, slot, edit| {
+                    let flags = c.records[slot * RECORD_BYTES + 10];
+                    edit.change == Change::Relax && flags & REQUIRED == 0
+                }),
+            )
+        }),
+        ("an empty name is refused", |c, r, n| {
+            refused_edit_if(c, r, n, (13, |_, _, edit| edit.change == Change::Rename(vec![])))
+        }),
+        ("what is dropped and stays is gone", |c, r, n| {
+            refused_edit_if(
+                c,
+                r,
+                n,
+                (23, |c, slot, _| {
+                    let (tree, _) = edits_of(c).expect("it was accepted");
+                    let dropped = judge::read_paths(c.deletions, c.request_pool, 2).expect("read");
+                    let names = Names::of(&tree);
+                    let found: Vec<_> =
+                        dropped.iter().flatten().map(|path| names.find(path)).collect();
+                    let up = std::iter::successors(Some(slot), |slot| tree.rows[*slot].parent);
+                    up.into_iter().any(|slot| found.contains(&Some(slot)))
+                }),
+            )
+        }),
+        ("an identifier is not renamed", |c, r, n| {
+            refused_edit_if(
+                c,
+                r,
+                n,
+                (24, |c, slot, edit| {
+                    let id = &c.records[slot * RECORD_BYTES..][..4];
+                    edit.change != Change::Relax
+                        && c.identifiers.chunks_exact(4).any(|one| one == id)
+                }),
+            )
+        }),
+        ("3 does not ask byte 7", |c, r, n| {
+            mended(c, r, n, (3, |edits| edits.chunks_exact_mut(EDIT_BYTES).for_each(|e| e[7] = 0)))
+        }),
+        ("3 does not ask the last bytes", |c, r, n| {
+            mended(
+                c,
+                r,
+                n,
+                (3, |edits| {
+                    edits.chunks_exact_mut(EDIT_BYTES).for_each(|e| e[13..].fill(0));
+                }),
+            )
+        }),
+        ("3 does not ask for a new name of one that relaxes", |c, r, n| {
+            mended(
+                c,
+                r,
+                n,
+                (3, |edits| {
+                    let relaxes = edits.chunks_exact_mut(EDIT_BYTES).filter(|e| e[6] == RELAX);
+                    relaxes.for_each(|e| e[8..13].fill(0));
+                }),
+            )
+        }),
+        ("any other number relaxes", |c, r, n| {
+            mended(
+                c,
+                r,
+                n,
+                (3, |edits| {
+                    let others = edits.chunks_exact_mut(EDIT_BYTES).filter(|e| e[6] > RELAX);
+                    others.for_each(|e| {
+                        e[6] = RELAX;
+                        e[8..13].fill(0);
+                    });
+                }),
+            )
+        }),
+        ("4 does not ask the new name", |c, r, n| {
+            mended(
+                c,
+                r,
+                n,
+                (4, |edits| {
+                    edits.chunks_exact_mut(EDIT_BYTES).for_each(|e| e[8..13].fill(0));
+                }),
+            )
+        }),
+        ("4 asks the length alone", |c, r, n| {
+            mended(
+                c,
+                r,
+                n,
+                (4, |edits| {
+                    edits.chunks_exact_mut(EDIT_BYTES).for_each(|e| {
+                        e[..4].fill(0);
+                        e[8..12].fill(0);
+                    });
+                }),
+            )
+        }),
+    ];
+    for (what, updated) in wrong {
+        assert!(failures(Altered { updated, ..right() }) > 0, "{what}");
+    }
+}
+
+/// What accepted edits change, and where they stand among the rest.
+#[test]
+fn edits_that_are_wrongly_made_or_in_another_order_are_found() {
+    let wrong: [(&str, Updated); 19] = [
+        ("relaxing clears the default", |c, r, n| relaxed_by(c, r, n, |_, is| is & 1)),
+        ("relaxing clears both flags", |c, r, n| relaxed_by(c, r, n, |_, _| 0)),
+        ("relaxing does nothing", |c, r, n| relaxed_by(c, r, n, |was, _| was)),
+        ("relaxing turns the flag", |c, r, n| relaxed_by(c, r, n, |was, _| was ^ REQUIRED)),
+        ("edits are never made", |c, r, n| {
+            instead(c, &no_edits(c), (r, n), |was, is| was.refusal == 0 && is.refusal == 0)
+        }),
+        ("only the first edit is made", |c, r, n| {
+            let first = UpdateCall { edits: c.edits.get(..EDIT_BYTES).unwrap_or(c.edits), ..*c };
+            instead(c, &first, (r, n), |was, is| was.refusal == 0 && is.refusal == 0)
+        }),
+        ("the old name's length stays", |c, r, n| {
+            let mut edits = c.edits.to_vec();
+            for (edit, (slot, of)) in
+                edits.chunks_exact_mut(EDIT_BYTES).zip(edits_of(c).map_or(vec![], |(_, all)| all))
+            {
+                if let (Some(slot), Change::Rename(_)) = (slot, of.change) {
+                    edit[12] = c.records[slot * RECORD_BYTES + 8];
+                }
+            }
+            let other = UpdateCall { edits: &edits, ..*c };
+            instead(c, &other, (r, n), |was, is| was.refusal == 0 && is.refusal == 0)
+        }),
+        ("a path looks in what the edit before it left", one_by_one),
+        ("a rename frees a name for an addition", |c, r, n| {
+            edits_first(c, r, n, |was, _| was.refusal == 17)
+        }),
+        ("a rename takes a name from an addition", |c, r, n| {
+            edits_first(c, r, n, |was, is| was.refusal == 8 && is.refusal == 17)
+        }),
+        ("edits come before the deletions", |c, r, n| {
+            edits_first(c, r, n, |was, is| was.refusal == 0 && is.refusal == 11)
+        }),
+        ("edits come before the additions", |c, r, n| {
+            let rule = |was: Changed, is: Changed| was.list == judge::ADDITIONS && of_an_edit(is);
+            instead(c, &no_additions(c), (r, n), rule)
+        }),
+        ("19 comes before the edits", |c, r, n| {
+            instead(c, &no_edits(c), (r, n), |was, is| of_an_edit(was) && is.refusal == 19)
+        }),
+        ("the rebuilt tree comes before the edits", |c, r, n| {
+            let rule = |was: Changed, is: Changed| of_an_edit(was) && is.list == judge::REBUILT;
+            instead(c, &no_edits(c), (r, n), rule)
+        }),
+        ("3 and 4 of edits come behind the base", |c, r, n| {
+            let rule = |was: Changed, is: Changed| {
+                of_an_edit(was) && was.refusal < 5 && (7..=9).contains(&is.refusal)
+            };
+            instead(c, &no_edits(c), (r, n), rule)
+        }),
+        ("24 comes before 23", |c, r, n| {
+            let all = UpdateCall { deletions: &[], ..no_additions(c) };
+            let rule = |was: Changed, is: Changed| {
+                was.refusal == 23 && is.refusal == 24 && was.place == is.place
+            };
+            instead(c, &all, (r, n), rule)
+        }),
+        ("13 comes before 23 and 24", |c, r, n| match judge::update(c, r, n) {
+            answer if answer.refusal > 22 && has_dot(&edit_at(c, answer.place as usize).1) => {
+                Changed { refusal: 13, ..answer }
+            }
+            answer => answer,
+        }),
+        ("13 of an edit has list 3", |c, r, n| match judge::update(c, r, n) {
+            answer if answer.refusal == 13 => Changed { list: judge::ADDITIONS, ..answer },
+            answer => answer,
+        }),
+        ("the place is the first edit", |c, r, n| match judge::update(c, r, n) {
+            answer if of_an_edit(answer) => Changed { place: 0, ..answer },
+            answer => answer,
+        }),
+    ];
+    for (what, updated) in wrong {
+        assert!(failures(Altered { updated, ..right() }) > 0, "{what}");
+    }
+}
+
 /// A wrong rule for identifiers: which of the conditions are passed over, in which tree.
 type Over = fn(Of, Broken) -> bool;
 
@@ -275,7 +788,7 @@ fn passed_over(case: &Case, identifiers: &[u8], over: Over) -> Option<Vec<u8>> {
 
 fn updated_over(call: &UpdateCall, r: &mut [u8], n: &mut [u8], over: Over) -> Changed {
     let answer = judge::update(call, r, n);
-    let [records, pool, identifiers, deletions, additions, added_records, request_pool] =
+    let [records, pool, identifiers, deletions, additions, added_records, edits, request_pool] =
         call.lists().map(<[u8]>::to_vec);
     let (last_id, out_records, out_names) = (call.last_id, r.len(), n.len());
     let ask = Ask::Update {
@@ -284,6 +797,7 @@ fn updated_over(call: &UpdateCall, r: &mut [u8], n: &mut [u8], over: Over) -> Ch
         deletions,
         additions,
         added_records,
+        edits,
         request_pool,
         out_records,
         out_names,

@@ -110,7 +110,9 @@ fn a_9_of_the_other_tree_is_told() {
             continue;
         }
         let said = |base| Verdict::Refused { number: 9, place, base, text: text.clone() };
-        assert_eq!(agreement(&case, &paper, &said(base)), Agreement::Same, "{title}");
+        let agreed = agreement(&case, &paper, &said(base));
+        let edited = !base && agreed.words() == Some("renaming and relaxing");
+        assert!(agreed == Agreement::Same || edited, "{title}: {agreed}");
         assert_eq!(agreement(&case, &paper, &said(!base)), Agreement::Differ, "{title}");
         if base { bases += 1 } else { others += 1 }
     }
@@ -144,7 +146,9 @@ fn a_word_that_differs_is_told_where_22_is_given_too() {
         let paper = answer(&case);
         // without 22 this one meets a limit, and the crate has none
         let limit = title == "22 before 19";
-        if limit || paper.refusal().is_none_or(|refusal| refusal.number != 22) {
+        // of what stands behind it the crate says nothing
+        let edited = title.ends_with("of an edit");
+        if limit || edited || paper.refusal().is_none_or(|refusal| refusal.number != 22) {
             continue;
         }
         let said = iceberg.verdict(&case);
@@ -166,6 +170,69 @@ fn a_word_that_differs_is_told_where_22_is_given_too() {
         }
     }
     assert!(departures > 20 && others > 1, "{departures} and {others}");
+}
+
+/// Where there are edits the crate builds the tree that they leave, and no other word passes.
+#[test]
+fn a_word_that_differs_is_told_where_there_are_edits() {
+    let Some(iceberg) = iceberg() else { return };
+    let (mut built, mut refused, mut missed) = (0, 0, 0);
+    for Named { title, case, .. } in named() {
+        if case.update_call().is_none_or(|call| call.edits.is_empty()) {
+            continue;
+        }
+        let (paper, said) = (answer(&case), iceberg.verdict(&case));
+        let agreed = agreement(&case, &paper, &said);
+        assert!(agreed != Agreement::Differ, "{title}");
+        if agreed.words() != Some("renaming and relaxing") {
+            continue;
+        }
+        let wrong = match said {
+            Verdict::Answer(Answer::Updated { mut records, names, last_id }) => {
+                // the flags of the last record
+                let Some(at) = records.len().checked_sub(14) else { continue };
+                records[at] ^= 1;
+                built += 1;
+                Verdict::Answer(Answer::Updated { records, names, last_id })
+            }
+            Verdict::Refused { number: 23, place, base, text } => {
+                missed += 1;
+                Verdict::Refused { number: 23, place: place.map(|at| at + 1), base, text }
+            }
+            Verdict::Refused { .. } => {
+                refused += 1;
+                Verdict::Answer(Answer::Updated { records: vec![], names: vec![], last_id: 0 })
+            }
+            other => panic!("{title}: {other:?}"),
+        };
+        assert_eq!(agreement(&case, &paper, &wrong), Agreement::Differ, "{title}");
+    }
+    assert!(built > 50 && refused > 20 && missed > 40, "{built}, {refused} and {missed}");
+}
+
+/// What a refused edit says is put to the crate as far as it goes: its deletions and additions pass
+/// there too, and no column is missed before it.
+#[test]
+fn a_refused_edit_before_which_the_crate_refuses_is_told() {
+    let Some(iceberg) = iceberg() else { return };
+    let mut met = 0;
+    for Named { title, case, .. } in named() {
+        let paper = answer(&case);
+        let Some(Refusal { number: 13 | 24, list: judge::EDITS, place }) = paper.refusal() else {
+            continue;
+        };
+        let agreed = agreement(&case, &paper, &iceberg.verdict(&case));
+        assert_eq!(agreed.words(), Some("24 and 13 of an edit"), "{title}");
+        for number in [11, 15, 17, 23] {
+            let place = Some(if number == 23 { place } else { 0 });
+            let wrong = Verdict::Refused { number, place, base: false, text: String::new() };
+            assert_eq!(agreement(&case, &paper, &wrong), Agreement::Differ, "{title}");
+        }
+        let base = Verdict::Refused { number: 8, place: None, base: true, text: String::new() };
+        assert_eq!(agreement(&case, &paper, &base), Agreement::Differ, "{title}");
+        met += 1;
+    }
+    assert!(met > 50, "{met}");
 }
 
 #[test]

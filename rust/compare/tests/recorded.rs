@@ -22,12 +22,13 @@ fn both_judges_still_give_the_recorded_answers() {
 
 /// The program that replays it without Rust holds a line at a time, and no more than so many bytes
 /// of it. Of the whole list it asks nothing: its bound keeps the checkout small. It was three
-/// million bytes before the identifiers, whose cases of 16 levels need them.
+/// million bytes before the identifiers, whose cases of 16 levels need them; edits need a quarter of
+/// a million more.
 #[test]
 fn the_list_is_plain_and_small() {
     let text = text();
     assert!(text.is_ascii() && text.ends_with('\n'));
-    assert!(text.len() < 3_250_000, "{} bytes", text.len());
+    assert!(text.len() < 3_500_000, "{} bytes", text.len());
     assert!(text.lines().all(|line| line.len() < 131_072));
 }
 

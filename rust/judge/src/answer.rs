@@ -12,9 +12,11 @@ pub const ADDITIONS: u32 = 3;
 pub const REBUILT: u32 = 4;
 /// List number 5: the identifiers.
 pub const IDENTIFIERS: u32 = 5;
+/// List number 6: the edits.
+pub const EDITS: u32 = 6;
 
 /// The last number of a refusal.
-pub const LAST_REFUSAL: u32 = 22;
+pub const LAST_REFUSAL: u32 = 24;
 
 /// Why a request is turned down: its number, the list, and the place in it.
 #[derive(Clone, Copy, Debug, PartialEq, Eq, PartialOrd, Ord)]

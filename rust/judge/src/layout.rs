@@ -1,9 +1,11 @@
-//! The byte layout of records, path entries and id lists.
+//! The byte layout of records, path entries, edits and id lists.
 
 /// Bytes of a record.
 pub const RECORD_BYTES: usize = 24;
 /// Bytes of a path entry.
 pub const ENTRY_BYTES: usize = 8;
+/// Bytes of an edit.
+pub const EDIT_BYTES: usize = 16;
 /// Bytes of an id in a list of ids, and of a slot in a list of slots.
 pub const ID_BYTES: usize = 4;
 
@@ -23,6 +25,11 @@ pub const MAP: u8 = 3;
 pub const REQUIRED: u8 = 1;
 /// Bit 1 of the flags: the column has an initial default.
 pub const DEFAULT: u8 = 2;
+
+/// What an edit does: 1.
+pub const RENAME: u8 = 1;
+/// What an edit does: 2.
+pub const RELAX: u8 = 2;
 
 /// Type code 5.
 pub const FLOAT: u32 = 5;
@@ -51,6 +58,18 @@ pub struct Entry {
     pub length: u16,
     pub has_path: u8,
     pub byte_7: u8,
+}
+
+/// The 16 bytes of an edit, as they stand.
+#[derive(Clone, Copy, Debug)]
+pub struct EditEntry {
+    pub offset: u32,
+    pub length: u16,
+    pub what: u8,
+    pub byte_7: u8,
+    pub name_offset: u32,
+    pub name_length: u8,
+    pub bytes_13: [u8; 3],
 }
 
 fn word(bytes: &[u8], at: usize) -> u32 {
@@ -85,6 +104,22 @@ pub fn entries(bytes: &[u8]) -> Vec<Entry> {
     bytes
         .chunks_exact(ENTRY_BYTES)
         .map(|b| Entry { offset: word(b, 0), length: half(b, 4), has_path: b[6], byte_7: b[7] })
+        .collect()
+}
+
+/// The edits of a list that is a whole number of them.
+pub fn edit_entries(bytes: &[u8]) -> Vec<EditEntry> {
+    bytes
+        .chunks_exact(EDIT_BYTES)
+        .map(|b| EditEntry {
+            offset: word(b, 0),
+            length: half(b, 4),
+            what: b[6],
+            byte_7: b[7],
+            name_offset: word(b, 8),
+            name_length: b[12],
+            bytes_13: [b[13], b[14], b[15]],
+        })
         .collect()
 }
 

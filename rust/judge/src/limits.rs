@@ -1,7 +1,7 @@
 //! refusal 1 and refusal 2: the sizes of what is lent.
 
 use crate::answer::{BASE, Refusal, refuse};
-use crate::layout::{ENTRY_BYTES, ID_BYTES, RECORD_BYTES, records};
+use crate::layout::{EDIT_BYTES, ENTRY_BYTES, ID_BYTES, RECORD_BYTES, records};
 
 /// Most records in a tree.
 pub const MOST_RECORDS: usize = 1_024;
@@ -15,6 +15,8 @@ pub const NAME_SUM: usize = 32_768;
 pub const MOST_DELETIONS: usize = 64;
 /// Most additions.
 pub const MOST_ADDITIONS: usize = 64;
+/// Most edits (02, 5/13).
+pub const MOST_EDITS: usize = 64;
 /// Most identifier ids.
 pub const MOST_IDENTIFIERS: usize = 64;
 /// Most selected ids.
@@ -37,6 +39,7 @@ pub enum Lent<'a> {
     Pool(&'a [u8]),
     Deletions(&'a [u8]),
     Additions(&'a [u8]),
+    Edits(&'a [u8]),
     Identifiers(&'a [u8]),
     Selected(&'a [u8]),
     Asked(&'a [u8]),
@@ -52,6 +55,7 @@ impl Lent<'_> {
             Lent::Pool(b) => b.len() <= POOL_BYTES,
             Lent::Deletions(b) => whole(b, ENTRY_BYTES, MOST_DELETIONS),
             Lent::Additions(b) => whole(b, ENTRY_BYTES, MOST_ADDITIONS),
+            Lent::Edits(b) => whole(b, EDIT_BYTES, MOST_EDITS),
             Lent::Identifiers(b) => whole(b, ID_BYTES, MOST_IDENTIFIERS),
             Lent::Selected(b) => whole(b, ID_BYTES, MOST_SELECTED),
             Lent::Asked(b) => whole(b, ID_BYTES, MOST_ASKED),

@@ -1,7 +1,10 @@
 //! From bytes to a tree: refusal 3 to refusal 6.
 
-use crate::answer::{DELETIONS, Refusal, refuse};
-use crate::layout::{Entry, LIST, MAP, PRIMITIVE, Record, STRUCT, entries, part, records, within};
+use crate::answer::{DELETIONS, EDITS, Refusal, refuse};
+use crate::layout::{
+    EditEntry, Entry, LIST, MAP, PRIMITIVE, RELAX, RENAME, Record, STRUCT, edit_entries, entries,
+    part, records, within,
+};
 use crate::limits::LEVELS;
 use crate::tree::{Row, Tree};
 
@@ -25,6 +28,36 @@ pub fn read_paths(bytes: &[u8], pool: &[u8], list: u32) -> Result<Vec<Option<Vec
     refusal_4_of_entries(&entries, pool, list)?;
     let path = |e: &Entry| (e.has_path == 1).then(|| part(e.offset, e.length.into(), pool));
     Ok(entries.iter().map(path).collect())
+}
+
+/// What an edit asks for (02, 5/13).
+#[derive(Clone, Debug, PartialEq, Eq)]
+pub struct Edit {
+    pub path: Vec<u8>,
+    pub change: Change,
+}
+
+/// The change of one column.
+#[derive(Clone, Debug, PartialEq, Eq)]
+pub enum Change {
+    /// Another name.
+    Rename(Vec<u8>),
+    /// No longer required.
+    Relax,
+}
+
+/// The edits of a list that passed 2, or its first refusal of 3 and 4.
+pub fn read_edits(bytes: &[u8], pool: &[u8]) -> Result<Vec<Edit>, Refusal> {
+    let entries = edit_entries(bytes);
+    refusal_3_of_edits(&entries)?;
+    refusal_4_of_edits(&entries, pool)?;
+    let change = |e: &EditEntry| match e.what {
+        RENAME => Change::Rename(part(e.name_offset, e.name_length.into(), pool)),
+        _ => Change::Relax,
+    };
+    let edit =
+        |e: &EditEntry| Edit { path: part(e.offset, e.length.into(), pool), change: change(e) };
+    Ok(entries.iter().map(edit).collect())
 }
 
 /// refusal 3: a byte rule of a record is broken.
@@ -56,6 +89,19 @@ fn refusal_3_of_entries(entries: &[Entry], list: u32) -> Result<(), Refusal> {
     refuse(3, list, entries.iter().position(broken))
 }
 
+/// refusal 3 for edits: one that relaxes has no new name.
+fn refusal_3_of_edits(entries: &[EditEntry]) -> Result<(), Refusal> {
+    let broken = |e: &EditEntry| {
+        let what = match e.what {
+            RENAME => true,
+            RELAX => e.name_offset == 0 && e.name_length == 0,
+            _ => false,
+        };
+        !what || e.byte_7 != 0 || e.bytes_13 != [0; 3]
+    };
+    refuse(3, EDITS, entries.iter().position(broken))
+}
+
 /// refusal 4: a name has offset + length above its pool's length.
 fn refusal_4(records: &[Record], pool: &[u8], list: u32) -> Result<(), Refusal> {
     let outside = |r: &Record| !within(r.offset, r.length.into(), pool);
@@ -66,6 +112,17 @@ fn refusal_4(records: &[Record], pool: &[u8], list: u32) -> Result<(), Refusal> 
 fn refusal_4_of_entries(entries: &[Entry], pool: &[u8], list: u32) -> Result<(), Refusal> {
     let outside = |e: &Entry| !within(e.offset, e.length.into(), pool);
     refuse(4, list, entries.iter().position(outside))
+}
+
+/// refusal 4 for edits: the path, or the new name. One that relaxes has no new name, which is a
+/// part of every pool.
+fn refusal_4_of_edits(entries: &[EditEntry], pool: &[u8]) -> Result<(), Refusal> {
+    let outside = |e: &EditEntry| {
+        let path = within(e.offset, e.length.into(), pool);
+        let name = within(e.name_offset, e.name_length.into(), pool);
+        !path || !name
+    };
+    refuse(4, EDITS, entries.iter().position(outside))
 }
 
 /// refusal 5: level 17 is reached (place: the first record that stands there), or counts

@@ -1,14 +1,14 @@
-//! Deleting and adding columns: refusal 10 to refusal 19, and refusal 22.
+//! Deleting, adding and editing columns: refusal 10 to refusal 19, and refusal 22 to refusal 24.
 
-use std::collections::HashSet;
+use std::collections::{HashMap, HashSet};
 
-use crate::answer::{ADDED, ADDITIONS, BASE, Changed, DELETIONS, REBUILT, Refusal, refuse};
+use crate::answer::{ADDED, ADDITIONS, BASE, Changed, DELETIONS, EDITS, REBUILT, Refusal, refuse};
 use crate::index::{Names, refusal_7, refusal_8, refusal_9};
 use crate::layout::{DEFAULT, LIST, MAP, REQUIRED, STRUCT, ids};
 use crate::limits::{
     LEVELS, Lent, MOST_RECORDS, NAME_SUM, OUT_NAMES, OUT_RECORDS, refusal_1, refusal_2,
 };
-use crate::read::{read_paths, read_tree};
+use crate::read::{Change, Edit, read_edits, read_paths, read_tree};
 use crate::tree::{Node, Tree};
 use crate::write::write;
 
@@ -23,6 +23,7 @@ pub struct UpdateCall<'a> {
     pub deletions: &'a [u8],
     pub additions: &'a [u8],
     pub added_records: &'a [u8],
+    pub edits: &'a [u8],
     pub request_pool: &'a [u8],
 }
 
@@ -35,7 +36,7 @@ enum Beneath {
     Refused,
 }
 
-/// The tree after the deletions and additions, and the last id consumed.
+/// The tree after the deletions, additions and edits, and the last id consumed.
 pub fn update(call: &UpdateCall, out_records: &mut [u8], out_names: &mut [u8]) -> Changed {
     update_by(Beneath::Refused, call, out_records, out_names)
 }
@@ -64,7 +65,7 @@ fn update_by(
 
 impl<'a> UpdateCall<'a> {
     /// Its lists.
-    pub fn lists(&self) -> [&'a [u8]; 7] {
+    pub fn lists(&self) -> [&'a [u8]; 8] {
         let UpdateCall {
             records,
             pool,
@@ -73,14 +74,16 @@ impl<'a> UpdateCall<'a> {
             deletions,
             additions,
             added_records,
+            edits,
             request_pool,
         } = *self;
-        [records, pool, identifiers, deletions, additions, added_records, request_pool]
+        [records, pool, identifiers, deletions, additions, added_records, edits, request_pool]
     }
 
     /// The same call with other lists.
-    pub fn with_lists<'b>(&self, lists: [&'b [u8]; 7]) -> UpdateCall<'b> {
-        let [records, pool, identifiers, deletions, additions, added_records, request_pool] = lists;
+    pub fn with_lists<'b>(&self, lists: [&'b [u8]; 8]) -> UpdateCall<'b> {
+        let [records, pool, identifiers, deletions, additions, added_records, edits, request_pool] =
+            lists;
         UpdateCall {
             records,
             pool,
@@ -89,19 +92,21 @@ impl<'a> UpdateCall<'a> {
             deletions,
             additions,
             added_records,
+            edits,
             request_pool,
         }
     }
 
-    /// The order of 01: 2 for everything; base 3 to 6; additions tree 3 to 6; deletion
-    /// entries 3, 4; addition entries 3, 4; base 7 to 9; 10; deletions one at a time;
-    /// additions one at a time; 19; rebuilt tree 7 to 9.
+    /// The order of 01 and 02: 2 for everything; base 3 to 6; additions tree 3 to 6; deletion
+    /// entries 3, 4; addition entries 3, 4; edits 3, 4; base 7 to 9; 10; deletions one at a time;
+    /// additions one at a time; edits one at a time; 19; rebuilt tree 7 to 9.
     fn updated(&self, beneath: Beneath) -> Result<(Tree, i32), Refusal> {
         self.limits()?;
         let base = read_tree(self.records, self.pool, BASE)?;
         let added = read_tree(self.added_records, self.request_pool, ADDED)?;
         let deletions = read_paths(self.deletions, self.request_pool, DELETIONS)?;
         let additions = read_paths(self.additions, self.request_pool, ADDITIONS)?;
+        let edits = read_edits(self.edits, self.request_pool)?;
         let identifiers = ids(self.identifiers);
         refusal_7(&base, BASE)?;
         refusal_8(&base, BASE)?;
@@ -110,9 +115,14 @@ impl<'a> UpdateCall<'a> {
         let names = Names::of(&base);
         let dropped = dropped(&base, &names, &identifiers, &deletions)?;
         let last_id = self.last_id;
-        let mut plan = Plan { beneath, base: &base, names, dropped, last_id, placed: vec![] };
+        let (placed, renamed, relaxed) = (vec![], HashMap::new(), HashSet::new());
+        let mut plan =
+            Plan { beneath, base: &base, names, dropped, last_id, placed, renamed, relaxed };
         for (place, (path, column)) in additions.iter().zip(added.nodes()).enumerate() {
             plan.add(place, path.as_deref(), column)?;
+        }
+        for (place, edit) in edits.iter().enumerate() {
+            plan.edit(place, edit)?;
         }
         let rebuilt = Tree::of(&plan.members(&base.roots, None));
         refusal_19(&rebuilt)?;
@@ -130,6 +140,7 @@ impl<'a> UpdateCall<'a> {
             Lent::Deletions(self.deletions),
             Lent::Additions(self.additions),
             Lent::Tree(self.added_records),
+            Lent::Edits(self.edits),
             Lent::Pool(self.request_pool),
         ])
     }
@@ -167,9 +178,9 @@ fn refusal_12(id: i32, identifiers: &[i32], place: usize) -> Result<(), Refusal>
     refuse(12, DELETIONS, identifiers.contains(&id).then_some(place))
 }
 
-/// refusal 13: the added column's own name has a dot.
-fn refusal_13(column: &Node, place: usize) -> Result<(), Refusal> {
-    refuse(13, ADDITIONS, column.name.contains(&b'.').then_some(place))
+/// refusal 13: the added column's own name, or the new name of an edit, has a dot.
+fn refusal_13(name: &[u8], list: u32, place: usize) -> Result<(), Refusal> {
+    refuse(13, list, name.contains(&b'.').then_some(place))
 }
 
 /// refusal 14: the added column is required, without initial default.
@@ -222,12 +233,16 @@ struct Plan<'a> {
     last_id: i32,
     /// Each accepted column with the slot of its receiving struct; none is the root.
     placed: Vec<(Option<usize>, Node)>,
+    /// The new names of base columns, by their slots.
+    renamed: HashMap<usize, Vec<u8>>,
+    /// The slots of base columns that are relaxed.
+    relaxed: HashSet<usize>,
 }
 
 impl Plan<'_> {
     /// One addition: 13 to 16, 22, 17 and 18 in this order, then its ids.
     fn add(&mut self, place: usize, path: Option<&[u8]>, mut column: Node) -> Result<(), Refusal> {
-        refusal_13(&column, place)?;
+        refusal_13(&column.name, ADDITIONS, place)?;
         refusal_14(&column, place)?;
         let receiver = match path {
             None => None,
@@ -247,18 +262,65 @@ impl Plan<'_> {
         Ok(())
     }
 
+    /// One edit: 23, 24 and 13 in this order, then what it changes.
+    fn edit(&mut self, place: usize, edit: &Edit) -> Result<(), Refusal> {
+        let slot = self.refusal_23(&edit.path, place)?;
+        self.refusal_24(slot, &edit.change, place)?;
+        match &edit.change {
+            Change::Rename(name) => {
+                refusal_13(name, EDITS, place)?;
+                self.renamed.insert(slot, name.clone());
+            }
+            Change::Relax => {
+                self.relaxed.insert(slot);
+            }
+        }
+        Ok(())
+    }
+
     fn is_dropped(&self, slot: usize) -> bool {
         self.dropped.contains(&self.base.rows[slot].id)
     }
 
-    /// refusal 22: the receiving struct, or any record above it, is dropped as a member of a
-    /// struct or of the root. A dropped element, key or value stays, and is no reason.
+    fn above(&self, slot: usize) -> Option<usize> {
+        self.base.rows[slot].parent
+    }
+
+    /// Is it a root or a member of a struct, and so no element, key or value?
+    fn is_member(&self, slot: usize) -> bool {
+        self.above(slot).is_none_or(|above| self.base.rows[above].kind == STRUCT)
+    }
+
+    /// Is the record, or any above it, dropped as a member of a struct or of the root? A dropped
+    /// element, key or value stays, and is no reason.
+    fn goes(&self, slot: usize) -> bool {
+        let mut path = std::iter::successors(Some(slot), |slot| self.above(*slot));
+        path.any(|slot| self.is_member(slot) && self.is_dropped(slot))
+    }
+
+    /// refusal 22: the receiving struct goes.
     fn refusal_22(&self, receiver: usize, place: usize) -> Result<(), Refusal> {
-        let above = |slot: &usize| self.base.rows[*slot].parent;
-        let member = |slot: usize| above(&slot).is_none_or(|p| self.base.rows[p].kind == STRUCT);
-        let mut path = std::iter::successors(Some(receiver), above);
-        let goes = path.any(|slot| member(slot) && self.is_dropped(slot));
-        refuse(22, ADDITIONS, goes.then_some(place))
+        refuse(22, ADDITIONS, self.goes(receiver).then_some(place))
+    }
+
+    /// refusal 23: no surviving column. The path finds nothing in the base, or what goes.
+    fn refusal_23(&self, path: &[u8], place: usize) -> Result<usize, Refusal> {
+        let found = self.names.find(path).filter(|slot| !self.goes(*slot));
+        found.ok_or(Refusal::new(23, EDITS, place))
+    }
+
+    /// refusal 24: a forbidden role: a rename of an element, key or value, a relaxing of a key; or
+    /// a second rename of the same column.
+    fn refusal_24(&self, slot: usize, change: &Change, place: usize) -> Result<(), Refusal> {
+        let key = |above: usize| {
+            let row = &self.base.rows[above];
+            row.kind == MAP && row.children[0] == slot
+        };
+        let forbidden = match change {
+            Change::Rename(_) => !self.is_member(slot) || self.renamed.contains_key(&slot),
+            Change::Relax => self.above(slot).is_some_and(key),
+        };
+        refuse(24, EDITS, forbidden.then_some(place))
     }
 
     /// refusal 17: the name is taken. At the root if look-up finds it undeleted. Under a
@@ -291,14 +353,21 @@ impl Plan<'_> {
         members
     }
 
-    /// A record that stays. A dropped list element, key or value stays too.
+    /// A record that stays, with its edits. A dropped list element, key or value stays too.
     fn record(&self, slot: usize) -> Node {
         let row = &self.base.rows[slot];
         let inside = match row.kind {
             STRUCT => self.members(&row.children, Some(slot)),
             _ => row.children.iter().map(|child| self.record(*child)).collect(),
         };
-        self.base.with(slot, inside)
+        let mut record = self.base.with(slot, inside);
+        if let Some(name) = self.renamed.get(&slot) {
+            record.name = name.clone();
+        }
+        if self.relaxed.contains(&slot) {
+            record.flags &= !REQUIRED;
+        }
+        record
     }
 }
 

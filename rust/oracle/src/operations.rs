@@ -7,11 +7,11 @@ use std::panic::{AssertUnwindSafe, catch_unwind};
 use std::sync::{Arc, Once};
 
 use cases::{Answer, Ask, Case};
-use judge::{NO_SLOT, Node};
+use judge::{NO_SLOT, Node, REQUIRED};
 
 use crate::Error;
-use crate::fields::{Unfit, bytes, fields, ids, nodes, nodes_of};
-use crate::request::Request;
+use crate::fields::{Unfit, bytes, fields, ids, nodes, nodes_of, text};
+use crate::request::{Edit, Request, edits};
 use crate::spec::beside::id_reassigner::ReassignFieldIds;
 use crate::spec::beside::index::index_parents;
 use crate::spec::{NestedFieldRef, Schema, Type, prune_columns};
@@ -126,7 +126,8 @@ pub fn verdict(case: &Case) -> Verdict {
 /// Builds and operates without a word on it.
 pub fn operate(case: &Case) -> bool {
     match &case.ask {
-        Ask::Update { .. } => committed(case).is_ok(),
+        // the crate has no edits to measure
+        Ask::Update { edits, .. } => edits.is_empty() && committed(case).is_ok(),
         Ask::Prune { .. } => pruned(case).is_ok(),
         Ask::Renumber { .. } => renumbered(case).is_ok(),
         Ask::Name(name) => id_of(case, name, EXACT).is_ok_and(|id| id.is_some()),
@@ -170,16 +171,101 @@ fn committed(case: &Case) -> Stop<Schema> {
 fn update(case: &Case) -> Stop<Answer> {
     let (table, request, last_id) = update_parts(case)?;
     let action = fit(request.action())?;
+    let edits = edits_of(case)?;
     match run(|| action.commit(&table), false) {
-        Ok(schema) => {
-            let (records, names) = bytes(&nodes_of(schema.as_struct().fields()));
-            // the crate's counter is a local variable that moves on with every added record
-            let last_id = (i64::from(last_id) + request.added() as i64) as i32;
-            Ok(Answer::Updated { records, names, last_id })
-        }
         Err(verdict) if of_the_request(&verdict) => Err(placed(verdict, &table, &request)?),
+        // whatever the rebuilt tree was, the edited one is another
+        _ if !edits.is_empty() => update_edited(case, &request, last_id, &edits),
+        Ok(schema) => Ok(updated(&schema, last_id, &request)),
         Err(verdict) => Err(verdict),
     }
+}
+
+fn updated(schema: &Schema, last_id: i32, request: &Request) -> Answer {
+    let (records, names) = bytes(&nodes_of(schema.as_struct().fields()));
+    // the crate's counter is a local variable that moves on with every added record
+    let last_id = (i64::from(last_id) + request.added() as i64) as i32;
+    Answer::Updated { records, names, last_id }
+}
+
+fn edits_of(case: &Case) -> Stop<Vec<Edit>> {
+    match &case.ask {
+        Ask::Update { edits: list, request_pool, .. } => fit(edits(list, request_pool)),
+        _ => Ok(vec![]),
+    }
+}
+
+/// The crate has no edits. They are made here, on the tree that its own commit rebuilds, of the
+/// columns that its own look-up finds in the base; then its builder is asked. The commit is given
+/// other names and ids for what is added, and no identifiers, so that the tree before the edits,
+/// which nobody asks for, is not turned down.
+fn update_edited(case: &Case, request: &Request, last_id: i32, edits: &[Edit]) -> Stop<Answer> {
+    let base = build(case, &[])?;
+    let free = free_ids(&base_ids(case), request.added() as i32);
+    let (stand_in, names) = request.with_other_names();
+    let action = fit(stand_in.action())?;
+    let rebuilt = run(|| action.commit(&Table::new(base.clone(), free)), false)?;
+    let mut roots = nodes_of(rebuilt.as_struct().fields());
+    let mut edited = vec![];
+    for (place, edit) in edits.iter().enumerate() {
+        let path = fit(text(&edit.path))?;
+        let found = base.field_by_name(&path).map(|field| field.id);
+        let column = found.and_then(|id| find(&mut roots, &|node| node.id == id));
+        let column = column.ok_or_else(|| no_column(place))?;
+        match &edit.name {
+            Some(name) => column.name = name.clone(),
+            None => column.flags &= !REQUIRED,
+        }
+        edited.push(column.id);
+    }
+    // those of the base are far from them
+    for (at, name) in names.into_iter().enumerate() {
+        let given = free + 1 + at as i32;
+        if let Some(column) = find(&mut roots, &|node| node.id == given) {
+            column.name = name;
+        }
+    }
+    own_ids(&mut roots, free, request.added() as i32, last_id);
+    let Ask::Update { identifiers, .. } = &case.ask else { unreachable!("it is an update") };
+    let (fields, identifiers) = (fit(fields(&roots))?, fit(ids(identifiers))?);
+    let builder = Schema::builder().with_fields(fields);
+    let schema = run(|| builder.with_identifier_field_ids(identifiers).build(), false)?;
+    for id in edited {
+        let name = schema.name_by_field_id(id).expect("every record has a name");
+        let found = schema.field_by_name(name).map(|field| field.id);
+        assert_eq!(found, Some(id), "an edited column by its full name");
+    }
+    Ok(updated(&schema, last_id, request))
+}
+
+/// What 23 says, by the crate's own look-up and rebuilding.
+fn no_column(place: usize) -> Verdict {
+    let text = "an edit of a column that is not there".to_string();
+    Verdict::Refused { number: 23, place: Some(place as u32), base: false, text }
+}
+
+/// A number with so many behind it that are ids of none of these.
+fn free_ids(known: &[i32], count: i32) -> i32 {
+    let mut starts = (0..).map(|k| k * 2_048);
+    let apart = |start: &i32| !known.iter().any(|id| (start + 1..=start + count).contains(id));
+    starts.find(apart).expect("1,024 ids are in as many of these ranges at most")
+}
+
+/// Those that were given from `free` on get the ids that the update gives them.
+fn own_ids(nodes: &mut [Node], free: i32, count: i32, last_id: i32) {
+    for node in nodes {
+        if (free + 1..=free + count).contains(&node.id) {
+            node.id = last_id + (node.id - free);
+        }
+        own_ids(&mut node.inside, free, count, last_id);
+    }
+}
+
+fn find<'a>(nodes: &'a mut [Node], is: &dyn Fn(&Node) -> bool) -> Option<&'a mut Node> {
+    nodes.iter_mut().find_map(|node| match is(node) {
+        true => Some(node),
+        false => find(&mut node.inside, is),
+    })
 }
 
 /// Does a verdict speak of the request, and not of the rebuilt tree?

@@ -2,7 +2,7 @@
 
 use std::sync::Arc;
 
-use judge::{ENTRY_BYTES, Node};
+use judge::{EDIT_BYTES, ENTRY_BYTES, Node, RELAX, RENAME, STRUCT};
 
 use crate::fields::{Unfit, field, nodes, text};
 use crate::spec::Schema;
@@ -18,6 +18,12 @@ pub struct Request {
     pub deletions: Vec<Vec<u8>>,
     /// The parent's path, none for the root, and the new column.
     pub additions: Vec<(Option<Vec<u8>>, Node)>,
+}
+
+/// An edit, unpacked: its path, and the new name; one without relaxes.
+pub struct Edit {
+    pub path: Vec<u8>,
+    pub name: Option<Vec<u8>>,
 }
 
 type Path = Option<Vec<u8>>;
@@ -39,6 +45,28 @@ fn path(e: &[u8], pool: &[u8]) -> std::result::Result<Path, Unfit> {
             None => Err("a path outside its pool"),
         },
         _ => Err("a byte rule of an entry"),
+    }
+}
+
+/// The edits of these bytes.
+pub fn edits(bytes: &[u8], pool: &[u8]) -> std::result::Result<Vec<Edit>, Unfit> {
+    if !bytes.len().is_multiple_of(EDIT_BYTES) {
+        return Err("no whole number of edits");
+    }
+    bytes.chunks_exact(EDIT_BYTES).map(|edit| one_edit(edit, pool)).collect()
+}
+
+fn one_edit(e: &[u8], pool: &[u8]) -> std::result::Result<Edit, Unfit> {
+    let word = |at: usize| u32::from_le_bytes([e[at], e[at + 1], e[at + 2], e[at + 3]]) as usize;
+    let part = |offset: usize, length: usize| {
+        pool.get(offset..offset + length).map(<[u8]>::to_vec).ok_or("an edit outside its pool")
+    };
+    let path = part(word(0), u16::from_le_bytes([e[4], e[5]]).into())?;
+    let name = part(word(8), e[12].into())?;
+    match (e[6], e[7], &e[13..]) {
+        (RENAME, 0, [0, 0, 0]) => Ok(Edit { path, name: Some(name) }),
+        (RELAX, 0, [0, 0, 0]) if e[8..13] == [0; 5] => Ok(Edit { path, name: None }),
+        _ => Err("a byte rule of an edit"),
     }
 }
 
@@ -69,6 +97,22 @@ impl Request {
             deletions: self.deletions[..deletions].to_vec(),
             additions: self.additions[..entries - deletions].to_vec(),
         }
+    }
+
+    /// The same request with other names for the added members, which no other column has: longer
+    /// than a record's, and without a dot. Answers the true names too, in preorder.
+    pub fn with_other_names(&self) -> (Request, Vec<Vec<u8>>) {
+        fn rename(node: &mut Node, member: bool, names: &mut Vec<Vec<u8>>) {
+            names.push(node.name.clone());
+            if member {
+                node.name = format!("{:0256}", names.len()).into_bytes();
+            }
+            let members = node.kind == STRUCT;
+            node.inside.iter_mut().for_each(|child| rename(child, members, names));
+        }
+        let (mut other, mut names) = (self.clone(), vec![]);
+        other.additions.iter_mut().for_each(|(_, column)| rename(column, true, &mut names));
+        (other, names)
     }
 
     /// Records in the additions tree.

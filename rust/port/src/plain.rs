@@ -29,6 +29,7 @@ impl Operations for Port {
             call.deletions,
             call.additions,
             call.added_records,
+            call.edits,
             call.request_pool,
             r,
             n,

@@ -4,8 +4,8 @@ use std::sync::atomic::{AtomicUsize, Ordering};
 
 use braidhurdle::c;
 use cases::{
-    Ask, ByJudge, Case, Generator, Sizes, answer, ask_of, ids_by, list_of, lists, outcome, packed,
-    prim, prune_by, renumber_by, strukt, the_tree, update_of,
+    Ask, ByJudge, Case, Generator, Sizes, answer, ask_of, edited, ids_by, list_of, lists, map_of,
+    outcome, packed, prim, prune_by, relax, rename, renumber_by, strukt, the_tree, update_of,
 };
 use judge::{DEFAULT, Node, REQUIRED};
 use port::{Guarded, absent, beside_paper};
@@ -39,8 +39,10 @@ fn asked_of_t() -> Vec<Case> {
     let [node, visits, parts] = the_tree().try_into().expect("T has three roots");
     let under = [strukt(20, "s", vec![prim(21, "m")])];
     let two = [(Some("visits"), prim(0, "hour")), (None, prim(0, "floor"))];
+    let edits = [rename("visits.day", "date"), relax("parts"), rename("node", "hour")];
     vec![
         update_of(&keyed_t(), &[4], 10, &["node.cost"], &two),
+        edited(update_of(&keyed_t(), &[4], 10, &[], &two[..1]), &edits),
         update_of(&under, &[], 21, &["s.m"], &[(None, node), (Some("s"), visits), (None, parts)]),
         prune_by(base(), &[7, 9], false),
         prune_by(base(), &[2, 4], true),
@@ -112,6 +114,40 @@ fn one_byte_makes_a_parent_go() {
     }
 }
 
+/// Edits of which a byte can break a rule: beside a dropped column and an added one, of a map with a
+/// required key, and of an identifier that is required.
+fn nearly_edited() -> Case {
+    let map = map_of(3, "m", required(prim(4, "key")), required(prim(5, "value")));
+    let base = [required(prim(1, "a")), prim(2, "b"), map, required(prim(6, "c"))];
+    let case = update_of(&base, &[1], 6, &["b"], &[(None, prim(0, "d"))]);
+    edited(case, &[rename("a", "e"), relax("m.value"), rename("c", "b"), relax("c")])
+}
+
+#[test]
+fn one_byte_breaks_an_edit() {
+    // the request pool holds: b, d, a, e, m.value, c, b, c
+    let pool = b"bdaem.valuecbc";
+    for (at, byte, told) in [
+        (2, b'b', (23, 6, 0)),
+        (2, b'x', (23, 6, 0)),
+        (2, b'c', (24, 6, 2)),
+        (3, b'.', (13, 6, 0)),
+        (3, b'd', (8, 4, 5)),
+        (3, b'm', (8, 4, 1)),
+        (11, b'e', (23, 6, 2)),
+        (12, b'e', (8, 4, 4)),
+        (13, b'a', (9, 5, 0)),
+        (13, b'b', (23, 6, 3)),
+    ] {
+        let mut case = nearly_edited();
+        let Ask::Update { request_pool, .. } = &mut case.ask else { panic!("an update") };
+        assert_eq!(request_pool, pool);
+        request_pool[at] = byte;
+        let refusal = answer(&case).refusal().map(|r| (r.number, r.list, r.place));
+        assert_eq!(refusal, Some(told), "byte {at}: {byte}");
+    }
+}
+
 /// Identifiers of which a byte can break a condition: of a column or of what is above it, in a base
 /// and in a rebuilt tree, where an id is given again beneath two structs.
 fn nearly_broken() -> Vec<Case> {
@@ -174,7 +210,8 @@ fn trees_damaged_in_every_byte_get_the_texts_answer_from_every_entry() {
         println!("T was not put to the port: {why}");
         return;
     }
-    let nearly = [nearly_ambiguous(), nearly_equal(), vec![nearly_gone()], nearly_broken()];
+    let nearly =
+        [nearly_ambiguous(), nearly_equal(), vec![nearly_gone(), nearly_edited()], nearly_broken()];
     let cases = [asked_of_t(), nearly.concat()].concat();
     let next = AtomicUsize::new(0);
     let threads = std::thread::available_parallelism().map_or(1, usize::from);

@@ -1,6 +1,7 @@
 //! The cases that stand in the recorded list by name, each with the answer that it must have.
 
 mod dropped;
+mod edits;
 mod faults;
 mod folded;
 mod found;
@@ -10,7 +11,7 @@ mod limits;
 mod readings;
 mod worked;
 
-use judge::{DEFAULT, NO_SLOT, Node, REQUIRED, Refusal};
+use judge::{DEFAULT, NO_SLOT, Node, REQUIRED, Refusal, read_tree};
 
 use crate::build::{
     ask_of, ids_by, list_of, map_of, packed, prim, prune_by, renumber_by, strukt, update_of,
@@ -34,6 +35,8 @@ pub enum Expected {
     Ids(Vec<i32>),
     /// Accepted, with these ids and this last id.
     Last(Vec<i32>, i32),
+    /// Accepted, with these ids, names and flags in slot order.
+    Columns(Vec<(i32, String, u8)>),
     /// Accepted, with so many records.
     Count(usize),
     /// Id and slot.
@@ -60,6 +63,12 @@ impl Expected {
             (Expected::Last(want, last), Answer::Updated { records, last_id, .. }) => {
                 ids(records) == *want && last_id == last
             }
+            (Expected::Columns(want), Answer::Updated { records, names, .. }) => {
+                let tree = read_tree(records, names, judge::REBUILT).expect("an answer is read");
+                let shown = |row: &judge::Row| (row.id, row.name.clone(), row.flags);
+                let want = want.iter().map(|(id, name, flags)| (*id, name.clone().into(), *flags));
+                tree.rows.iter().map(shown).eq(want)
+            }
             (Expected::Count(want), answer) => {
                 answer.records().map(|records| records.len() / 24) == Some(*want)
             }
@@ -78,7 +87,7 @@ impl Expected {
 
 /// Every named case: the worked tree, the readings, the limits, faults two at a time, what
 /// iceberg's own code decided, the look-up that forgets case, that of many ids, additions beneath
-/// what is dropped, and the columns that can be identifiers.
+/// what is dropped, the columns that can be identifiers, and edits.
 pub fn named() -> Vec<Named> {
     let mut all = Cases(vec![]);
     worked::put(&mut all);
@@ -90,6 +99,7 @@ pub fn named() -> Vec<Named> {
     ids::put(&mut all);
     dropped::put(&mut all);
     identifiers::put(&mut all);
+    edits::put(&mut all);
     all.0
 }
 

@@ -9,8 +9,7 @@ pub replay-spec : {M : Type 1} → statement M
 replay-spec =
     tie.close
     (tie.spec
-    (λ c. search needs)  -- slice-aggregate-readable
-    (λ c κs. search needs)  -- readable-requires
+    (λ c κs. search needs)  -- is-update-requires
     (λ c. search needs)  -- returns
     (λ c κs. search needs)  -- field-requires
     (λ c κs. search needs)  -- number-requires
