@@ -11,11 +11,12 @@ use lib.Seq.{getD-set-same, getD-set-other}
 use borrow.Author.Tests.{ne-eqb, eqb-true, eqb-false, ltb-true, ltb-false, leb-true, leb-false, lt-ltb, le-ltb, le-leb, lt-leb}
 use Rattle.paper.specs.Answer.{any}
 use Rattle.paper.specs.Bytes.{rec-at, name-of, field-at, in-pool}
-use Rattle.paper.specs.Edits.{Change, rename, relax, Edited, is-rename, renamed, relaxed, with-change, edit-field, edit-fields}
+use Rattle.paper.specs.Edits.{Change, rename, relax, Edited, is-rename, renamed, relaxed, with-change, edit-fields}
 use Rattle.paper.specs.Field.{Field, with-name, with-flags}
 use Rattle.paper.specs.Forest.{preorder}
 use Rattle.paper.specs.Lists.{edit-at, edit-in, new-name, edit-of}
 use Rattle.laws.proofs.Basics.{distinct-one, eqb-self}
+use Rattle.laws.proofs.Edited.{edits-keep-id, edits-append}
 use Rattle.record.specs.Trees.{Trees}
 use Rattle.plan.specs.Plan.{Sits, source-field, edited-slot, mark-of, renaming, marked-name, marked-flags, marked-field}
 use Rattle.update_gone.specs.Gone.{base-slots, slot-id, Rises}
@@ -24,21 +25,6 @@ use Rattle.update_edits.specs.Edit.{Named, Tells, edited-at, change-of}
 use Rattle.update_edits.specs.Marks.{mark-with, marked-by, as-marked, marked, Carries}
 
 -- ---- one edit more
-
-edit-more : (es : List Edited) (e : Edited) (f : Field) → edit-fields (es ++ (e ∷ [])) f ≡ edit-field e (edit-fields es f)
-unfolding edit-fields
-edit-more [] e f = refl
-edit-more (d ∷ es) e f = edit-more es e (edit-field d f)
-
-change-id : (b : Bool) (c : Change) (f : Field) → cond b (with-change c f) f .id ≡ f .id
-change-id false c f = refl
-change-id true (rename name) f = refl
-change-id true relax f = refl
-
-pub edit-fields-id : (es : List Edited) (f : Field) → edit-fields es f .id ≡ f .id
-unfolding edit-fields
-edit-fields-id [] f = refl
-edit-fields-id (e ∷ es) f = edit-fields-id es (edit-field e f) ∙ change-id (eqb (e .id) (f .id)) (e .change) f
 
 renamed-more : (i : ℕ) (es : List Edited) (e : Edited) → renamed i (es ++ (e ∷ [])) ≡ (renamed i es || (eqb i (e .id) && is-rename (e .change)))
 renamed-more i [] e = or-false (eqb i (e .id) && is-rename (e .change))
@@ -220,19 +206,21 @@ module _ {l : Trees} {n : ℕ} {marks : List ℕ} {decided : List Edited} (C : C
 
   id-is : (s : ℕ) → edit-fields decided (fld s) .id ≡ slot-id (l .records) s
   unfolding field-at
-  id-is s = edit-fields-id decided (fld s)
+  id-is s = edits-keep-id decided (fld s)
 
   small : (s : ℕ) → s < n → s < 1024
   small s h = let w = R .small in omega arith
 
   own : edit-fields (decided ++ (edited ∷ [])) (fld slot) ≡ with-change change (edit-fields decided (fld slot))
-  own = edit-more decided edited (fld slot) ∙ rw (id-is slot, eqb-self (slot-id (l .records) slot))
+  unfolding edit-fields
+  own = edits-append decided (edited ∷ []) (fld slot) ∙ rw (id-is slot, eqb-self (slot-id (l .records) slot))
 
   apart : (s : ℕ) → s < n → (s ≡ slot → ⊥) → slot-id (l .records) slot ≡ slot-id (l .records) s → ⊥
   apart s h d e = d (sym (distinct-one (slot-id (l .records)) (preorder (base-slots (l .records) n)) (R .own) slot s (there R slot i) (there R s h) e))
 
   other : (s : ℕ) → s < n → (s ≡ slot → ⊥) → edit-fields (decided ++ (edited ∷ [])) (fld s) ≡ edit-fields decided (fld s)
-  other s h d = edit-more decided edited (fld s) ∙ rw (id-is s, ne-eqb (slot-id (l .records) slot) (slot-id (l .records) s) (apart s h d))
+  unfolding edit-fields
+  other s h d = edits-append decided (edited ∷ []) (fld s) ∙ rw (id-is s, ne-eqb (slot-id (l .records) slot) (slot-id (l .records) s) (apart s h d))
 
   abbrev marks′ : List ℕ
   marks′ = set marks slot (marked-by (l .edits) k old)

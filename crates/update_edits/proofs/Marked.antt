@@ -2,23 +2,23 @@
 use Prim.Native.Nat.{ℕ, suc, _+_, _<_, _≤_}
 use mathlib.Core.Path.{_≡_, refl, sym, ap, subst, _∙_}
 use mathlib.Core.Logic.{_⊎_, inl, inr}
-use mathlib.Core.Bool.{Bool, true, false, cond}
+use mathlib.Core.Bool.{Bool}
 use mathlib.Core.List.{List, [], _∷_, map, map-map}
 use mathlib.Core.Option.{Option}
 use native.Mathlib.Nat.{add-zero}
 use native.Mathlib.Omega.{arith}
 use borrow.Author.Tests.{lt-ltb}
-use lib.Dec.{eqb}
 use lib.ListN.{length, getD, drop, length-map}
 use lib.Seq.{sets, length-sets, drop-append-seam}
 use Rattle.paper.specs.declared.Kind.{Kind}
 use Rattle.paper.specs.Answer.{among}
 use Rattle.paper.specs.Bytes.{turned, kind-at, field-at, from}
 use Rattle.paper.specs.Decode.{fields}
-use Rattle.paper.specs.Edits.{Change, rename, relax, Edited, with-change, edit-field, edit-fields, edited-tree}
+use Rattle.paper.specs.Edits.{Edited, edit-fields, edited-tree}
 use Rattle.paper.specs.Field.{Field, id-of, kind-of, with-id}
 use Rattle.paper.specs.Forest.{Forest, empty, node, size, preorder, mapped}
 use Rattle.paper.specs.Rebuild.{Addition, rebuilt}
+use Rattle.laws.proofs.Edited.{edits-keep-id, edits-keep-kind}
 use Rattle.laws.proofs.Natural.{mapped-all, rebuilt-mapped}
 use Rattle.laws.proofs.Pointwise.{Each, All, each-more, each-mapped, mapped-same, rebuilt-same}
 use Rattle.laws.proofs.Preorder.{length-preorder, preorder-mapped, counts-mapped, mapped-mapped}
@@ -29,7 +29,6 @@ use Rattle.plan.specs.Plan.{Source, slot-of, bits-of, source-field, planned-fie
 use Rattle.plan.specs.Sources.{own-source}
 use Rattle.plan.specs.Table.{sources, numbers, members, LaidIn}
 use Rattle.update_edits.specs.Marks.{marked, remarked, remark, Carries, RemarkedIn}
-use Rattle.update_edits.proofs.Carrying.{edit-fields-id}
 use Rattle.update_edits.proofs.Marking.{source-stays}
 
 -- ---- the table
@@ -83,7 +82,7 @@ module _ {l : Trees} {n : ℕ} {marks : List ℕ} {decided : List Edited} (C : C
   -- A record of the base is its column as the edits leave it.
   pub remark-base : (s : ℕ) → s < n → planned-field l (remark marks (own-source (l .records) s)) ≡ edit-fields decided (field-at (l .pool) (l .records) s)
   unfolding planned-field field-at
-  remark-base s i = rw (remarked-base s i, C .field s i) (own-id _ (edit-fields decided (field-at (l .pool) (l .records) s)) (edit-fields-id decided (field-at (l .pool) (l .records) s)))
+  remark-base s i = rw (remarked-base s i, C .field s i) (own-id _ (edit-fields decided (field-at (l .pool) (l .records) s)) (edits-keep-id decided (field-at (l .pool) (l .records) s)))
 
   -- A source of the base, or one of the additions tree that is there.
   abbrev pub Sourced : Source → Type 0
@@ -97,17 +96,6 @@ module _ {l : Trees} {n : ℕ} {marks : List ℕ} {decided : List Edited} (C : C
   unfolding mapped
   remarked-drawn empty h = tt
   remarked-drawn (node a m u) h = (remark-sits a (h .0), remarked-drawn m (h .1), remarked-drawn u (h .2))
-
--- No edit changes a kind.
-change-kind : (b : Bool) (c : Change) (f : Field) → cond b (with-change c f) f .kind ≡ f .kind
-change-kind false c f = refl
-change-kind true (rename name) f = refl
-change-kind true relax f = refl
-
-edit-fields-kind : (es : List Edited) (f : Field) → edit-fields es f .kind ≡ f .kind
-unfolding edit-fields
-edit-fields-kind [] f = refl
-edit-fields-kind (e ∷ es) f = edit-fields-kind es (edit-field e f) ∙ change-kind (eqb (e .id) (f .id)) (e .change) f
 
 -- ---- the rebuild
 
@@ -137,7 +125,7 @@ module _ {l : Trees} {n : ℕ} {marks : List ℕ} {decided : List Edited} (C : C
       let own = own-source s in
       let fld = field-at (l .pool) s in
       let asked : Each (λ a. (asked-id a ≡ id-of (as-edited a)) × (asked-kind a ≡ kind-of (as-edited a))) (mapped own t)
-      = each-mapped _ own t (each-more _ _ (λ k i. (refl, sym (ap kind-of (remark-base C few k i) ∙ edit-fields-kind decided (fld k)))) t small) in
+      = each-mapped _ own t (each-more _ _ (λ k i. (refl, sym (ap kind-of (remark-base C few k i) ∙ edits-keep-kind decided (fld k)))) t small) in
       let there : mapped as-edited (mapped own t) ≡ mapped (edit-fields decided) (mapped fld t)
       = mapped-mapped own as-edited t ∙ mapped-same (λ k. as-edited (own k)) (λ k. edit-fields decided (fld k)) t (each-more _ _ (λ k i. remark-base C few k i) t small) ∙ sym (mapped-mapped fld (edit-fields decided) t) in
       mapped-mapped (remark marks) (planned-field l) _
