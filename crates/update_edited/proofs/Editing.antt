@@ -13,6 +13,7 @@ use Rattle.paper.specs.Field.{Field, id-of, kind-of}
 use Rattle.paper.specs.Rows.{Row, look-name}
 use Rattle.paper.specs.Bytes.{from}
 use Rattle.paper.specs.Gone.{gone-columns}
+use Rattle.paper.specs.Decode.{fields}
 use Rattle.paper.specs.Lists.{edit-in, edit-path, edit-of}
 use Rattle.paper.specs.Edits.{Edit, Edited, edited-one, edited-all}
 use Rattle.laws.proofs.Basics.{bind-is, bind-not}
@@ -30,16 +31,20 @@ use Rattle.record.specs.Trees.{Trees}
 use Rattle.record_entries.specs.declared.PathList.the-variants.{Edits}
 use Rattle.plan.specs.Table.{sources, numbers, members, fields-in}
 use Rattle.update_dropped.specs.declared.Dropped.{Dropped}
-use Rattle.update_dropped.specs.Set.{dropped-ids}
+use Rattle.index_ids.specs.Table.{ups-in}
+use Rattle.update_dropped.specs.Set.{dropped-ids, Good}
 use Rattle.update_dropped.specs.Gathered.{row-ids, Gathered}
+use Rattle.update_gone.specs.Gone.{base-slots, Rises}
 use Rattle.update_edits.specs.declared.Editing.the-variants as editing
 use Rattle.update_edits.specs.declared.Editing as declared
-use Rattle.update_edits.specs.Edit.{Lands, Named, edit-found, change-of, edited-at, EditedBy, OneEdited}
-use Rattle.update_edits.specs.Marks.{Unmarked, Carries, marked-by}
+use Rattle.update_edits.specs.Edit.{Lands, Named, change-of, edited-at, EditedBy, OneEdited}
+use Rattle.update_edits.specs.Marks.{Carries, marked-by}
+use Rattle.update_edits.proofs.Deciding.{found-lands, edited-is}
+use Rattle.update_edits.proofs.Carrying.{carries-none, carries-more}
 use Rattle.update_rebuild.specs.declared.Given.{Given}
 use Rattle.update_rebuild.specs.Planned.{drops-in}
-use Rattle.update_schema.specs.Base.{BasedIn, Entries}
 use Rattle.update_schema.proofs.Deleting.{entry-here}
+use Rattle.update_schema.proofs.Rising.{base-tree, rises}
 use Rattle.update_edited.specs.Editing.{Editable, all-edited, EditsLeft, EditsBy, EditsIn}
 
 -- ---- edits ask of the dropped ids only which are among them
@@ -93,46 +98,49 @@ module _ (l : Trees) (n total : ℕ) (t : Forest Field) (ds : List ℕ) where
           carries = H .carries;
         }
 
-    module _ (b : k < total) (p : List ℕ) (ep : p ≡ edit-path (l .request-pool) (l .edits) k) where
-      abbrev found-edit : List Edited → Answer Edited
-      found-edit earlier = edit-found t (look-name t p) ds k earlier (change-of (l .request-pool) (l .edits) k)
+    module _ (b : k < total) where
+      abbrev decided : List Edited → Answer Edited
+      decided earlier = edited-one t ds k earlier (asked k)
 
-      here : (earlier : List Edited) → rest k earlier ≡ (found-edit earlier >>= λ d. rest (k + 1) (earlier ++ (d ∷ [])))
-      unfolding edited-all edited-one edit-found edit-of
-      here earlier =
-          ap (edited-all t ds k earlier) (from-step asked k total b)
-          ∙ rw (← ep, add-one k) refl
+      here : (earlier : List Edited) → rest k earlier ≡ (decided earlier >>= λ d. rest (k + 1) (earlier ++ (d ∷ [])))
+      unfolding edited-all
+      here earlier = ap (edited-all t ds k earlier) (from-step asked k total b) ∙ rw (add-one k)
 
-      module _ (r : declared.Editing) (a : (earlier : List Edited) → Carries l n marks earlier → EditedBy r (found-edit earlier) (l .records) n (change-of (l .request-pool) (l .edits) k)) where
+      module _ (r : declared.Editing) (a : (earlier : List Edited) → Carries l n marks earlier → EditedBy r (decided earlier) (l .records) n (asked k .change)) where
         pub edit-stops : (x : Refusal) → r ≡ editing.Refused x → whole ≡ refused (x .number) (x .list) (x .place)
         edit-stops x q =
-            let e : found-edit (H .earlier) ≡ refused (x .number) (x .list) (x .place) = rw q at (a (H .earlier) (H .carries)) in
+            let e : decided (H .earlier) ≡ refused (x .number) (x .list) (x .place) = rw q at (a (H .earlier) (H .carries)) in
             H .left ∙ here (H .earlier) ∙ bind-not _ _ (x .number) (x .list) (x .place) e
 
-        pub edit-goes : (s : Slot) → r ≡ editing.At s
-            → ((earlier : List Edited) → Carries l n marks earlier → s .0 < n → found-edit earlier ≡ ok (edited-at (l .records) (s .0) (change-of (l .request-pool) (l .edits) k))
-            → Carries l n (set marks (s .0) (marked-by (l .edits) k (getD marks (s .0) 0))) (earlier ++ (edited-at (l .records) (s .0) (change-of (l .request-pool) (l .edits) k) ∷ [])))
-            → Editing (k + 1) (set marks (s .0) (marked-by (l .edits) k (getD marks (s .0) 0)))
-        edit-goes s q f =
-            let w : (s .0 < n) × (found-edit (H .earlier) ≡ ok (edited-at (l .records) (s .0) (change-of (l .request-pool) (l .edits) k))) = rw q at (a (H .earlier) (H .carries)) in
+        pub edit-goes : (s : Slot) (marks′ : List ℕ) → r ≡ editing.At s
+            → ((earlier : List Edited) → Carries l n marks earlier → s .0 < n → Carries l n marks′ (earlier ++ (edited-at (l .records) (s .0) (asked k .change) ∷ [])))
+            → Editing (k + 1) marks′
+        edit-goes s marks′ q f =
+            let w : (s .0 < n) × (decided (H .earlier) ≡ ok (edited-at (l .records) (s .0) (asked k .change))) = rw q at (a (H .earlier) (H .carries)) in
             record {
               within = omega arith;
-              earlier = H .earlier ++ (edited-at (l .records) (s .0) (change-of (l .request-pool) (l .edits) k) ∷ []);
-              carries = f (H .earlier) (H .carries) (w .0) (w .1);
-              left = H .left ∙ here (H .earlier) ∙ bind-is _ _ (edited-at (l .records) (s .0) (change-of (l .request-pool) (l .edits) k)) (w .1);
+              earlier = H .earlier ++ (edited-at (l .records) (s .0) (asked k .change) ∷ []);
+              carries = f (H .earlier) (H .carries) (w .0);
+              left = H .left ∙ here (H .earlier) ∙ bind-is _ _ (edited-at (l .records) (s .0) (asked k .change)) (w .1);
             }
 
 -- ---- what was tested gives each edit what it asks
 
-module _ (l : Trees) (given : Given) (plan index : List (List ℕ)) (marks : List ℕ) (h : Editable l given plan index marks) where
+module _ (l : Trees) (given : Given) (plan index : List (List ℕ)) (marks₀ : List ℕ) (h : Editable l given plan index marks₀) where
   abbrev n : ℕ
   n = given .base
 
   abbrev t : Forest Field
   t = fields-in l plan n
 
+  abbrev xs : List ℕ
+  xs = sources plan
+
   rises-here : Rises (l .records) n (ups-in index)
-  rises-here = rises l (sources plan) (numbers plan) (members plan) n (h .based) (ups-in index) (h .indexed .raised)
+  rises-here = rises l xs (numbers plan) (members plan) n (h .based) (ups-in index) (h .indexed .raised)
+
+  base-is : t ≡ fields (l .pool) (l .records) (base-slots (l .records) n)
+  base-is = base-tree l xs (numbers plan) (members plan) n (h .based)
 
   pub named-here : (k : ℕ) → k < given .edits → Named (l .request-pool) (l .edits) k
   named-here k b =
@@ -140,12 +148,53 @@ module _ (l : Trees) (given : Given) (plan index : List (List ℕ)) (marks : Lis
       let f = h .edits-there .few in
       record { few = omega arith; entry = e .0; named = e .1 }
 
-  pub begins : Carries l n marks []
-  begins = carries-none l n marks (h .unmarked) (λ s b. base-sits-here s b)
-    where
-      base-sits-here : (s : ℕ) → s < n → Sits l s
-      base-sits-here s b = ?
+  pub path-asks : (k : ℕ) → k < given .edits → (k * 16 + 16 ≤ length (l .edits)) × (edit-in (length (l .request-pool)) (l .edits) k ≡ true)
+  path-asks k b = let e = named-here k b in (e .entry, e .named)
 
-  module _ (k : ℕ) (b : k < given .edits) (p : List ℕ) (ep : p ≡ edit-path (l .request-pool) (l .edits) k) (f : Found) (ef : f ≡ found-row (look-name t p)) where
+  -- no mark yet
+  pub begins : Carries l n marks₀ []
+  begins =
+      let few = h .based .plan .few in
+      rw (h .unmarked) (carries-none l n few (λ s b. h .based .plan .sits))
+
+  module _ (k : ℕ) (b : k < given .edits) (p : List ℕ) (f : Found) (ef : f ≡ found-row (look-name t p)) where
     pub one-asks : (drops : Dropped) → Good drops → Lands n f × Rises (l .records) n (ups-in index) × Named (l .request-pool) (l .edits) k × Good drops
-    one-asks drops g = (found-lands rises-here p f (rw (← (base-tree l (sources plan) (numbers plan) (members plan) n (h .based))) ef), rises-here, named-here k b, g)
+    one-asks drops g = (found-lands rises-here (l .pool) (l .request-pool) (l .edits) k p f (rw (← base-is) ef), rises-here, named-here k b, g)
+
+    module _ (ds marks : List ℕ) (ep : p ≡ edit-path (l .request-pool) (l .edits) k) (H : Editing l n (given .edits) t ds k marks) (r : declared.Editing) (o : OneEdited f (l .records) n (ups-in index) (l .request-pool) (l .edits) k ds marks r) where
+      -- what is decided of the edit is the paper's, whatever was carried before it
+      one-says : (earlier : List Edited) → Carries l n marks earlier → EditedBy r (edited-one t ds k earlier (edit-of (l .request-pool) (l .edits) k)) (l .records) n (change-of (l .request-pool) (l .edits) k)
+      one-says earlier c =
+          rw base-is (edited-is rises-here (l .pool) (l .request-pool) (l .edits) k ds marks earlier f r (rw (← base-is, ← ep) ef) (c .renames) o)
+
+      pub all-stop : (x : Refusal) (marks′ : List ℕ) → r ≡ editing.Refused x → EditsBy (check.Refused x) (all-edited l given plan ds) l n marks′
+      all-stop x marks′ q = edit-stops l n (given .edits) t ds k marks H b r one-says x q
+
+      pub all-go : (s : Slot) (marks′ : List ℕ) → r ≡ editing.At s → marks′ ≡ set marks (s .0) (marked-by (l .edits) k (getD marks (s .0) 0)) → Editing l n (given .edits) t ds (k + 1) marks′
+      all-go s marks′ q e =
+          edit-goes l n (given .edits) t ds k marks H b r one-says s marks′ q (λ earlier c i. carries-more c rises-here k (s .0) i (named-here k b) marks′ e)
+
+      pub mark-asks : (s : Slot) → r ≡ editing.At s → (s .0 < 1024) × (k < 64) × (k * 16 + 16 ≤ length (l .edits))
+      mark-asks s q =
+          let few = h .based .plan .few in
+          let i : s .0 < n = (rw q at (one-says (H .earlier) (H .carries))) .0 in
+          let e = named-here k b in
+          (omega arith, e .few, e .entry)
+
+  pub all-begin : (ds : List ℕ) → Editing l n (given .edits) t ds 0 marks₀
+  all-begin ds = edit-starts l n (given .edits) t ds marks₀ begins
+
+  -- ---- behind the deletions
+
+  pub none-asked : (decisions : List (List ℕ)) → given .edits ≡ 0 → EditsIn l given plan decisions check.Fine marks₀
+  none-asked decisions e =
+      let ds = row-ids (drops-in decisions) (given .deletions) in
+      record { by = edit-ends l n (given .edits) t ds 0 marks₀ (all-begin ds) (omega arith); unmarked = λ _. h .unmarked }
+
+  pub behind : (decisions : List (List ℕ)) (drops : Dropped) (c : Check) (marks′ : List ℕ) → (given .edits ≡ 0 → ⊥) → Gathered (drops-in decisions) (given .deletions) drops
+      → EditsBy c (all-edited l given plan (dropped-ids drops)) l n marks′ → EditsIn l given plan decisions c marks′
+  behind decisions drops c marks′ some g a =
+      record {
+        by = subst (λ (z : Answer (List Edited)). EditsBy c z l n marks′) (edits-same t (dropped-ids drops) (row-ids (drops-in decisions) (given .deletions)) (g .holds) 0 [] _) a;
+        unmarked = λ e. absurd (some e);
+      }

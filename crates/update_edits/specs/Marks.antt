@@ -4,7 +4,7 @@ use mathlib.Core.Path.{_≡_}
 use mathlib.Core.Bool.{Bool, cond}
 use mathlib.Core.List.{List}
 use lib.Dec.{eqb, ltb}
-use lib.ListN.{length, getD}
+use lib.ListN.{length, getD, replicate}
 use lib.Seq.{sets}
 use Rattle.paper.specs.Bytes.{field-at, from}
 use Rattle.paper.specs.Lists.{edit-at}
@@ -36,9 +36,8 @@ abbrev pub remark : (marks : List ℕ) → Source → Source
 remark marks a = record { slot = remarked marks (a .slot); id = a .id }
 
 -- No slot has a mark.
-pub record Unmarked (marks : List ℕ) : Type 0 where
-  pub room : length marks ≡ 1024
-  pub none : (s : ℕ) → getD marks s 0 ≡ 0
+abbrev pub Unmarked : (marks : List ℕ) → Type 0
+Unmarked marks = marks ≡ replicate 1024 0
 
 -- The marks of n slots carry what was decided: each slot, as its mark leaves it, is its column as the edits leave it.
 pub record Carries (l : Trees) (n : ℕ) (marks : List ℕ) (decided : List Edited) : Type 0 where

@@ -37,26 +37,3 @@ module _ (l : Trees) where
       size-fields : (t : Forest ℕ) → size (mapped (field-at (l .request-pool) (l .added-records)) t) ≡ size t
       size-fields empty = refl
       size-fields (node j a b) = rw (size-fields a, size-fields b)
-
--- ---- the base
-
--- What stands for each slot: a field, with the slot's own id and kind.
-pub record StandsFor (s : List ℕ) (n : ℕ) (g : Source → Field) (f : ℕ → Field) : Type 0 where
-  pub field : (k : ℕ) → k < n → g (base-source s k) ≡ f k
-  pub id : (k : ℕ) → k < n → turned (rec-at s k .id) ≡ f k .id
-  pub kind : (k : ℕ) → k < n → kind-at s k ≡ f k .kind
-
-pub rebuilt-fields : (s : List ℕ) (n : ℕ) (g : Source → Field) (f : ℕ → Field) (p : Part) (ds ds′ : List ℕ) (adds : List (Addition Source))
-    → StandsFor s n g f → roots 0 (kids-at s) n n 0 ≡ ok p → ((x : ℕ) → among x ds ≡ among x ds′)
-    → mapped g (rebuilt-base s n ds adds) ≡ rebuilt id-of kind-of ds′ (mapped-all g adds) none true (mapped f (p .trees))
-unfolding rebuilt-base rebuilt-row
-rebuilt-fields s n g f p ds ds′ adds h e drops =
-    let t = p .trees in
-    let small : Each (λ j. j < n) t = each-slot (kids-at s) n 0 t (roots-take 0 (kids-at s) n n 0 p e .laid) in
-    let asked : Each (λ a. (source-id a ≡ id-of (g a)) × (source-kind s a ≡ kind-of (g a))) (mapped (base-source s) t)
-    = each-mapped _ (base-source s) t (each-more _ _ (λ k i. (h .id k i ∙ sym (ap id-of (h .field k i)), h .kind k i ∙ sym (ap kind-of (h .field k i)))) t small) in
-    let there : mapped g (mapped (base-source s) t) ≡ mapped f t
-    = mapped-mapped (base-source s) g t ∙ mapped-same (λ k. g (base-source s k)) f t (each-more _ _ (λ k i. h .field k i) t small) in
-    rw e (ap (mapped g) (rebuilt-same source-id (λ a. id-of (g a)) (source-kind s) (λ a. kind-of (g a)) ds ds′ adds drops none true (mapped (base-source s) t) asked)
-    ∙ sym (rebuilt-mapped g id-of kind-of ds′ adds none true (mapped (base-source s) t))
-    ∙ ap (rebuilt id-of kind-of ds′ (mapped-all g adds) none true) there)

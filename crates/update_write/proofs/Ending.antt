@@ -1,6 +1,7 @@
 -- The rebuilt tree is a plan where it fits: its sources are slots of the two trees that were read, as their marks leave them. Where it
 -- does not fit it passes a limit. Then the index answers 7 to 9 of it, and the writer leaves its bytes.
 use mathlib.Core.Path.{_≡_, refl, sym, ap, _∙_}
+use mathlib.Core.Logic.{inl, inr}
 use mathlib.Core.Bool.{Bool, true, false, not, _&&_}
 use mathlib.Core.List.{List, [], _∷_}
 use mathlib.Core.Option.{none}
@@ -13,8 +14,8 @@ use lib.ListN.{length, getD}
 use Rattle.paper.specs.Answer.{ok, _>>=_}
 use Rattle.paper.specs.Forest.{Forest, empty, node, size, siblings, levels, mapped}
 use Rattle.paper.specs.Field.{Field}
-use Rattle.paper.specs.Bytes.{turned, kids-at, field-at, from}
-use Rattle.paper.specs.Edits.{Edited, edit-fields}
+use Rattle.paper.specs.Bytes.{turned, kids-at, from}
+use Rattle.paper.specs.Edits.{Edited}
 use Rattle.paper.specs.Layout.{Part, roots}
 use Rattle.paper.specs.Decode.{fields, decode}
 use Rattle.paper.specs.Lists.{id-list}
@@ -31,16 +32,15 @@ use Rattle.record.specs.Trees.{Trees}
 use Rattle.record.proofs.Testing.{checked-ok, checked-refused, refuses}
 use Rattle.laws.proofs.Basics.{unbind, ok-is}
 use Rattle.laws.proofs.Fitting.{sized-slots}
-use Rattle.laws.proofs.Natural.{mapped-all}
-use Rattle.laws.proofs.Preorder.{size-mapped, siblings-mapped, levels-mapped, mapped-mapped}
-use Rattle.laws.proofs.Pointwise.{Each, each-more, each-mapped, each-slot, mapped-same, All, each-rebuilt}
+use Rattle.laws.proofs.Preorder.{size-mapped, siblings-mapped, levels-mapped}
+use Rattle.laws.proofs.Pointwise.{Each, each-more, each-mapped, each-slot, All, each-rebuilt}
 use Rattle.laws.proofs.RoundTrip.{length-pool}
 use Rattle.laws.proofs.Taken as taken
 use Rattle.tree.specs.Read.{part, got}
 use Rattle.tree.specs.Says.{rooted}
 use Rattle.tree.specs.declared.Shaped.the-variants.{Roots}
 use Rattle.tree.proofs.Steps.{was-read}
-use Rattle.plan.specs.Plan.{Source, planned-field, Sits}
+use Rattle.plan.specs.Plan.{Source, planned-field}
 use Rattle.plan.specs.Draft.{Drawn}
 use Rattle.plan.specs.Sources.{Summed, Written}
 use Rattle.plan.specs.Table.{sources, Roomy, PlanIn, DraftIn, InsideIn, fields-in}
@@ -57,44 +57,22 @@ use Rattle.update_rebuild.specs.declared.Place.{Place}
 use Rattle.update_rebuild.specs.declared.Step.{Step}
 use Rattle.update_rebuild.specs.declared.Step.the-variants.{Went, Full}
 use Rattle.update_rebuild.specs.Sources.{base-source, added-source, source-id, source-kind, added-tree, addition-at, additions, rebuilt-row, rebuilt-base}
-use Rattle.update_rebuild.specs.Planned.{unders-in, firsts-in, starts-in, drops-in, ResolvedIn, additions-in, Based, fits, verdict, Rebuilds}
+use Rattle.update_rebuild.specs.Planned.{unders-in, firsts-in, starts-in, drops-in, ResolvedIn, additions-in, Based, fits, Rebuilds}
 use Rattle.update_edits.specs.Marks.{remark, Unmarked, Carries}
-use Rattle.update_rebuild.proofs.Paper.{StandsFor, rebuilt-fields}
+use Rattle.update_edits.proofs.Marked.{Sourced, remarked-drawn, rebuilt-marked}
 use Rattle.update_rebuild.proofs.Whole.{of-fits}
 use Rattle.update_dropped.specs.Gathered.{row-ids, Gathered}
+use Rattle.update_write.proofs.Verdict.{verdict-went, verdict-full}
 use Rattle.update_write.specs.Ending.{sounded, limited-sounded, Rebuildable, rebuilt-tree, Ends}
 
 -- ---- sources
-
-abbrev Seated : Trees → Source → Type 0
-Seated l a = Sits l (a .slot)
-
-drawn-each : (l : Trees) (t : Forest Source) → Each (Seated l) t → Drawn l t
-drawn-each l empty h = tt
-drawn-each l (node a m n) h = (h .0, drawn-each l m (h .1), drawn-each l n (h .2))
 
 each-fresh : (P : Source → Type 0) (c : ℕ) (t : Forest ℕ) → Each (λ k. (i : ℕ) → P (added-source i k)) t → Each P (fresh added-source c t)
 unfolding fresh
 each-fresh P c empty h = tt
 each-fresh P c (node k m n) h = (h .0 c, each-fresh P (suc c) m (h .1), each-fresh P (suc (c + size m)) n (h .2))
 
--- ---- the verdict
-
-verdict-went : (n : ℕ) (t : Forest Source) (r : Step) (w : Place) → r ≡ verdict n t → r ≡ Went w → (fits t ≡ true) × (w .at ≡ size t)
-unfolding verdict
-verdict-went n t r w e d = go (fits t) refl
-  where
-    go : (f : Bool) → fits t ≡ f → (fits t ≡ true) × (w .at ≡ size t)
-    go true q = let z : Went w ≡ Went (record { next = n; at = size t; count = siblings t }) = sym d ∙ (rw q at e) in (q, cc)
-    go false q = let z : Went w ≡ Full = sym d ∙ (rw q at e) in absurd (let y : _≡_ {A = ℕ} 0 1 = cc in omega arith)
-
-verdict-full : (n : ℕ) (t : Forest Source) (r : Step) → r ≡ verdict n t → r ≡ Full → fits t ≡ false
-unfolding verdict
-verdict-full n t r e d = go (fits t) refl
-  where
-    go : (f : Bool) → fits t ≡ f → fits t ≡ false
-    go false q = q
-    go true q = let z : Full ≡ Went (record { next = n; at = size t; count = siblings t }) = sym d ∙ (rw q at e) in absurd (let y : _≡_ {A = ℕ} 0 1 = cc in omega arith)
+-- ---- the limits
 
 and-and : (a b c : Bool) → (a && (b && c)) ≡ ((a && b) && c)
 and-and true b c = refl
@@ -108,15 +86,12 @@ module _ (l : Trees) (i : List ℕ) (given : Given) (c : ℕ) (decisions : List 
   abbrev Ending : Changed → List ℕ → List ℕ → Type 0
   Ending r out′ text′ = Ends l i given decisions marks out text r out′ text′
 
-  -- a source as its mark leaves it, and as a field
-  abbrev Remarked : Source → Type 0
-  Remarked a = Seated l (remark marks a)
-
-  abbrev remarked-field : Source → Field
-  remarked-field a = planned-field l (remark marks a)
-
   few : given .base ≤ 1024
   few = let e = h .base-count in let w = sized-slots (l .records) (l .pool) (h .base-limits) .0 in omega arith
+
+  -- a slot of the base, or one of the additions tree that is there
+  abbrev Seated : Source → Type 0
+  Seated = Sourced (h .carries) few
 
   read : (P : Type 0) → ((u : Part) → roots 0 (kids-at (l .records)) (given .base) (given .base) 0 ≡ ok u → fields (l .pool) (l .records) (u .trees) ≡ h .base → P) → P
   unfolding decode
@@ -131,47 +106,33 @@ module _ (l : Trees) (i : List ℕ) (given : Given) (c : ℕ) (decisions : List 
       let z : c ≡ siblings (u .trees) = h .root-count ∙ ap siblings (sym q) ∙ siblings-mapped _ (u .trees) in
       record { whole = omega arith; small = few; rooted = rw (e, z) (ap Roots (sym (zero-add (siblings (u .trees))))) }
 
-  base-seated : Each Remarked (mapped (base-source (l .records)) (got (roots 0 (kids-at (l .records)) (given .base) (given .base) 0) .trees))
-  base-seated = read _ λ u e q.
-      let n = h .base-count in
-      rw e
-      (each-mapped Remarked (base-source (l .records)) (u .trees) (each-more _ _ (λ j k. rw (remarked-base marks j (omega (arith, few))) (h .carries .sits j k)) (u .trees)
-      (each-slot (kids-at (l .records)) (given .base) 0 (u .trees) (taken.roots-take 0 (kids-at (l .records)) (given .base) (given .base) 0 u e .laid))))
+  base-slots-low : (u : Part) → roots 0 (kids-at (l .records)) (given .base) (given .base) 0 ≡ ok u → Each (λ j. j < given .base) (u .trees)
+  base-slots-low u e = each-slot (kids-at (l .records)) (given .base) 0 (u .trees) (taken.roots-take 0 (kids-at (l .records)) (given .base) (given .base) 0 u e .laid)
 
-  -- no added source has a mark
-  abbrev tree-at : ℕ → Forest Source
-  tree-at j = added-tree (l .added-records) (given .added) (getD (firsts-in decisions) j 0) (getD (starts-in decisions) j 0)
-
-  each-added : (P : Source → Type 0) → ((x : ℕ) → x < given .added → (i : ℕ) → P (added-source i x)) → (j : ℕ) → j < given .additions → Each P (tree-at j)
-  unfolding added-tree
-  each-added P f j k =
-      let b = l .added-records in
-      let first = getD (firsts-in decisions) j 0 in
-      let e = was-read 1 (kids-at b) (given .added) 16 1 first (h .resolved .tree j k) in
-      let u = part 1 (kids-at b) (given .added) 16 1 first .trees in
-      each-fresh P _ u (each-more _ _ f u (each-slot (kids-at b) (given .added) first u (taken.row-take 1 (kids-at b) (given .added) 16 1 first _ e .took .laid)))
-
-  tree-seated : (j : ℕ) → j < given .additions → Each Remarked (tree-at j)
-  tree-seated =
-      let n = h .added-count in
-      each-added Remarked (λ x y i. rw (remarked-added marks (1024 + x) (omega arith)) (added-sits 1 l (h .added) (h .added-read) x (omega arith)))
+  base-seated : Each Seated (mapped (base-source (l .records)) (got (roots 0 (kids-at (l .records)) (given .base) (given .base) 0) .trees))
+  base-seated = read _ λ u e q. rw e (each-mapped Seated (base-source (l .records)) (u .trees) (each-more _ _ (λ j k. inl k) (u .trees) (base-slots-low u e)))
 
   abbrev adds-from : (j k : ℕ) → List (Addition Source)
   adds-from = from (addition-at (l .added-records) (given .added) (unders-in decisions) (firsts-in decisions) (starts-in decisions))
 
-  all-seated : (ds : List ℕ) (j k : ℕ) → j + k ≤ given .additions → All Remarked source-id (source-kind (l .records)) ds (adds-from j k)
-  unfolding from
-  all-seated ds j zero q = tt
-  all-seated ds j (suc k) q = (tree-seated j (omega arith), all-seated ds (suc j) k (omega arith))
+  -- what holds of each added record holds of all that is added
+  module _ (P : Source → Type 0) (f : (x : ℕ) → x < given .added → (i : ℕ) → P (added-source i x)) where
+    each-added : (j : ℕ) → j < given .additions → Each P (added-tree (l .added-records) (given .added) (getD (firsts-in decisions) j 0) (getD (starts-in decisions) j 0))
+    unfolding added-tree
+    each-added j k =
+        let b = l .added-records in
+        let first = getD (firsts-in decisions) j 0 in
+        let e = was-read 1 (kids-at b) (given .added) 16 1 first (h .resolved .tree j k) in
+        let u = part 1 (kids-at b) (given .added) 16 1 first .trees in
+        each-fresh P _ u (each-more _ _ f u (each-slot (kids-at b) (given .added) first u (taken.row-take 1 (kids-at b) (given .added) 16 1 first _ e .took .laid)))
 
-  adds-same : (j k : ℕ) → j + k ≤ given .additions → mapped-all remarked-field (adds-from j k) ≡ mapped-all (planned-field l) (adds-from j k)
-  unfolding from
-  adds-same j zero q = refl
-  adds-same j (suc k) q =
-      rw (
-        mapped-same remarked-field (planned-field l) (tree-at j) (each-added (λ a. remarked-field a ≡ planned-field l a) (λ x y i. rw (remarked-added marks (1024 + x) (omega arith))) j (omega arith)),
-        adds-same (suc j) k (omega arith),
-      )
+    all-added : (ds : List ℕ) (j k : ℕ) → j + k ≤ given .additions → All P source-id (source-kind (l .records)) ds (adds-from j k)
+    unfolding from
+    all-added ds j zero q = tt
+    all-added ds j (suc k) q = (each-added j (omega arith), all-added ds (suc j) k (omega arith))
+
+  added-seated : (x : ℕ) → x < given .added → (i : ℕ) → Seated (added-source i x)
+  added-seated x y i = let n = h .added-count in inr (omega arith, added-sits 1 l (h .added) (h .added-read) x (omega arith))
 
   module _ (held : Dropped) (g : Gathered (drops-in decisions) (given .deletions) held) where
     abbrev unmarked-tree : Forest Source
@@ -183,33 +144,23 @@ module _ (l : Trees) (i : List ℕ) (given : Given) (c : ℕ) (decisions : List 
     drawn : Drawn l t
     unfolding rebuilt-base rebuilt-row additions
     drawn =
-        drawn-each l t
-        (each-mapped (Seated l) (remark marks) unmarked-tree
-        (each-rebuilt Remarked source-id (source-kind (l .records)) (dropped-ids held) _ (all-seated (dropped-ids held) 0 (given .additions) (omega arith)) none true
-        (mapped (base-source (l .records)) (got (roots 0 (kids-at (l .records)) (given .base) (given .base) 0) .trees)) base-seated))
+        remarked-drawn (h .carries) few unmarked-tree
+        (each-rebuilt Seated source-id (source-kind (l .records)) (dropped-ids held) _ (all-added Seated added-seated (dropped-ids held) 0 (given .additions) (omega arith)) none true
+        (mapped (base-source (l .records)) (got (roots 0 (kids-at (l .records)) (given .base) (given .base) 0) .trees)) base-seated)
 
     pub rebuild-asks : Based (l .records) (given .base) c × Good held × ResolvedIn (l .added-records) given decisions × Roomy plan × (given .edits ≡ 0 → Unmarked marks)
     rebuild-asks = (based, g .good, h .resolved, h .plan-room, h .unmarked)
 
-    -- each slot stands for its column as the edits leave it
-    stands-for : (edits : List Edited) → Carries l (given .base) marks edits → StandsFor (l .records) (given .base) remarked-field (λ k. edit-fields edits (field-at (l .pool) (l .records) k))
-    unfolding field-at
-    stands-for edits w =
-        record {
-          field = λ k b. carried-field l (given .base) marks edits w k b (omega (arith, few));
-          id = λ k b. sym (edits-keep-id edits (field-at (l .pool) (l .records) k));
-          kind = λ k b. sym (edits-keep-kind edits (field-at (l .pool) (l .records) k));
-        }
-
     -- the planned tree is the paper's
     tree-is : (base : Forest Field) → decode 0 (l .records) (l .pool) ≡ ok base → (edits : List Edited) → Carries l (given .base) marks edits
         → mapped (planned-field l) t ≡ rebuilt-tree l given decisions edits base
-    unfolding rebuilt-tree additions fields
+    unfolding rebuilt-tree rebuilt-base rebuilt-row additions
     tree-is base e edits w =
         read _ λ u r q.
-        mapped-mapped (remark marks) (planned-field l) unmarked-tree
-        ∙ rebuilt-fields (l .records) (given .base) remarked-field (λ k. edit-fields edits (field-at (l .pool) (l .records) k)) u (dropped-ids held) (row-ids (drops-in decisions) (given .deletions)) (additions-in (l .added-records) given decisions) (stands-for edits w) r (g .holds)
-        ∙ rw (adds-same 0 (given .additions) (omega arith), ← (mapped-mapped (field-at (l .pool) (l .records)) (edit-fields edits) (u .trees)), q ∙ ok-is (sym (h .base-read) ∙ e))
+        rw r
+        (rebuilt-marked w few (u .trees) (dropped-ids held) (row-ids (drops-in decisions) (given .deletions)) (additions-in (l .added-records) given decisions) none true
+        (base-slots-low u r) (all-added (λ a. 1024 ≤ a .slot) (λ x y i. omega arith) (dropped-ids held) 0 (given .additions) (omega arith)) (g .holds)
+        ∙ rw (q ∙ ok-is (sym (h .base-read) ∙ e)))
 
     over : within (mapped (planned-field l) t) ≡ false → Ending (changed.Refused (refusal-of 19 4 0)) out text
     unfolding limited-sounded _>>=_

@@ -52,13 +52,14 @@ fn rebuild_edited<'a>(
         (given .base) (now (plan .entry)) r (now (plan .exit)) ⌝ }
 {
     let step = rebuild(trees, given, roots, dropped, drops, decisions, plan);
+    let Step::Went(place) = step else {
+        return Step::Full;
+    };
     if given.edits == 0 {
-        return step;
+        return Step::Went(place);
     }
-    if let Step::Went(place) = step {
-        mark_plan(plan, place.at, marks);
-    }
-    step
+    mark_plan(plan, place.at, marks);
+    Step::Went(place)
 }
 
 // Rebuilds the base as it was decided, and writes it: refusal 19, then 7 to 9 of the rebuilt tree; on a refusal no byte changes. What
