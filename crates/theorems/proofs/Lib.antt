@@ -19,6 +19,7 @@ pub mod Passing
 pub mod Storing
 pub mod Standing
 pub mod Before
+pub mod Carried
 pub mod Renaming
 pub mod Weighing
 pub mod Beginning

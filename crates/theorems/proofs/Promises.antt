@@ -57,7 +57,8 @@ use Rattle.theorems.proofs.Storing.{begins-stored-without, lasting-stor
 use Rattle.theorems.proofs.Identified.{update-identified, renumber-identified}
 use Rattle.theorems.proofs.Passing.{update-passes, renumber-passes}
 use Rattle.theorems.proofs.Standing.{additions-stand, consumed-added}
-use Rattle.theorems.proofs.Renaming.{stays-as-set, renames-found}
+use Rattle.theorems.proofs.Carried.{stays-as-set}
+use Rattle.theorems.proofs.Renaming.{renames-found}
 use Rattle.theorems.proofs.Before.{as-before, as-before-stored}
 use Rattle.theorems.proofs.Weighing as Weighing
 use Rattle.theorems.proofs.Weighing.{gone-left-out}
