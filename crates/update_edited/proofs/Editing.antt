@@ -11,12 +11,13 @@ use Rattle.paper.specs.Answer.{Answer, ok, refused, _>>=_, among}
 use Rattle.paper.specs.Forest.{Forest}
 use Rattle.paper.specs.Field.{Field, id-of, kind-of}
 use Rattle.paper.specs.Rows.{Row, look-name}
-use Rattle.paper.specs.Bytes.{from}
+use Rattle.paper.specs.Bytes.{in-pool, from}
 use Rattle.paper.specs.Gone.{gone-columns}
 use Rattle.paper.specs.Decode.{fields}
 use Rattle.paper.specs.Lists.{edit-in, edit-path, edit-of}
 use Rattle.paper.specs.Edits.{Edit, Edited, edited-one, edited-all}
 use Rattle.laws.proofs.Basics.{bind-is, bind-not}
+use Rattle.laws.proofs.Fitting.{lowest-none}
 use Rattle.laws.proofs.Going.{gone-same}
 use Rattle.laws.proofs.Runs.{from-step, from-done, from-all}
 use Rattle.record.specs.declared.Refusal.{Refusal}
@@ -38,9 +39,9 @@ use Rattle.update_gone.specs.Gone.{base-slots, Rises}
 use Rattle.update_edits.specs.declared.Editing.the-variants as editing
 use Rattle.update_edits.specs.declared.Editing as declared
 use Rattle.update_edits.specs.Edit.{Lands, Named, change-of, edited-at, EditedBy, OneEdited}
-use Rattle.update_edits.specs.Marks.{Carries, marked-by}
+use Rattle.update_edits.specs.Marks.{as-marked, Carries, marked-by}
 use Rattle.update_edits.proofs.Deciding.{found-lands, edited-is}
-use Rattle.update_edits.proofs.Carrying.{carries-none, carries-more}
+use Rattle.update_edits.proofs.Carrying.{parts-sit, carries-none, carries-more}
 use Rattle.update_rebuild.specs.declared.Given.{Given}
 use Rattle.update_rebuild.specs.Planned.{drops-in}
 use Rattle.update_schema.proofs.Deleting.{entry-here}
@@ -153,9 +154,12 @@ module _ (l : Trees) (given : Given) (plan index : List (List ℕ)) (marks₀ : 
 
   -- no mark yet
   pub begins : Carries l n marks₀ []
+  unfolding as-marked
   begins =
       let few = h .based .plan .few in
-      rw (h .unmarked) (carries-none l n few (λ s b. h .based .plan .sits))
+      let w = h .based .whole in
+      rw (h .unmarked)
+      (carries-none l n few (λ s b. parts-sit l s (omega arith) 0 (omega arith, lowest-none (in-pool (length (l .pool)) (l .records)) 0 n (h .based .named) s (omega arith) (omega arith)) (λ q. absurd (omega arith))))
 
   module _ (k : ℕ) (b : k < given .edits) (p : List ℕ) (f : Found) (ef : f ≡ found-row (look-name t p)) where
     pub one-asks : (drops : Dropped) → Good drops → Lands n f × Rises (l .records) n (ups-in index) × Named (l .request-pool) (l .edits) k × Good drops

@@ -129,7 +129,7 @@ module _ (l : Trees) (slot : ℕ) (h : slot < 1024) where
             λ q. (rw d at (s .renamed-in w (rw d q)), rw d at (s .renamed-named w (rw d q))),
           )
 
-  parts-sit : (mark : ℕ) → Stays → Renames l mark → Sits l (as-marked mark slot)
+  pub parts-sit : (mark : ℕ) → Stays → Renames l mark → Sits l (as-marked mark slot)
   unfolding as-marked
   parts-sit zero b r =
       record {
