@@ -285,6 +285,7 @@ module _ (l : Trees) (lists : Lists) (last columns : ℕ) (plan index decisions 
                 }
 
             pub all-settled : x ≡ check.Fine → Settles l lists last (decided.Last j) decisions′ marks′
+            unfolding _>>=_
             all-settled q =
                 record {
                   accepted = λ base added e i r. let s : j ≡ i = cc in rw (← s) (settled base added e);
@@ -293,7 +294,6 @@ module _ (l : Trees) (lists : Lists) (last columns : ℕ) (plan index decisions 
                 }
               where
                 settled : (base added : Forest Field) → readable l lists ≡ ok (both-trees base added) → Settled l lists last base added decisions′ marks′ j
-                unfolding _>>=_
                 settled base added e =
                     let o = contents l lists base added e in
                     let p = placings base (o .base-read) in
