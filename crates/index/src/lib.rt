@@ -226,7 +226,7 @@ pub fn open_base<'a>(
     if let Shaped::Refused(r) = read {
         return Check::Refused(r);
     }
-    let trees = [records, pool, records, pool, b""];
+    let trees = [records, pool, records, pool, &pool[0..0]];
     index_base(&trees, records.len() / 24, b"", plan, index)
 }
 
@@ -241,7 +241,7 @@ pub fn find_name<'a>(records: &'a [u8], pool: &'a [u8], name: &[u8]) -> Sought
     if let Check::Refused(r) = opened {
         return Sought::Refused(r);
     }
-    let trees = [records, pool, records, pool, b""];
+    let trees = [records, pool, records, pool, &pool[0..0]];
     let m = records.len() / 24;
     Sought::Looked(look_name(&trees, &plan, m, &index, name))
 }

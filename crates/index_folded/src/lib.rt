@@ -89,6 +89,6 @@ pub fn find_folded<'a>(records: &'a [u8], pool: &'a [u8], name: &[u8]) -> Sought
     if let Check::Refused(r) = opened {
         return Sought::Refused(r);
     }
-    let trees = [records, pool, records, pool, b""];
+    let trees = [records, pool, records, pool, &pool[0..0]];
     look_folded(&trees, &plan, records.len() / 24, name)
 }

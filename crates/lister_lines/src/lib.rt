@@ -245,7 +245,7 @@ pub fn listing<'a>(records: &'a [u8], pool: &'a [u8], from: usize, out: &mut [u8
     if let Check::Refused(refusal) = opened {
         return list_refusal(refusal, from, out);
     }
-    let trees = [records, pool, records, pool, b""];
+    let trees = [records, pool, records, pool, &pool[0..0]];
     let m = records.len() / 24;
     let mut line = [0u8; 65571];
     list_rows(&trees, &plan, m, &index, from, &mut line, out)

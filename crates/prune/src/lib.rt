@@ -94,7 +94,7 @@ pub fn prune<'a>(
     match open(records, pool, selected, out_records.len(), out_names.len()) {
         Shaped::Refused(r) => Changed::Refused(r),
         Shaped::Roots(count) => {
-            let trees = [records, pool, records, pool, b""];
+            let trees = [records, pool, records, pool, &pool[0..0]];
             let mut plan = [[0u32; 1024]; 3];
             let mut index = [[0u16; 1024]; 8];
             let mut marks = [0u8; 1024];

@@ -85,7 +85,7 @@ pub fn renumber<'a>(
         Shaped::Refused(r) => Changed::Refused(r),
         Shaped::Roots(count) => {
             // test: 7 to 9
-            let trees = [records, pool, records, pool, b""];
+            let trees = [records, pool, records, pool, &pool[0..0]];
             let n = records.len() / 24;
             let mut plan = [[0u32; 1024]; 3];
             let mut index = [[0u16; 1024]; 8];

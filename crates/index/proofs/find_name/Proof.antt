@@ -12,6 +12,9 @@ find-name-spec =
     (λ c. search (finding, needs))  -- enum-known-opened
     (λ c. search (finding, needs))  -- returns
     (λ c. search (finding, needs))  -- enum-told
-    (λ c κs. let o = c .before .before .before .before .before .open-base .ensures in let q = c .before .before .before .enum-told .given .1 in (o .planned q, o .indexed q))  -- look-name-requires
+    (λ c. search needs)  -- sub-t15
+    (λ c. search needs)  -- part-t16-start
+    (λ c. search needs)  -- part-t16-end
+    (λ c κs. let o = c .before .before .before .before .before .before .open-base .ensures in let q = c .before .before .before .before .enum-told .given .1 in (o .planned q, o .indexed q))  -- look-name-requires
     (λ c. search (finding, needs))  -- returns-2
     )

@@ -12,6 +12,9 @@ open-base-spec =
     (λ c. search (opening, needs))  -- enum-known-read
     (λ c. search (opening, needs))  -- returns
     (λ c. search (opening, needs))  -- enum-told
+    (λ c. search needs)  -- sub-t10
+    (λ c. search needs)  -- part-t11-start
+    (λ c. search needs)  -- part-t11-end
     (λ c. search (opening, needs))  -- slice-aggregate-index-base
     (λ c κs. search (opening, needs))  -- index-base-requires
     (λ c. search (opening, needs))  -- returns-2

@@ -12,6 +12,9 @@ find-folded-spec =
     (λ c. search (finding, needs))  -- enum-known-opened
     (λ c. search (finding, needs))  -- returns
     (λ c. search (finding, needs))  -- enum-told
-    (λ c κs. c .before .before .before .before .open-base .ensures .planned (c .before .before .enum-told .given .1))  -- look-folded-requires
+    (λ c. search needs)  -- sub-trees
+    (λ c. search needs)  -- part-trees-start
+    (λ c. search needs)  -- part-trees-end
+    (λ c κs. c .before .before .before .before .before .open-base .ensures .planned (c .before .before .before .enum-told .given .1))  -- look-folded-requires
     (λ c. search (finding, needs))  -- returns-2
     )

@@ -17,8 +17,11 @@ listing-spec =
     (λ c. search needs)  -- same-length
     (λ c. search (refusal-listed, needs))  -- returns
     (λ c. search needs)  -- enum-told
+    (λ c. search needs)  -- sub-trees
+    (λ c. search needs)  -- part-trees-start
+    (λ c. search needs)  -- part-trees-end
     (λ c. search needs)  -- slice-aggregate-list-rows
-    (λ c κs. (c .before .before .before .before .before .before .before .open-base .ensures .indexed (c .before .before .before .before .before .enum-told .given .1) .spelt, omega arith))  -- list-rows-requires
+    (λ c κs. (c .before .before .before .before .before .before .before .before .open-base .ensures .indexed (c .before .before .before .before .before .before .enum-told .given .1) .spelt, omega arith))  -- list-rows-requires
     (λ c. search needs)  -- same-length-2
     (λ c. search (tree-listed, needs))  -- returns-2
     )

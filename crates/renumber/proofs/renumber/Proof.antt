@@ -17,6 +17,9 @@ renumber-spec =
     (λ c κs. search needs)  -- open-requires
     (λ c. search needs)  -- enum-known-r
     (λ c. search needs)  -- enum-known-count
+    (λ c. search needs)  -- sub-trees
+    (λ c. search needs)  -- part-trees-start
+    (λ c. search needs)  -- part-trees-end
     (λ c κs. (search (readable, needs), (search (few-identifiers, needs), (roomy-fresh, rooms-fresh))))  -- index-base-requires
     (λ c. search needs)  -- enum-known-tested
     (λ c. search (stop-9, needs))  -- returns
@@ -26,14 +29,14 @@ renumber-spec =
     (λ c. search needs)  -- cast-if1
     (λ c. search (stop-18, needs))  -- returns-2
     (λ c κs. search (numbers-left, needs))  -- reassign-field-ids-requires
-    (λ c κs. let t = c .before .before .before .before .before .before .before .before in mappable _ _ _ _ _ _ _ (t .before .before .before .before .before .before .before .before .before .«open» .ensures) _ (t .before .before .before .before .before .before .before .count .given .1) _ _ _ _ (t .before .before .index-base .ensures) (t .enum-told .given .1) _ refl)  -- apply-to-identifier-fields-requires
+    (λ c κs. let t = c .before .before .before .before .before .before .before .before in mappable _ _ _ _ _ _ _ (t .before .before .before .before .before .before .before .before .before .before .«open» .ensures) _ (t .before .before .before .before .before .before .before .before .count .given .1) _ _ _ _ (t .before .before .index-base .ensures) (t .enum-told .given .1) _ refl)  -- apply-to-identifier-fields-requires
     (λ c. search needs)  -- array-set-from-plan
-    (λ c κs. let t = c .before .before .before .before .before .before .before .before .before .before .before .before .before .before .before in writable _ _ _ _ _ _ _ (t .before .before .before .before .before .before .before .before .before .«open» .ensures) _ (t .before .before .before .before .before .before .before .count .given .1) _ _ _ _ (t .before .before .index-base .ensures) (t .enum-told .given .1) _)  -- write-plan-requires
-    (λ c. let t = c .before .before .before .before .before .before .before .before .before .before .before .before .before .before .before .before .before .before .before .before in record { fits = few-records _ _ _ _ _ _ _ (t .before .before .before .before .before .before .before .before .before .«open» .ensures) _ (t .before .before .before .before .before .before .before .count .given .1) })  -- cast-t49
-    (λ c. let t = c .before .before .before .before .before .before .before .before .before .before .before .before .before .before .before .before .before .before .before .before in record { fits = few-names _ _ _ _ _ _ _ (t .before .before .before .before .before .before .before .before .before .«open» .ensures) _ (t .before .before .before .before .before .before .before .count .given .1) _ _ _ _ (t .before .before .index-base .ensures) (t .enum-told .given .1) _ _ _ _ _ _ (c .before .before .before .before .write-plan .ensures) })  -- cast-t50
+    (λ c κs. let t = c .before .before .before .before .before .before .before .before .before .before .before .before .before .before .before in writable _ _ _ _ _ _ _ (t .before .before .before .before .before .before .before .before .before .before .«open» .ensures) _ (t .before .before .before .before .before .before .before .before .count .given .1) _ _ _ _ (t .before .before .index-base .ensures) (t .enum-told .given .1) _)  -- write-plan-requires
+    (λ c. let t = c .before .before .before .before .before .before .before .before .before .before .before .before .before .before .before .before .before .before .before .before in record { fits = few-records _ _ _ _ _ _ _ (t .before .before .before .before .before .before .before .before .before .before .«open» .ensures) _ (t .before .before .before .before .before .before .before .before .count .given .1) })  -- cast-t49
+    (λ c. let t = c .before .before .before .before .before .before .before .before .before .before .before .before .before .before .before .before .before .before .before .before in record { fits = few-names _ _ _ _ _ _ _ (t .before .before .before .before .before .before .before .before .before .before .«open» .ensures) _ (t .before .before .before .before .before .before .before .before .count .given .1) _ _ _ _ (t .before .before .index-base .ensures) (t .enum-told .given .1) _ _ _ _ _ _ (c .before .before .before .before .write-plan .ensures) })  -- cast-t50
     (λ c. search (stop-6, needs))  -- returns-3
     (λ c. search needs)  -- same-length
     (λ c. search needs)  -- same-length-2
     (λ c. search needs)  -- same-length-3
-    (λ c. let t = c .before .before .before .before .before .before .before .before .before .before .before .before .before .before .before .before .before .before .before .before in done _ _ _ _ _ _ _ (t .before .before .before .before .before .before .before .before .before .«open» .ensures) _ (t .before .before .before .before .before .before .before .count .given .1) _ _ _ _ (t .before .before .index-base .ensures) (t .enum-told .given .1) _ _ _ _ _ _ (c .before .before .before .before .write-plan .ensures) _ (c .before .before .before .before .before .before .before .before .before .before .before .before .before .before .before .before .before .before .if1 .left) _ _ (length-replicate {A = ℕ} 1024 0) (c .before .before .before .before .before .before .before .before .before .before .before .before .before .before .before .before .reassign-field-ids .ensures) _ _ _ (c .before .before .before .before .before .before .before .before .before .before .before .before .before .before .before .before .before .before .before .turn .ensures) (c .before .before .before .before .before .before .before .before .before .before .before .apply-to-identifier-fields .ensures))  -- returns-4
+    (λ c. let t = c .before .before .before .before .before .before .before .before .before .before .before .before .before .before .before .before .before .before .before .before in done _ _ _ _ _ _ _ (t .before .before .before .before .before .before .before .before .before .before .«open» .ensures) _ (t .before .before .before .before .before .before .before .before .count .given .1) _ _ _ _ (t .before .before .index-base .ensures) (t .enum-told .given .1) _ _ _ _ _ _ (c .before .before .before .before .write-plan .ensures) _ (c .before .before .before .before .before .before .before .before .before .before .before .before .before .before .before .before .before .before .if1 .left) _ _ (length-replicate {A = ℕ} 1024 0) (c .before .before .before .before .before .before .before .before .before .before .before .before .before .before .before .before .reassign-field-ids .ensures) _ _ _ (c .before .before .before .before .before .before .before .before .before .before .before .before .before .before .before .before .before .before .before .turn .ensures) (c .before .before .before .before .before .before .before .before .before .before .before .apply-to-identifier-fields .ensures))  -- returns-4
     )
