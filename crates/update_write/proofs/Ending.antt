@@ -132,7 +132,10 @@ module _ (l : Trees) (i : List ℕ) (given : Given) (c : ℕ) (decisions : List 
     all-added ds j (suc k) q = (each-added j (omega arith), all-added ds (suc j) k (omega arith))
 
   added-seated : (x : ℕ) → x < given .added → (i : ℕ) → Seated (added-source i x)
-  added-seated x y i = let n = h .added-count in inr (omega arith, added-sits 1 l (h .added) (h .added-read) x (omega arith))
+  added-seated x y i =
+      let n = h .added-count in
+      let small = h .resolved .small in
+      inr (omega arith, added-sits 1 l (h .added) (h .added-read) (omega arith) x (omega arith))
 
   module _ (held : Dropped) (g : Gathered (drops-in decisions) (given .deletions) held) where
     abbrev unmarked-tree : Forest Source
