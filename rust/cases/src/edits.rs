@@ -93,7 +93,7 @@ impl About {
         let mut edits: Vec<Edit> = vec![];
         let mut renamed = vec![];
         while edits.len() < count {
-            let wrong = !tame && random.chance(1, 3);
+            let wrong = !tame && random.chance(1, 2);
             let more = match wrong {
                 true => self.wrong(random, &edits),
                 false => self.right(random, &mut renamed),
@@ -115,79 +115,88 @@ impl About {
 
     /// Edits that pass, or two columns that meet.
     fn right(&self, random: &mut Random, renamed: &mut Vec<usize>) -> Option<Vec<Edit>> {
-        let stays = |slot: usize| !self.goes(slot);
-        let which = random.below(24);
-        if which < 9 {
-            let required = |slot: usize| self.rows.rows[slot].flags & REQUIRED != 0;
-            let identifier = |slot: usize| self.leads_to_an_identifier(slot);
-            let slot = match which {
-                // 9 asks of it afterwards
-                0 => self.some(random, identifier),
-                1..=5 => self
-                    .some(random, |s| stays(s) && required(s) && !identifier(s) && !self.is_key(s)),
-                6 | 7 => self.some(random, |s| stays(s) && held(&self.rows, s) && !self.is_key(s)),
-                _ => self.some(random, |s| stays(s) && !self.is_key(s) && !identifier(s)),
-            };
-            let slot = slot.or_else(|| self.some(random, |s| stays(s) && !self.is_key(s)))?;
-            let once = Edit { path: self.path(random, slot), change: Change::Relax };
-            let times = if random.chance(1, 8) { 2 } else { 1 };
-            return Some(vec![once; times]);
-        }
-        let free = |s: usize| stays(s) && !held(&self.rows, s) && !renamed.contains(&s);
-        let beside = |s: usize, is: &dyn Fn(usize) -> bool| {
-            self.siblings(s).iter().any(|other| *other != s && is(*other))
+        if random.chance(1, 3) { self.relaxing(random) } else { self.renaming(random, renamed) }
+    }
+
+    fn relaxing(&self, random: &mut Random) -> Option<Vec<Edit>> {
+        let fits = |slot: usize| !self.goes(slot) && !self.is_key(slot);
+        let required = |slot: usize| self.rows.rows[slot].flags & REQUIRED != 0;
+        let identifier = |slot: usize| self.leads_to_an_identifier(slot);
+        let slot = match random.below(9) {
+            // 9 asks of it afterwards
+            0 => self.some(random, identifier),
+            1..=5 => self.some(random, |s| fits(s) && required(s) && !identifier(s)),
+            6 | 7 => self.some(random, |s| fits(s) && held(&self.rows, s)),
+            _ => self.some(random, |s| fits(s) && !identifier(s)),
         };
-        let slot = match which {
-            11 | 12 => self.some(random, |s| free(s) && beside(s, &|other| !stays(other))),
-            15 => self.some(random, |s| free(s) && beside(s, &|other| renamed.contains(&other))),
-            20 => self.some(random, |s| free(s) && self.is_identifier(s)),
+        let slot = slot.or_else(|| self.some(random, fits))?;
+        let once = Edit { path: self.path(random, slot), change: Change::Relax };
+        let times = if random.chance(1, 8) { 2 } else { 1 };
+        Some(vec![once; times])
+    }
+
+    fn renaming(&self, random: &mut Random, renamed: &mut Vec<usize>) -> Option<Vec<Edit>> {
+        let stays = |slot: usize| !self.goes(slot);
+        let free = |s: usize| stays(s) && !held(&self.rows, s) && !renamed.contains(&s);
+        let own = |slot: usize| &self.rows.rows[slot].name;
+        let plain = |slot: usize| free(slot) && !own(slot).contains(&b'.');
+        let before = |slot: usize| renamed.contains(&slot);
+        let which = random.below(16);
+        // a sibling whose name it gets: one that stays, is dropped, is renamed before it, or after it
+        let pair = match which {
+            0 | 1 => self.siblings_by(random, free, stays),
+            2 | 3 => self.siblings_by(random, free, |s| !stays(s)),
+            4 => self.siblings_by(random, free, before),
+            5..=7 => self.siblings_by(random, plain, plain),
             _ => None,
         };
-        let slot = slot.or_else(|| self.some(random, free))?;
-        let other = |random: &mut Random, is: &dyn Fn(usize) -> bool| {
-            let fit = self.siblings(slot).iter().filter(|s| **s != slot && is(**s));
-            let fit: Vec<usize> = fit.copied().collect();
-            if fit.is_empty() { None } else { Some(*random.pick(&fit)) }
-        };
-        let own = |slot: usize| self.rows.rows[slot].name.clone();
-        let to = |random: &mut Random, slot: usize, name: Vec<u8>| Edit {
-            path: self.path(random, slot),
-            change: Change::Rename(name.into_iter().filter(|byte| *byte != b'.').collect()),
-        };
-        let name = match which {
-            // of two that exchange names one may be gone, or renamed already
-            9 | 10 => {
-                let fit = |s: usize| stays(s) && !renamed.contains(&s) && !own(s).contains(&b'.');
-                match other(random, &fit) {
-                    Some(next) if !own(slot).contains(&b'.') => {
-                        renamed.extend([slot, next]);
-                        let pair = vec![to(random, slot, own(next)), to(random, next, own(slot))];
-                        return Some(pair);
-                    }
+        let (slot, name) = match pair {
+            Some((slot, other)) => (slot, own(other).clone()),
+            None => {
+                let identifier = |slot: usize| free(slot) && self.is_identifier(slot);
+                let slot = if which == 8 { self.some(random, identifier) } else { None };
+                let slot = slot.or_else(|| self.some(random, free))?;
+                let name = match which {
+                    9 if !self.added.is_empty() => random.pick(&self.added).clone(),
+                    10 => vec![],
+                    11 => vec![b'a' + random.below(26) as u8; 255],
+                    12 => own(slot).clone(),
+                    13 => name(random),
                     _ => fresh(random),
-                }
+                };
+                (slot, name)
             }
-            11 | 12 => other(random, &|s| !stays(s)).map_or_else(|| fresh(random), own),
-            13 => other(random, &stays).map_or_else(|| fresh(random), own),
-            14 => match self.added.is_empty() {
-                true => fresh(random),
-                false => random.pick(&self.added).clone(),
-            },
-            // one that an earlier edit frees
-            15 => other(random, &|s| renamed.contains(&s)).map_or_else(|| fresh(random), own),
-            16 => vec![],
-            17 => vec![b'a' + random.below(26) as u8; 255],
-            18 => own(slot),
-            19 => name(random),
-            _ => fresh(random),
         };
+        let to = |random: &mut Random, slot: usize, name: &[u8]| Edit {
+            path: self.path(random, slot),
+            change: Change::Rename(name.iter().copied().filter(|byte| *byte != b'.').collect()),
+        };
+        let mut edits = vec![to(random, slot, &name)];
         renamed.push(slot);
-        let mut edits = vec![to(random, slot, name)];
+        if let (5..=7, Some((_, other))) = (which, pair) {
+            edits.push(to(random, other, own(slot)));
+            renamed.push(other);
+        }
         if random.chance(1, 5) {
             let path = self.path(random, slot);
             edits.insert(random.below(2), Edit { path, change: Change::Relax });
         }
         Some(edits)
+    }
+
+    /// Two siblings, if there are such.
+    fn siblings_by(
+        &self,
+        random: &mut Random,
+        one: impl Fn(usize) -> bool,
+        other: impl Fn(usize) -> bool,
+    ) -> Option<(usize, usize)> {
+        let beside = |slot: usize| {
+            self.siblings(slot).iter().copied().filter(move |s| *s != slot).filter(|s| other(*s))
+        };
+        let slot = self.some(random, |slot| one(slot) && beside(slot).next().is_some())?;
+        let others: Vec<usize> = beside(slot).collect();
+        Some((slot, *random.pick(&others)))
     }
 
     fn is_identifier(&self, slot: usize) -> bool {
@@ -207,38 +216,39 @@ impl About {
             _ => Change::Rename(fresh(random)),
         };
         let any = |random: &mut Random| self.some(random, |_| true);
-        Some(match random.below(10) {
+        Some(match random.below(13) {
             0 => {
                 let mut path = any(random).map_or(vec![], |slot| self.rows.full_name(slot));
                 path.extend(*random.pick(&[&b"."[..], b"x", b".element", b""]));
                 vec![Edit { path, change }]
             }
-            1 | 2 => {
-                let slot = self.some(random, |slot| self.goes(slot))?;
-                vec![Edit { path: self.path(random, slot), change }]
+            which @ 1..=4 => {
+                let beneath = |slot: usize| which < 3 || !self.dropped.contains(&slot);
+                let slot = self.some(random, |slot| self.goes(slot) && beneath(slot))?;
+                vec![Edit { path: self.rows.full_name(slot), change }]
             }
             // a column that is added, or a name that is new
-            3 if !self.added.is_empty() => {
+            5 if !self.added.is_empty() => {
                 vec![Edit { path: random.pick(&self.added).clone(), change }]
             }
-            3 | 4 => {
+            5 | 6 => {
                 let new = |edit: &Edit| match &edit.change {
                     Change::Rename(name) => Some(name.clone()),
                     Change::Relax => None,
                 };
                 vec![Edit { path: before.iter().find_map(new)?, change }]
             }
-            5 | 6 => {
+            7 | 8 => {
                 let slot = self.some(random, |slot| held(&self.rows, slot))?;
                 let own = self.rows.rows[slot].name.clone();
                 let name = if random.chance(1, 2) { own } else { fresh(random) };
                 vec![Edit { path: self.rows.full_name(slot), change: Change::Rename(name) }]
             }
-            7 => {
+            9 | 10 => {
                 let slot = self.some(random, |slot| self.is_key(slot))?;
                 vec![Edit { path: self.rows.full_name(slot), change: Change::Relax }]
             }
-            8 => {
+            11 => {
                 let slot = self.some(random, |s| !self.goes(s) && !held(&self.rows, s))?;
                 let path = self.rows.full_name(slot);
                 let one = Edit { path: path.clone(), change: Change::Rename(fresh(random)) };

@@ -177,7 +177,7 @@ const SHAPES: &[&str] = &[
 pub fn shapes_of(case: &Case, answer: &Answer) -> Vec<&'static str> {
     let mut shapes = vec![];
     let mut met = |shape, is: bool| {
-        if is && !shapes.contains(&shape) {
+        if is {
             shapes.push(shape);
         }
     };

@@ -106,9 +106,9 @@ fn edits_are_common() {
         (200, "update: two columns exchange names"),
         (400, "update: renamed to a dropped sibling's name"),
         (200, "update: 8 for a rename onto a sibling"),
-        (400, "update: 23 beneath a dropped member"),
-        (400, "update: 24 for a second rename"),
-        (100, "update: 23, 24 or 13 of the last of several edits"),
+        (500, "update: 23 beneath a dropped member"),
+        (500, "update: 24 for a second rename"),
+        (200, "update: 23, 24 or 13 of the last of several edits"),
     ] {
         let times = tally.shapes[shape].sum();
         assert!(times * often > cases, "{shape}: {times} of {cases}");

@@ -2,8 +2,8 @@
 //! named cases have the rest: both judges give the answers there.
 
 use cases::{
-    Answer, Ask, Case, Expected, Named, answer, list_of, map_of, named, packed, prim, strukt,
-    the_tree, update_of,
+    Answer, Ask, Case, Expected, Named, answer, edited, list_of, map_of, named, packed, prim,
+    relax, rename, strukt, the_tree, update_of,
 };
 use compare::iceberg;
 use judge::{Node, REQUIRED};
@@ -223,6 +223,43 @@ fn an_addition_to_a_dropped_parent_is_nowhere() {
     for case in [smallest, taken, identifier, next, past] {
         assert!(Expected::Refused(22, 3, 0).met_by(&answer(&case)));
     }
+}
+
+/// 02, 5/13: the crate has no edits, and its builder is asked for the tree that they leave.
+#[test]
+fn the_builder_is_given_the_edited_tree() {
+    let Some(iceberg) = iceberg() else { return };
+    let base = [required(strukt(1, "s", vec![required(prim(2, "i"))])), prim(3, "b")];
+    let asked = |edit| edited(update_of(&base, &[2], 3, &[], &[]), &[edit]);
+    for (edit, number, said) in [
+        (rename("b", "s"), 8, "multiple fields for name s"),
+        (relax("s.i"), 9, "is an optional field"),
+        (relax("s"), 9, "must not be nested in an optional field"),
+        (relax("x"), 23, "not there"),
+    ] {
+        let case = asked(edit);
+        let Verdict::Refused { number: told, text, base: false, .. } = iceberg.verdict(&case)
+        else {
+            panic!("it is refused: {said}")
+        };
+        assert!(told == number && text.contains(said), "{told}: {text}");
+        assert_eq!(answer(&case).refusal().map(|r| r.number), Some(number), "{said}");
+    }
+    for edit in [rename("s.i", "b"), rename("s", "t"), relax("b")] {
+        let case = asked(edit);
+        assert_eq!(iceberg.verdict(&case), Verdict::Answer(answer(&case)));
+    }
+}
+
+/// P6: without the rename the crate's own update turns the rebuilt tree down.
+#[test]
+fn a_rename_parts_names_that_meet_in_the_crates_own_update() {
+    let Some(iceberg) = iceberg() else { return };
+    let added = [(Some("visits"), prim(0, "day"))];
+    let case = update_of(&the_tree(), &[], 10, &["visits.element"], &added);
+    assert_eq!(number(iceberg, &case), 8);
+    let case = edited(case, &[rename("visits.day", "date")]);
+    assert_eq!(iceberg.verdict(&case), Verdict::Answer(answer(&case)));
 }
 
 #[test]

@@ -207,7 +207,7 @@ fn a_word_that_differs_is_told_where_there_are_edits() {
         };
         assert_eq!(agreement(&case, &paper, &wrong), Agreement::Differ, "{title}");
     }
-    assert!(built > 50 && refused > 20 && missed > 40, "{built}, {refused} and {missed}");
+    assert!(built > 50 && refused > 15 && missed > 40, "{built}, {refused} and {missed}");
 }
 
 /// What a refused edit says is put to the crate as far as it goes: its deletions and additions pass
