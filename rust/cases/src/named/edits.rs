@@ -511,7 +511,7 @@ fn limits(all: &mut Cases) {
     let to = |bytes: usize| rename("x", &"z".repeat(bytes));
     all.put("5/13: a name sum of 32,768 by a rename", long(&[to(128)], 0), Expected::Count(129));
     all.put(
-        "reading 188: a name sum of 32,769 by a rename",
+        "reading 189: a name sum of 32,769 by a rename",
         long(&[to(129)], 0),
         refused(19, 4, 0),
     );
