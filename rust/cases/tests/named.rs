@@ -69,7 +69,7 @@ fn the_named_cases_hold_every_refusal_and_all_worked_examples() {
         assert!(titles.iter().any(|title| title.starts_with(&start)), "{start}");
     }
     // 25 and 36 are points that no input can show; 36 has a case all the same
-    let of_02 = (145..=148).chain(161..=164).chain(168..=171).chain(181..=188);
+    let of_02 = (145..=148).chain(161..=164).chain(168..=171).chain(181..=189);
     for reading in (1..=67).filter(|n| *n != 25).chain(of_02) {
         let start = format!("reading {reading}:");
         assert!(titles.iter().any(|title| title.starts_with(&start)), "{start}");
