@@ -58,11 +58,12 @@ module _ (t : Forest Field) (ds ds′ : List ℕ) (h : (x : ℕ) → among x ds 
   pub edits-same : (k : ℕ) (earlier : List Edited) (es : List Edit) → edited-all t ds k earlier es ≡ edited-all t ds′ k earlier es
   unfolding edited-all _>>=_
   edits-same k earlier [] = refl
-  edits-same k earlier (e ∷ es) = rw (one-same k earlier e) (go (edited-one t ds′ k earlier e))
+  edits-same k earlier (e ∷ es) = rw (one-same k earlier e) (go (edited-one t ds′ k earlier e) (λ d. edits-same (suc k) (earlier ++ (d ∷ [])) es))
     where
-      go : (a : Answer Edited) → (a >>= λ d. edited-all t ds (suc k) (earlier ++ (d ∷ [])) es) ≡ (a >>= λ d. edited-all t ds′ (suc k) (earlier ++ (d ∷ [])) es)
-      go (ok d) = edits-same (suc k) (earlier ++ (d ∷ [])) es
-      go (refused n l p) = refl
+      go : (a : Answer Edited) → ((d : Edited) → edited-all t ds (suc k) (earlier ++ (d ∷ [])) es ≡ edited-all t ds′ (suc k) (earlier ++ (d ∷ [])) es)
+          → (a >>= λ d. edited-all t ds (suc k) (earlier ++ (d ∷ [])) es) ≡ (a >>= λ d. edited-all t ds′ (suc k) (earlier ++ (d ∷ [])) es)
+      go (ok d) f = f d
+      go (refused n l p) f = refl
 
 -- ---- the loop
 
@@ -84,7 +85,7 @@ module _ (l : Trees) (n total : ℕ) (t : Forest Field) (ds : List ℕ) where
 
   pub edit-starts : (marks : List ℕ) → Carries l n marks [] → Editing 0 marks
   edit-starts marks h =
-      record { within = omega arith; earlier = []; carries = h; left = ap (edited-all t ds 0 []) (from-all asked total) }
+      record { within = omega arith; earlier = []; carries = h; left = sym (ap (edited-all t ds 0 []) (from-all asked total)) }
 
   none-left : (k : ℕ) (earlier : List Edited) → edited-all t ds k earlier [] ≡ ok earlier
   unfolding edited-all
@@ -197,8 +198,8 @@ module _ (l : Trees) (given : Given) (plan index : List (List ℕ)) (marks₀ : 
 
   pub behind : (decisions : List (List ℕ)) (drops : Dropped) (c : Check) (marks′ : List ℕ) → (given .edits ≡ 0 → ⊥) → Gathered (drops-in decisions) (given .deletions) drops
       → EditsBy c (all-edited l given plan (dropped-ids drops)) l n marks′ → EditsIn l given plan decisions c marks′
-  behind decisions drops c marks′ some g a =
+  behind decisions drops c marks′ asked g a =
       record {
         by = subst (λ (z : Answer (List Edited)). EditsBy c z l n marks′) (edits-same t (dropped-ids drops) (row-ids (drops-in decisions) (given .deletions)) (g .holds) 0 [] _) a;
-        unmarked = λ e. absurd (some e);
+        unmarked = λ e. absurd (asked e);
       }

@@ -6,7 +6,7 @@ use mathlib.Core.List.{List}
 use native.Mathlib.Omega.{arith}
 use borrow.Author.Tests.{ltb-true, ltb-false, lt-ltb, le-ltb}
 use lib.Dec.{ltb}
-use lib.ListN.{getD, replicate, getD-replicate}
+use lib.ListN.{length, getD, replicate, getD-replicate}
 use Rattle.paper.specs.Forest.{Forest, empty, node, mapped}
 use Rattle.laws.proofs.Preorder.{size-mapped, siblings-mapped, levels-mapped}
 use Rattle.plan.specs.Plan.{Source}
@@ -26,7 +26,7 @@ unfolding remarked as-marked
 bare x = go (ltb x 1024) refl
   where
     go : (b : Bool) → ltb x 1024 ≡ b → remarked (replicate 1024 0) x ≡ x
-    go true e = rw (e, getD-replicate 1024 x 0 0 (ltb-true x 1024 e))
+    go true e = rw (e, getD-replicate {A = ℕ} 1024 x 0 0 (ltb-true x 1024 e))
     go false e = rw e
 
 bare-tree : (t : Forest Source) → mapped (remark (replicate 1024 0)) t ≡ t
@@ -43,6 +43,13 @@ verdict-mapped : (g : Source → Source) (n : ℕ) (t : Forest Source) → verdi
 unfolding verdict
 verdict-mapped g n t = rw (fits-mapped g t, size-mapped g t, siblings-mapped g t)
 
+pub mark-asks : (t : Forest Source) (n : ℕ) (plan plan′ : List (List ℕ)) (r : Step) → Rebuilds t n plan r plan′ → (w : Place) → r ≡ Went w → (w .at ≤ 1024) × (length plan′ ≡ 3)
+mark-asks t n plan plan′ r v w d =
+    let z = verdict-went n t r w (v .answer) d in
+    let f = of-fits t (z .0) .1 in
+    let e = z .1 in
+    (omega arith, v .laid (z .0) .rows)
+
 module _ (t : Forest Source) (n : ℕ) (marks : List ℕ) (plan plan′ : List (List ℕ)) (r : Step) (v : Rebuilds t n plan r plan′) where
   pub full-edited : r ≡ Full → Rebuilds (mapped (remark marks) t) n plan Full plan′
   full-edited d =
@@ -55,13 +62,10 @@ module _ (t : Forest Source) (n : ℕ) (marks : List ℕ) (plan plan′ : List (
     pub unmarked-edited : (edits : ℕ) → edits ≡ 0 → (edits ≡ 0 → Unmarked marks) → Rebuilds (mapped (remark marks) t) n plan (Went w) plan′
     unmarked-edited edits e u = rw (u e, bare-tree t, ← d) v
 
-    pub mark-asks : (w .at ≤ 1024)
-    mark-asks = let z = verdict-went n t r w (v .answer) d in let f = of-fits t (z .0) .1 in let e = z .1 in omega arith
-
     pub marked-edited : (plan″ : List (List ℕ)) → Roomy plan → RemarkedIn marks (w .at) plan′ plan″ → Rebuilds (mapped (remark marks) t) n plan (Went w) plan″
     marked-edited plan″ room m =
         let z = verdict-went n t r w (v .answer) d in
         record {
           answer = sym d ∙ v .answer ∙ sym (verdict-mapped (remark marks) n t);
-          laid = λ e. remarked-laid marks t (w .at) plan plan′ plan″ (z .1) (let f = mark-asks in let s = room .sources-room in omega arith) (v .laid (z .0)) m;
+          laid = λ e. remarked-laid marks t (w .at) plan plan′ plan″ (z .1) (let f = mark-asks t n plan plan′ r v w d .0 in let s = room .sources-room in omega arith) (v .laid (z .0)) m;
         }
