@@ -172,8 +172,8 @@ module _ (l : Trees) (given : Given) (plan index : List (List ℕ)) (marks₀ : 
       one-says earlier c =
           rw base-is (edited-is rises-here (l .pool) (l .request-pool) (l .edits) k ds marks earlier f r (rw (← base-is, ← ep) ef) (c .renames) o)
 
-      pub all-stop : (x : Refusal) (marks′ : List ℕ) → r ≡ editing.Refused x → EditsBy (check.Refused x) (all-edited l given plan ds) l n marks′
-      all-stop x marks′ q = edit-stops l n (given .edits) t ds k marks H b r one-says x q
+      pub all-stop : (x : Refusal) → r ≡ editing.Refused x → all-edited l given plan ds ≡ refused (x .number) (x .list) (x .place)
+      all-stop x q = edit-stops l n (given .edits) t ds k marks H b r one-says x q
 
       pub all-go : (s : Slot) (marks′ : List ℕ) → r ≡ editing.At s → marks′ ≡ set marks (s .0) (marked-by (l .edits) k (getD marks (s .0) 0)) → Editing l n (given .edits) t ds (k + 1) marks′
       all-go s marks′ q e =
