@@ -23,7 +23,7 @@ use Rattle.record.specs.declared.Check.the-variants as check
 use Rattle.record.specs.declared.Refusal.{Refusal}
 use Rattle.record.specs.Says.{refusal-of}
 use Rattle.record.specs.Trees.{Trees, Lists, stored-in, lent-in}
-use Rattle.laws.proofs.Basics.{unbind, ok-is, fault-ok}
+use Rattle.laws.proofs.Basics.{unbind, ok-is, fault-ok, bind-is}
 use Rattle.laws.proofs.Own.{sound-distinct}
 use Rattle.laws.proofs.Fitting.{sized-slots}
 use Rattle.laws.proofs.Preorder.{siblings-mapped}
@@ -206,6 +206,9 @@ module _ (l : Trees) (lists : Lists) (last columns : ℕ) (plan index decisions 
         h .room,
       )
 
+      pub edits-ask : Editable l g plan index marks
+      edits-ask = rw eg record { based = the-base; indexed = h .has-index; edits-there = edit-entries; few-drops = deletion-entries .few; unmarked = h .unmarked }
+
       -- the paper's plan is the decisions and the edits
       abbrev dropping : Forest Field → Answer (List ℕ)
       dropping base = deleted base (id-list (lists .identifiers)) 0 (from (path-of (l .request-pool) (lists .deletions)) 0 d)
@@ -250,9 +253,6 @@ module _ (l : Trees) (lists : Lists) (last columns : ℕ) (plan index decisions 
             }
 
         module _ (j : ℕ) (z : y ≡ decided.Last j) where
-          pub edits-ask : Editable l g plan index marks
-          edits-ask = rw eg record { based = the-base; indexed = h .has-index; edits-there = edit-entries; few-drops = deletion-entries .few; unmarked = h .unmarked }
-
           placings : (base : Forest Field) → decode 0 (l .records) (l .pool) ≡ ok base
               → Placings (changes base (id-list (lists .identifiers)) (l .request-pool) (lists .deletions) d (l .added-records) (lists .additions) a m last) (l .request-pool) (l .added-records) a m last j (unders-in decisions′) (firsts-in decisions′) (starts-in decisions′)
           placings base e = rw z at (at-tree base e .by)
@@ -301,7 +301,7 @@ module _ (l : Trees) (lists : Lists) (last columns : ℕ) (plan index decisions 
                     let few-entries = addition-entries .few in
                     record {
                       edits = w .edits;
-                      is = planned-at base added e ∙ rw (w .is);
+                      is = planned-at base added e ∙ bind-is _ _ (w .edits) (w .is);
                       carries = w .carries;
                       most = p .most;
                       resolved = record { whole = omega arith; small = added-few; few = few-entries; under = p .under; first = p .first; tree = p .tree };
