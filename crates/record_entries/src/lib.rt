@@ -111,7 +111,7 @@ fn edit_path_len(edits: &[u8], k: usize) -> usize
     le16(edits, k * 16 + 4) as usize
 }
 
-// The offset and the length of an edit's new name.
+// The offset of an edit's new name.
 fn new_name_from(edits: &[u8], k: usize) -> usize
     requires { ⌜ k * 16 + 16 ≤ length (now edits) ⌝ }
     ensures { λ r. ⌜ (r ≡ edit-at (now (edits .entry)) k .name-at) × (r < 4294967296) ⌝ }
@@ -119,6 +119,7 @@ fn new_name_from(edits: &[u8], k: usize) -> usize
     le32(edits, k * 16 + 8) as usize
 }
 
+// The length of an edit's new name.
 pub fn new_name_len(edits: &[u8], k: usize) -> usize
     requires { ⌜ k * 16 + 16 ≤ length (now edits) ⌝ }
     ensures { λ r. ⌜ (r ≡ edit-at (now (edits .entry)) k .name-len) × (r ≤ 255) ⌝ }
