@@ -14,6 +14,7 @@ use Rattle.paper.specs.Sound.{text, fitting, misnamed, names, ids, sound
 use Rattle.paper.specs.Prune.{prune}
 use Rattle.paper.specs.Renumber.{level, numbered, renumber}
 use Rattle.paper.specs.Gone.{gone}
+use Rattle.paper.specs.Promotions.{known-version, is-decimal, more-digits, allowed}
 use Rattle.paper.specs.Edits.{edited-one, edited-all, edit-fields}
 use Rattle.paper.specs.Update.{deleted, member-taken, placed, placed-all, planned}
 use Rattle.paper.specs.Rebuild.{fresh, arrivals, arriving, rebuilt, carried-out, update}
@@ -127,7 +128,7 @@ pub pins : Held
 unfolding answer answer-of signed-id _>>=_ lowest size siblings levels preorder counts mapped _then_
     rows entered look-name look-id look-parent fold folded matching look-folded
     fitting misnamed names ids sound name-bytes within prune level numbered renumber
-    gone edited-one edited-all edit-fields deleted member-taken placed placed-all planned fresh arrivals arriving rebuilt carried-out update
+    known-version is-decimal more-digits allowed gone edited-one edited-all edit-fields deleted member-taken placed placed-all planned fresh arrivals arriving rebuilt carried-out update
     word16 word32 turned ok-bytes in-pool kind-from name-of field-at from
     ok-deletion ok-addition path-in ok-edit edit-in entries-ok path-of parent-path deletion-paths addition-paths
     edit-path new-name edit-of edit-list id-list

@@ -20,12 +20,13 @@ use Rattle.paper.specs.Sample.{primitive, T-records, T-pool}
 
 -- ---- what is lent beside a request
 
--- A tree's bytes, identifiers, the last id, and the sizes of the output buffers.
+-- A tree's bytes, identifiers, the last id, the format version, and the sizes of the output buffers.
 pub record Lending : Type 0 where
   pub records : List ℕ
   pub pool : List ℕ
   pub identifiers : List ℕ
   pub last : ℕ
+  pub version : ℕ
   pub room-records : ℕ
   pub room-names : ℕ
   pub room-identifiers : ℕ
@@ -34,7 +35,7 @@ abbrev pub id-bytes : List ℕ → List ℕ
 id-bytes [] = []
 id-bytes (id ∷ ids) = bytes32 id (id-bytes ids)
 
--- With room for any answer.
+-- With room for any answer, in version 2.
 abbrev pub lending : (records pool identifiers : List ℕ) → (last : ℕ) → Lending
 lending records pool identifiers last =
     record {
@@ -42,6 +43,7 @@ lending records pool identifiers last =
       pool = pool;
       identifiers = id-bytes identifiers;
       last = last;
+      version = 2;
       room-records = 24576;
       room-names = 32768;
       room-identifiers = length (id-bytes identifiers);
@@ -70,17 +72,13 @@ infix 30 _under_
 abbrev pub _under_ : String → String → New
 name under path = new (primitive name 0) (some path)
 
--- An edit: a path and the new name of its column, if it gets one.
-pub record Editing : Type 0 where
-  pub path : String
-  pub name : Option String
-
+-- An edit: a path, and what its column gets: a new name, no longer required, a type code.
 infix 70 _to_
-abbrev pub _to_ : String → String → Editing
-path to name = record { path = path; name = some name }
-
-abbrev pub relaxing : String → Editing
-relaxing path = record { path = path; name = none }
+infix 70 _into_
+pub data Editing : Type 0 where
+  _to_ : (path name : String) → Editing
+  relaxing : (path : String) → Editing
+  _into_ : (path : String) (code : ℕ) → Editing
 
 -- The lists of a request, as bytes.
 pub record Lists : Type 0 where
@@ -119,14 +117,18 @@ find-each ids = find-numbers (id-bytes ids) (length (id-bytes ids))
 unfoldable pub signed-id : ℕ → ℤ
 signed-id id = cond (ltb id 2_147_483_648) (negsuc (2_147_483_647 - id)) (pos (id - 2_147_483_648))
 
--- A column as an update with edits leaves it: its id, its name and its flags.
+-- A column as an update with edits leaves it: its id, its name, its flags and its type code.
 pub record Shown : Type 0 where
   pub id : ℤ
   pub name : List ℕ
   pub flags : ℕ
+  pub code : ℕ
+
+abbrev pub shows-coded : (id : ℕ) → String → (flags code : ℕ) → Shown
+shows-coded id name flags code = record { id = pos id; name = text name; flags = flags; code = code }
 
 abbrev pub shows : (id : ℕ) → String → (flags : ℕ) → Shown
-shows id name flags = record { id = pos id; name = text name; flags = flags }
+shows id name flags = shows-coded id name flags 0
 
 -- What is answered: a tree's ids in slot order, and with an update's the last id, or with edits its columns; what is found; the
 -- slots of many ids; a refusal.
@@ -176,23 +178,26 @@ abbrev columns : List New → Forest Field
 columns [] = empty
 columns (a ∷ adds) = a .column then columns adds
 
--- An edit's 16 bytes: what it does, a path's offset and length, a new name's offset and length.
+-- An edit's 16 bytes: what it does, a path's offset and length, a new name's offset (or a type code) and length.
 abbrev pub edit-entry : (what at len name-at name-len : ℕ) → List ℕ
 edit-entry what at len name-at name-len =
     bytes32 at (bytes16 len (what ∷ 0 ∷ bytes32 name-at (name-len ∷ 0 ∷ 0 ∷ 0 ∷ [])))
 
 -- One whose path stands at an offset, its new name behind it.
-abbrev edit-bytes : ℕ → (path : List ℕ) → Option (List ℕ) → List ℕ
-edit-bytes at path none = edit-entry 2 at (length path) 0 0
-edit-bytes at path (some name) = edit-entry 1 at (length path) (at + length path) (length name)
+abbrev edit-bytes : ℕ → Editing → List ℕ
+edit-bytes at (path to name) =
+    edit-entry 1 at (length (text path)) (at + length (text path)) (length (text name))
+edit-bytes at (relaxing path) = edit-entry 2 at (length (text path)) 0 0
+edit-bytes at (path into code) = edit-entry 3 at (length (text path)) code 0
 
 abbrev edit-texts : Editing → List ℕ
-edit-texts e = joined (some (text (e .path)) ∷ some-text (e .name) ∷ [])
+edit-texts (path to name) = text path ++ text name
+edit-texts (relaxing path) = text path
+edit-texts (path into code) = text path
 
 abbrev edit-entries : ℕ → List Editing → List ℕ
 edit-entries at [] = []
-edit-entries at (e ∷ es) =
-    edit-bytes at (text (e .path)) (some-text (e .name)) ++ edit-entries (at + length (edit-texts e)) es
+edit-entries at (e ∷ es) = edit-bytes at e ++ edit-entries (at + length (edit-texts e)) es
 
 abbrev edits-pool : List Editing → List ℕ
 edits-pool [] = []
@@ -227,6 +232,7 @@ put-update update given asked =
     update (record { records = given .records; pool = given .pool; last = given .last })
     (record {
       identifiers = given .identifiers;
+      version = given .version;
       deletions = asked .deletions;
       additions = asked .additions;
       added-records = asked .added;
@@ -269,7 +275,7 @@ update-reply (ok result) = updated (shown result) (signed-id (turned (result .la
 update-reply (refused n l p) = refusal n list l place p
 
 abbrev shown-column : Field → Shown
-shown-column f = record { id = signed-id (f .id); name = f .name; flags = f .flags }
+shown-column f = record { id = signed-id (f .id); name = f .name; flags = f .flags; code = f .code }
 
 abbrev edits-reply : Answer Result → Reply
 edits-reply (ok result) = columns-are (map shown-column (preorder (result .tree)))

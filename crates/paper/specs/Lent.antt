@@ -8,9 +8,10 @@ pub record Stored : Type 0 where
   pub pool : List ℕ
   pub last : ℕ
 
--- The lists of a request, and the lengths of the output buffers.
+-- The lists of a request, the format version that it names (02, 6/13), and the lengths of the output buffers.
 pub record Lent : Type 0 where
   pub identifiers : List ℕ
+  pub version : ℕ
   pub deletions : List ℕ
   pub additions : List ℕ
   pub added-records : List ℕ

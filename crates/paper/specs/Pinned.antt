@@ -1,7 +1,7 @@
 -- Rules of 01 that P1 to P13 don't show: questions and answers, most of them the smallest inputs of docs/DECISIONS.md, whose
 -- number stands beside them. Then each refusal once, and the order of any two that can meet. All of them are one list and
 -- one claim (`pins`, with what no such list shows). The limits are a list apart, because their lists are long (theorems' `limits-hold`).
-use Prim.Native.Nat.{ℕ, zero, suc, _*_}
+use Prim.Native.Nat.{ℕ, zero, suc, _+_, _*_}
 use Prim.Native.String.{String}
 use mathlib.Core.List.{List, [], _∷_, _++_, map}
 use mathlib.Core.Option.{none, some}
@@ -9,13 +9,13 @@ use lib.IntN.{pos, negsuc}
 use lib.ListN.{take, set, replicate}
 use Rattle.paper.specs.declared.Kind.the-variants.{Primitive, Structure, Listing, Mapping}
 use Rattle.paper.specs.Forest.{Forest, empty, mapped, _then_}
-use Rattle.paper.specs.Field.{Field}
+use Rattle.paper.specs.Field.{Field, with-code}
 use Rattle.paper.specs.Sound.{text}
 use Rattle.paper.specs.Bytes.{from}
 use Rattle.paper.specs.Encode.{row24, record-bytes, pool-bytes}
-use Rattle.paper.specs.Sample.{column, with-code, primitive, required, struct, listing, mapping, T-records}
+use Rattle.paper.specs.Sample.{column, primitive, required, struct, listing, mapping, T-records}
 use Rattle.paper.specs.Asked.{Lending, lending, lent, T-lent, New, new, at-root, _under_, Lists, entry}
-use Rattle.paper.specs.Asked.{Editing, _to_, relaxing, edit_drop_add_, edit-entry, Shown, shows, columns-are}
+use Rattle.paper.specs.Asked.{Editing, _to_, relaxing, _into_, edit_drop_add_, edit-entry, Shown, shows, shows-coded, columns-are}
 use Rattle.paper.specs.Asked.{Ask, renumber-from, identifiers-from, find, find-folding, find-number, find-above, find-numbers, find-each}
 use Rattle.paper.specs.Asked.{drop_add_, request}
 use Rattle.paper.specs.Asked.{choose, choose-full, of_ask_}
@@ -48,9 +48,24 @@ with-room records names identifiers given =
       pool = given .pool;
       identifiers = given .identifiers;
       last = given .last;
+      version = given .version;
       room-records = records;
       room-names = names;
       room-identifiers = identifiers;
+    }
+
+-- In a format version.
+abbrev in-version : (version : ℕ) → Lending → Lending
+in-version version given =
+    record {
+      records = given .records;
+      pool = given .pool;
+      identifiers = given .identifiers;
+      last = given .last;
+      version = version;
+      room-records = given .room-records;
+      room-names = given .room-names;
+      room-identifiers = given .room-identifiers;
     }
 
 -- A byte less than the records of any answer may need.
@@ -331,6 +346,101 @@ others =
     gives refusal 6 list 1 place 1)
     ∷ []
 
+-- ---- 02, 6/13: widening
+
+-- One column of a type code, and then of another, in each version what is told of the step.
+abbrev stepping : (old new : ℕ) (version : ℕ) → Reply → Example
+stepping old new version told =
+    (of in-version version (tree-of (of-type old 0 "a" 1)) ask edit ("a" into new ∷ []) drop [] add []) gives told
+
+abbrev a-step : (old new : ℕ) (version : ℕ) → Example
+a-step old new version = stepping old new version (columns-are (shows-coded 1 "a" 0 new ∷ []))
+
+abbrev no-step : (old new : ℕ) (version : ℕ) → Example
+no-step old new version = stepping old new version (refusal 26 list 6 place 0)
+
+abbrev in-both : ((version : ℕ) → Example) → List Example
+in-both example = example 2 ∷ example 3 ∷ []
+
+-- The codes from 0 to 10 in pairs, first to second: all that are no step in a version.
+abbrev no-steps-to : (version old : ℕ) → (new : List ℕ) → List Example
+no-steps-to version old new = map (λ code. no-step old code version) new
+
+-- A decimal's code.
+abbrev decimal : (precision scale : ℕ) → ℕ
+decimal precision scale = 65536 + 256 * precision + scale
+
+-- A list and a map of ints; a required int, a float, and a struct.
+abbrev ints : Forest Field
+ints =
+    listing "l" 1 (of-type 2 0 "element" 2)
+    then mapping "m" 3 (of-type 2 1 "key" 4 then of-type 2 0 "value" 5)
+
+abbrev ints-are : (element key value : ℕ) → Reply
+ints-are element key value =
+    columns-are
+    (shows 1 "l" 0 ∷ shows-coded 2 "element" 0 element ∷ shows 3 "m" 0 ∷ shows-coded 4 "key" 1 key
+    ∷ shows-coded 5 "value" 0 value ∷ [])
+
+abbrev priced : Forest Field
+priced = of-type 2 1 "a" 1 then of-type 5 1 "b" 2 then struct "c" 3 empty
+
+abbrev priced-are : (a b : ℕ) → Reply
+priced-are a b = columns-are (shows-coded 1 "a" 1 a ∷ shows-coded 2 "b" 1 b ∷ shows 3 "c" 0 ∷ [])
+
+abbrev widenings : List Example
+widenings =
+    -- Both versions: int to long, float to double; version 3 alone: date to timestamp and to timestamp_ns.
+    in-both (a-step 2 3) ++ in-both (a-step 5 6)
+    ++ a-step 4 7 3 ∷ a-step 4 8 3 ∷ no-step 4 7 2 ∷ no-step 4 8 2
+    -- No other pair, not even of equal codes (199), nor with a code outside the table (198).
+    ∷ no-steps-to 3 0 (from (λ code. code) 0 11) ++ no-steps-to 3 1 (from (λ code. code) 0 11)
+    ++ no-steps-to 3 2 (0 ∷ 1 ∷ 2 ∷ 4 ∷ 5 ∷ 6 ∷ 7 ∷ 8 ∷ 9 ∷ 10 ∷ [])
+    ++ no-steps-to 3 3 (from (λ code. code) 0 11)
+    ++ no-steps-to 3 4 (0 ∷ 1 ∷ 2 ∷ 3 ∷ 4 ∷ 5 ∷ 6 ∷ 9 ∷ 10 ∷ [])
+    ++ no-steps-to 3 5 (0 ∷ 1 ∷ 2 ∷ 3 ∷ 4 ∷ 5 ∷ 7 ∷ 8 ∷ 9 ∷ 10 ∷ [])
+    ++ no-steps-to 3 6 (from (λ code. code) 0 11) ++ no-steps-to 3 7 (from (λ code. code) 0 11)
+    ++ no-steps-to 3 8 (from (λ code. code) 0 11) ++ no-steps-to 3 9 (from (λ code. code) 0 11)
+    ++ no-steps-to 3 10 (from (λ code. code) 0 11)
+    -- A decimal: a higher precision, with equal scale, in both versions; from 1 to 38, a scale up to the precision.
+    ++ in-both (a-step (decimal 9 2) (decimal 10 2)) ++ in-both (a-step (decimal 1 0) (decimal 38 0))
+    ++ in-both (a-step (decimal 37 37) (decimal 38 37)) ++ in-both (a-step (decimal 1 1) (decimal 2 1))
+    ++ in-both (no-step (decimal 9 2) (decimal 9 2)) ++ in-both (no-step (decimal 9 2) (decimal 8 2))
+    ++ in-both (no-step (decimal 9 2) (decimal 10 3)) ++ in-both (no-step (decimal 9 2) (decimal 10 1))
+    ++ in-both (no-step (decimal 38 2) (decimal 39 2)) ++ in-both (no-step (decimal 39 2) (decimal 40 2))
+    ++ in-both (no-step (decimal 40 2) (decimal 38 2)) ++ in-both (no-step (decimal 0 0) (decimal 1 0))  -- 200
+    ++ in-both (no-step (decimal 2 3) (decimal 3 3)) ++ in-both (no-step (decimal 1 3) (decimal 2 3))
+    ++ in-both (no-step 2 (decimal 9 0)) ++ in-both (no-step (decimal 9 0) 3)
+    -- In any role, of a key too.
+    ++ (of tree-of ints ask edit ("l.element" into 3 ∷ "m.key" into 3 ∷ "m.value" into 3 ∷ []) drop [] add []
+    gives ints-are 3 3 3)
+    -- What is no primitive has no step; a rename, a relaxing and a widening of one column are three things (202).
+    ∷ (of tree-of priced ask edit ("c" into 3 ∷ []) drop [] add [] gives refusal 26 list 6 place 0)
+    ∷ (of tree-of priced ask edit ("a" to "d" ∷ relaxing "a" ∷ "a" into 3 ∷ []) drop [] add []
+    gives columns-are (shows-coded 1 "d" 0 3 ∷ shows-coded 2 "b" 1 5 ∷ shows 3 "c" 0 ∷ []))
+    ∷ (of tree-of priced ask edit ("a" into 3 ∷ relaxing "a" ∷ "a" to "d" ∷ []) drop [] add []
+    gives columns-are (shows-coded 1 "d" 0 3 ∷ shows-coded 2 "b" 1 5 ∷ shows 3 "c" 0 ∷ []))
+    -- A second widening of a column is 24, whatever its step (201); a first one whose step is none is 26.
+    ∷ (of tree-of priced ask edit ("a" into 3 ∷ "a" into 3 ∷ []) drop [] add [] gives refusal 24 list 6 place 1)
+    ∷ (of in-version 3 (tree-of (of-type 4 0 "a" 1)) ask edit ("a" into 7 ∷ "a" into 8 ∷ []) drop [] add []
+    gives refusal 24 list 6 place 1)
+    ∷ (of tree-of priced ask edit ("a" into 9 ∷ "a" into 3 ∷ []) drop [] add [] gives refusal 26 list 6 place 0)
+    ∷ (of tree-of priced ask edit ("a" into 3 ∷ "b" into 6 ∷ []) drop [] add [] gives priced-are 3 6)
+    -- What is dropped or added is not widened.
+    ∷ (of tree-of priced ask edit ("a" into 3 ∷ []) drop ("a" ∷ []) add [] gives refusal 23 list 6 place 0)
+    ∷ (of tree-of priced ask edit ("d" into 3 ∷ []) drop [] add (new (of-type 2 0 "d" 0) none ∷ []) gives refusal 23 list 6 place 0)
+    -- An int identifier widened to long stays one; a float is none before it is widened, and a double none after.
+    ∷ (of lent priced (1 ∷ []) 10 ask edit ("a" into 3 ∷ []) drop [] add [] gives priced-are 3 5)
+    ∷ (of lent priced (2 ∷ []) 10 ask edit ("b" into 6 ∷ []) drop [] add [] gives refusal 9 list 5 place 0)
+    ∷ (of lent (of-type 6 1 "b" 2) (2 ∷ []) 10 ask drop [] add [] gives refusal 9 list 5 place 0)
+    -- 25 in every update, with edits or without (197); after 2, and before 3 of the base.
+    ∷ map (λ version. (of in-version version (T-lent [] 10) ask drop [] add []) gives refusal 25 list 0 place 0)
+    (0 ∷ 1 ∷ 4 ∷ 258 ∷ 4_294_967_295 ∷ [])
+    ++ (of in-version 3 (T-lent [] 10) ask drop ("node" ∷ "visits" ∷ []) add [] gives (3 ∷ 8 ∷ 9 ∷ 10 ∷ []) with-last 10)
+    ∷ (of in-version 4 (longer empty) ask drop [] add [] gives refusal 2 list 0 place 0)
+    ∷ (of in-version 4 (tree-of (odd "a" 1)) ask drop [] add [] gives refusal 25 list 0 place 0)
+    ∷ []
+
 -- ---- 02, 5/13: rename and relax
 
 -- `a` required with an initial default, and `b`.
@@ -471,16 +581,17 @@ byte-rules =
     ++ (lists-are (entry 0 256 1) [] (lending [] (zeros 256) [] 0) gives refusal 11 list 2 place 0)
     ∷ (lists-are (entry 0 257 1) [] (lending [] (zeros 256) [] 0) gives refusal 4 list 2 place 0)
     ∷ (lists-are (entry 257 0 1) [] (lending [] (zeros 256) [] 0) gives refusal 4 list 2 place 0)
-    -- 02, 5/13: an edit is 1 or 2, its bytes 7 and 13 to 15 are 0; one that relaxes has no new name.
+    -- 02, 5/13 and 6/13: an edit is 1, 2 or 3, its bytes 7 and 13 to 15 are 0; one that relaxes or widens has no new name.
     ∷ map (λ e. asks-for [] [] e (lending [] (zeros 9) [] 0) gives refusal 3 list 6 place 0)
     (map (λ at. set (edit-entry 1 0 0 0 0) at 4) (6 ∷ 7 ∷ 13 ∷ 14 ∷ 15 ∷ [])
-    ++ edit-entry 0 0 0 0 0 ∷ edit-entry 3 0 0 0 0 ∷ edit-entry 2 0 0 1 0 ∷ edit-entry 2 0 0 0 1 ∷ [])
+    ++ edit-entry 0 0 0 0 0 ∷ edit-entry 2 0 0 1 0 ∷ edit-entry 2 0 0 0 1 ∷ edit-entry 3 0 0 0 1 ∷ edit-entry 3 0 0 3 1 ∷ [])
     -- Its path and its new name lie in the pool, at any offset, of any length.
     ++ map (λ e. asks-for [] [] e (lending [] (zeros 9) [] 0) gives refusal 4 list 6 place 0)
-    (edit-entry 1 9 1 0 0 ∷ edit-entry 1 10 0 0 0 ∷ edit-entry 1 0 256 0 0 ∷ edit-entry 2 0 10 0 0
+    (edit-entry 1 9 1 0 0 ∷ edit-entry 1 10 0 0 0 ∷ edit-entry 1 0 256 0 0 ∷ edit-entry 2 0 10 0 0 ∷ edit-entry 3 0 10 3 0
     ∷ edit-entry 1 0 0 9 1 ∷ edit-entry 1 0 0 10 0 ∷ edit-entry 1 0 0 16777216 0 ∷ edit-entry 1 0 0 0 10 ∷ [])
     ++ map (λ e. asks-for [] [] e (lending [] (zeros 9) [] 0) gives refusal 23 list 6 place 0)
-    (edit-entry 1 9 0 0 9 ∷ edit-entry 1 0 9 9 0 ∷ edit-entry 2 8 1 0 0 ∷ [])
+    -- A new type code is no offset (203).
+    (edit-entry 1 9 0 0 9 ∷ edit-entry 1 0 9 9 0 ∷ edit-entry 2 8 1 0 0 ∷ edit-entry 3 8 1 10 0 ∷ edit-entry 3 0 0 4_294_967_295 0 ∷ [])
 
 -- The limits: what is still let through, and one more.
 abbrev pub limits : List Example
@@ -559,6 +670,8 @@ met =
     ∷ (drop ("visits" ∷ []) add and-then ("fault" under "visits") gives refusal 22 list 3 place 1)
     ∷ (edit (relaxing "node" ∷ "floor" to "a" ∷ []) drop [] add [] gives refusal 23 list 6 place 1)
     ∷ (edit (relaxing "node" ∷ relaxing "parts.key" ∷ []) drop [] add [] gives refusal 24 list 6 place 1)
+    ∷ (of in-version 4 (T-lent [] 10) ask drop [] add [] gives refusal 25 list 0 place 0)
+    ∷ (edit (relaxing "node" ∷ "node.cost" into 3 ∷ []) drop [] add [] gives refusal 26 list 6 place 1)
     ∷ []
 
 -- ---- the order: what is asked breaks two rules, and the first is told
@@ -590,6 +703,7 @@ three-bytes =
       pool = [];
       identifiers = zeros 3;
       last = 0;
+      version = 2;
       room-records = 0;
       room-names = 0;
       room-identifiers = 0;
@@ -640,7 +754,8 @@ spent = T-lent [] 2_147_483_647
 
 -- Of what is decided: 10 and 11; 12 of the first deletion and 11 of the next; 11 and 12; 12 and 13; 13 and 14; 14 and 15, 16, 22, 17;
 -- 16 and 22; 22 and 17; 15, 16, 22, 17 and 18; 18 of the first addition and 13 of the next; 18 and 23; 13 of the first edit and 23 of
--- the next; 24 and 13; 13 of an edit and 19; 18 and 19; 19 and 7; 7 and 8; 8 and 9 of the rebuilt tree.
+-- the next; 24 and 13; 13 of an edit and 19; 23 and 26; 24 and 26; 26 of the first edit and 23 of the next; 26 and 19; 18 and 19;
+-- 19 and 7; 7 and 8; 8 and 9 of the rebuilt tree.
 abbrev decided-order : List Example
 decided-order =
     (lists-are (entry 0 0 1) (entry 0 0 0) (tree-of empty) gives refusal 10 list 3 place 0)  -- 31
@@ -665,6 +780,11 @@ decided-order =
     ∷ (edit ("visits.element" to "a.b" ∷ []) drop [] add [] gives refusal 24 list 6 place 0)
     ∷ (of tree-of (chain 16) ask edit ("a" to "a.b" ∷ []) drop [] add (("x" under "a.a.a.a.a.a.a.a.a.a.a.a.a.a.a.a") ∷ [])
     gives refusal 13 list 6 place 0)
+    ∷ (edit ("node.cost" into 3 ∷ []) drop ("node" ∷ []) add [] gives refusal 23 list 6 place 0)
+    ∷ (of tree-of priced ask edit ("a" into 3 ∷ "a" into 9 ∷ []) drop [] add [] gives refusal 24 list 6 place 1)  -- 201
+    ∷ (edit ("node" into 3 ∷ "floor" to "a" ∷ []) drop [] add [] gives refusal 26 list 6 place 0)
+    ∷ (of tree-of (chain 16) ask edit ("a" into 3 ∷ []) drop [] add (("x" under "a.a.a.a.a.a.a.a.a.a.a.a.a.a.a.a") ∷ [])
+    gives refusal 26 list 6 place 0)
     ∷ (of lent (chain 16) [] 2_147_483_647 ask drop [] add (("x" under "a.a.a.a.a.a.a.a.a.a.a.a.a.a.a.a") ∷ [])
     gives refusal 18 list 3 place 0)
     ∷ (of lent (chain 16) [] 0 ask drop [] add (("x" under "a.a.a.a.a.a.a.a.a.a.a.a.a.a.a.a") ∷ [])
@@ -674,4 +794,4 @@ decided-order =
     ∷ []
 
 abbrev pub pinned : List Example
-pinned = names ++ folded-names ++ many-ids ++ updates ++ going ++ identifier-columns ++ edits ++ others ++ byte-rules ++ met ++ base-order ++ own-order ++ lists-order ++ decided-order
+pinned = names ++ folded-names ++ many-ids ++ updates ++ going ++ identifier-columns ++ edits ++ widenings ++ others ++ byte-rules ++ met ++ base-order ++ own-order ++ lists-order ++ decided-order

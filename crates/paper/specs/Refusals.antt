@@ -8,7 +8,7 @@ use mathlib.Core.Option.{Option}
 use Rattle.paper.specs.Answer.{Answer, refused, fault, fault-if, demand}
 
 abbrev pub last-refusal : ℕ
-last-refusal = 24
+last-refusal = 26
 
 abbrev pub last-list : ℕ
 last-list = 6
@@ -108,6 +108,16 @@ standing place gone = fault-if 22 3 place gone
 abbrev pub surviving : {A : Type 0} → (place : ℕ) → Option A → Answer A
 surviving place column = demand 23 6 place column
 
--- refusal 24: an edit that its column's role forbids, or a second rename of a column
+-- refusal 24: an edit that its column's role forbids, or a second rename or (02, 6/13) widening of a column
 abbrev pub permitted : (place : ℕ) → (forbidden : Bool) → Answer (Unit {0})
 permitted place forbidden = fault-if 24 6 place forbidden
+
+-- 02, 6/13: of every update, after 2 and before all else.
+-- refusal 25: the format version is unknown
+abbrev pub versioned : (known : Bool) → Answer (Unit {0})
+versioned known = fault-if 25 0 0 (not known)
+
+-- 02, 6/13: of an edit, after its 24.
+-- refusal 26: a widening of what is no primitive, or by a step that the version does not allow
+abbrev pub stepped : (place : ℕ) → (barred : Bool) → Answer (Unit {0})
+stepped place barred = fault-if 26 6 place barred

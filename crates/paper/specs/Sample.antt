@@ -21,10 +21,6 @@ column kind flags name id members =
     } in
     node f members empty
 
-abbrev pub with-code : (code : ℕ) → Field → Field
-with-code code f =
-    record { id = f .id; name = f .name; kind = f .kind; flags = f .flags; code = code; attribute = f .attribute }
-
 abbrev pub primitive : String → ℕ → Forest Field
 primitive name id = column Primitive 0 name id empty
 
