@@ -1,4 +1,4 @@
--- Edits change a column's name and whether it is required, and nothing else of it.
+-- Edits change a column's name, whether it is required and its type code, and nothing else of it.
 use mathlib.Core.Path.{_≡_, refl, _∙_}
 use mathlib.Core.Bool.{Bool, true, false, cond}
 use mathlib.Core.List.{List, [], _∷_, _++_}
@@ -6,7 +6,7 @@ use lib.Dec.{eqb}
 use Rattle.paper.specs.Forest.{Forest, empty, node, mapped}
 use Rattle.paper.specs.Field.{Field}
 use Rattle.paper.specs.Sound.{ids}
-use Rattle.paper.specs.Edits.{Change, rename, relax, Edited, with-change, edit-field, edit-fields}
+use Rattle.paper.specs.Edits.{Change, rename, relax, widen, Edited, with-change, edit-field, edit-fields}
 
 -- What no change changes, edits keep.
 module _ {A : Type 0} (get : Field → A) (kept : (c : Change) (f : Field) → get (with-change c f) ≡ get f) where
@@ -25,18 +25,17 @@ module _ {A : Type 0} (get : Field → A) (kept : (c : Change) (f : Field) → g
 changed-id : (c : Change) (f : Field) → with-change c f .id ≡ f .id
 changed-id (rename x) f = refl
 changed-id relax f = refl
+changed-id (widen v x) f = refl
 
 changed-kind : (c : Change) (f : Field) → with-change c f .kind ≡ f .kind
 changed-kind (rename x) f = refl
 changed-kind relax f = refl
-
-changed-code : (c : Change) (f : Field) → with-change c f .code ≡ f .code
-changed-code (rename x) f = refl
-changed-code relax f = refl
+changed-kind (widen v x) f = refl
 
 changed-attribute : (c : Change) (f : Field) → with-change c f .attribute ≡ f .attribute
 changed-attribute (rename x) f = refl
 changed-attribute relax f = refl
+changed-attribute (widen v x) f = refl
 
 pub edit-keeps-id : (e : Edited) (f : Field) → edit-field e f .id ≡ f .id
 edit-keeps-id = field-keeps (λ f. f .id) changed-id
@@ -47,9 +46,6 @@ module _ (es : List Edited) (f : Field) where
 
   pub edits-keep-kind : edit-fields es f .kind ≡ f .kind
   edits-keep-kind = fields-keep (λ f. f .kind) changed-kind es f
-
-  pub edits-keep-code : edit-fields es f .code ≡ f .code
-  edits-keep-code = fields-keep (λ f. f .code) changed-code es f
 
   pub edits-keep-attribute : edit-fields es f .attribute ≡ f .attribute
   edits-keep-attribute = fields-keep (λ f. f .attribute) changed-attribute es f
