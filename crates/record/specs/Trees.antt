@@ -56,10 +56,11 @@ alone records pool = lent-trees records pool records pool []
 abbrev pub stored-in : Trees → (last : ℕ) → Stored
 stored-in trees last = record { records = trees .records; pool = trees .pool; last = last }
 
-abbrev pub lent-in : Trees → Lists → (room-records room-names : ℕ) → Lent
-lent-in trees lists room-records room-names =
+abbrev pub lent-in : Trees → Lists → (version room-records room-names : ℕ) → Lent
+lent-in trees lists version room-records room-names =
     record {
       identifiers = lists .identifiers;
+      version = version;
       deletions = lists .deletions;
       additions = lists .additions;
       added-records = trees .added-records;

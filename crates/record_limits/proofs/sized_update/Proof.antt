@@ -20,5 +20,5 @@ sized-update-spec =
     (λ c. search needs)  -- element-copy-out-sized
     (λ c. search needs)  -- element-copy-out-sized-2
     (λ c κs. search needs)  -- sized-requires
-    (λ c. record { says = λ last room-records room-names. cc })  -- returns
+    (λ c. record { says = λ last version room-records room-names. cc })  -- returns
     )
