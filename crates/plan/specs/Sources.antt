@@ -14,7 +14,7 @@ use Rattle.paper.specs.Bytes.{rec-at, kind-at}
 use Rattle.paper.specs.Lists.{edit-at}
 use Rattle.paper.specs.Encode.{kind-byte, row24, record-bytes, pool-bytes}
 use Rattle.record.specs.Trees.{lent-trees, trees-in, slice-at}
-use Rattle.plan.specs.Plan.{Source, plan-fields, source-field, by-source, edited-slot, mark-of, renaming, marked-flags}
+use Rattle.plan.specs.Plan.{Source, plan-fields, source-field, by-source, edited-slot, mark-of, low-part, renaming, widening, marked-flags, marked-code}
 use Rattle.plan.specs.Draft.{Draft}
 
 unfoldable pub source-kind : (base added : List ℕ) → ℕ → Kind
@@ -22,7 +22,7 @@ source-kind base added x = by-source x (kind-at base x) (kind-at added (x - 1024
 
 -- The length of a base record's name as a mark leaves it.
 unfoldable pub marked-len : (base edits : List ℕ) (mark slot : ℕ) → ℕ
-marked-len base edits mark slot = cond (ltb mark 2) (rec-at base slot .name-len) (edit-at edits (renaming mark) .name-len)
+marked-len base edits mark slot = cond (ltb (low-part mark) 2) (rec-at base slot .name-len) (edit-at edits (renaming mark) .name-len)
 
 unfoldable pub source-len : (base added edits : List ℕ) → ℕ → ℕ
 source-len base added edits x =
@@ -32,31 +32,34 @@ unfoldable pub source-flags : (base added : List ℕ) → ℕ → ℕ
 source-flags base added x =
     by-source x (rec-at base x .flags) (rec-at added (x - 1024) .flags) (marked-flags base (mark-of x) (edited-slot x))
 
-unfoldable pub source-code : (base added : List ℕ) → ℕ → ℕ
-source-code base added x = by-source x (rec-at base x .code) (rec-at added (x - 1024) .code) (rec-at base (edited-slot x) .code)
+unfoldable pub source-code : (base added edits : List ℕ) → ℕ → ℕ
+source-code base added edits x =
+    by-source x (rec-at base x .code) (rec-at added (x - 1024) .code) (marked-code base edits (mark-of x) (edited-slot x))
 
--- The record at a slot of a list, with another id, count, name offset, name length and flags.
-unfoldable pub row-of : List ℕ → (k id kids at len flags : ℕ) → List ℕ
-row-of records k id kids at len flags =
-    row24 id at len (kind-byte (kind-at records k)) flags kids (rec-at records k .code) (rec-at records k .attribute)
+-- The record at a slot of a list, with another id, count, name offset, name length, flags and type code.
+unfoldable pub row-of : List ℕ → (k id kids at len flags code : ℕ) → List ℕ
+row-of records k id kids at len flags code =
+    row24 id at len (kind-byte (kind-at records k)) flags kids code (rec-at records k .attribute)
 
--- The same with its own name length and flags.
+-- The same with its own name length, flags and type code.
 abbrev pub kept-row : List ℕ → (k id kids at : ℕ) → List ℕ
-kept-row records k id kids at = row-of records k id kids at (rec-at records k .name-len) (rec-at records k .flags)
+kept-row records k id kids at =
+    row-of records k id kids at (rec-at records k .name-len) (rec-at records k .flags) (rec-at records k .code)
 
 unfoldable pub source-row : (base added edits : List ℕ) → (x id kids at : ℕ) → List ℕ
 source-row base added edits x id kids at =
     by-source x (kept-row base x id kids at) (kept-row added (x - 1024) id kids at)
-    (row-of base (edited-slot x) id kids at (marked-len base edits (mark-of x) (edited-slot x)) (marked-flags base (mark-of x) (edited-slot x)))
+    (row-of base (edited-slot x) id kids at (marked-len base edits (mark-of x) (edited-slot x))
+    (marked-flags base (mark-of x) (edited-slot x)) (marked-code base edits (mark-of x) (edited-slot x)))
 
 -- The pool in which a source's name lies, by its number in `Trees`, and where there.
 abbrev pub pool-of : ℕ → ℕ
-pool-of x = by-source x 1 3 (cond (ltb (mark-of x) 2) 1 3)
+pool-of x = by-source x 1 3 (cond (ltb (low-part (mark-of x)) 2) 1 3)
 
 abbrev pub name-from : (base added edits : List ℕ) → ℕ → ℕ
 name-from base added edits x =
     by-source x (rec-at base x .name-at) (rec-at added (x - 1024) .name-at)
-    (cond (ltb (mark-of x) 2) (rec-at base (edited-slot x) .name-at) (edit-at edits (renaming (mark-of x)) .name-at))
+    (cond (ltb (low-part (mark-of x)) 2) (rec-at base (edited-slot x) .name-at) (edit-at edits (renaming (mark-of x)) .name-at))
 
 -- A slice is a source's name: the very part of the pool that holds it.
 pub record NameAt (slices : List (RefT (List ℕ))) (x : ℕ) (r : RefT (List ℕ)) : Type 0 where
@@ -64,12 +67,13 @@ pub record NameAt (slices : List (RefT (List ℕ))) (x : ℕ) (r : RefT (List �
   pub pool : r .ptr .0 ≡ slice-at slices (pool-of x) .ptr .0
   pub offset : r .ptr .1 ≡ slice-at slices (pool-of x) .ptr .1 + name-from (trees-in slices .records) (trees-in slices .added-records) (trees-in slices .edits) x
 
--- A source stands in its list, and the edit that renames it in its own.
+-- A source stands in its list, and the edits that rename and widen it in theirs.
 pub record In (base added edits : List ℕ) (x : ℕ) : Type 0 where
   pub base-in : x < 1024 → x * 24 + 24 ≤ length base
   pub added-in : 1024 ≤ x → x < 2048 → (x - 1024) * 24 + 24 ≤ length added
   pub edited-in : 2048 ≤ x → edited-slot x * 24 + 24 ≤ length base
-  pub renamed-in : 2048 ≤ x → 2 ≤ mark-of x → renaming (mark-of x) * 16 + 16 ≤ length edits
+  pub renamed-in : 2048 ≤ x → 2 ≤ low-part (mark-of x) → renaming (mark-of x) * 16 + 16 ≤ length edits
+  pub widened-in : 2048 ≤ x → 256 ≤ mark-of x → widening (mark-of x) * 16 + 16 ≤ length edits
 
 -- m sources stand in their lists.
 pub record Inside (base added edits xs : List ℕ) (m : ℕ) : Type 0 where

@@ -14,13 +14,20 @@ ghost use Rattle.paper.specs.Bytes.{word32, turned};
 ghost use Rattle.paper.specs.Lists.{entry-at, ok-deletion, ok-addition, path-in, path-of, entries-ok, id-at};
 ghost use Rattle.paper.specs.Lists.{edit-at, ok-edit, edit-in, edit-path, new-name};
 ghost use Rattle.record.specs.Says.{tested, checked};
-ghost use Rattle.record_entries.specs.Rule.{number-of, width-of, rule-of, inside-of};
+ghost use Rattle.record_entries.specs.Rule.{number-of, width-of, rule-of, inside-of, what-of};
 
 // The lists whose entries have paths. They differ in their number, the width of an entry, and what 3 and 4 ask of it.
 pub enum PathList {
     Deletions,
     Additions,
     Edits,
+}
+
+// What an edit does to its column: a new name, no longer required, a wider type.
+pub enum What {
+    Rename,
+    Relax,
+    Widen,
 }
 
 // The 32 bits of the i-th id; turned, they are the id of the paper.
@@ -88,12 +95,16 @@ fn addition_ok(entries: &[u8], k: usize) -> bool
     ((has == 1) | (has == 0) & (from == 0) & (len == 0)) & (entries[k * 8 + 7] == 0)
 }
 
-// Whether an edit renames its column; else it relaxes it.
-pub fn is_rename(edits: &[u8], k: usize) -> bool
+// What an edit does.
+pub fn what_at(edits: &[u8], k: usize) -> What
     requires { ⌜ k * 16 + 16 ≤ length (now edits) ⌝ }
-    ensures { λ r. ⌜ r ≡ eqb (edit-at (now (edits .entry)) k .what) 1 ⌝ }
+    ensures { λ r. ⌜ r ≡ what-of (edit-at (now (edits .entry)) k .what) ⌝ }
 {
-    edits[k * 16 + 6] == 1
+    match edits[k * 16 + 6] {
+        1 => What::Rename,
+        2 => What::Relax,
+        _ => What::Widen,
+    }
 }
 
 // The offset and the length of an edit's path in the request pool.
@@ -127,6 +138,14 @@ pub fn new_name_len(edits: &[u8], k: usize) -> usize
     length_of(edits[k * 16 + 12])
 }
 
+// The type code that an edit gives: it stands where a new name's offset would.
+pub fn new_code_at(edits: &[u8], k: usize) -> u32
+    requires { ⌜ k * 16 + 16 ≤ length (now edits) ⌝ }
+    ensures { λ r. ⌜ r ≡ edit-at (now (edits .entry)) k .code ⌝ }
+{
+    le32(edits, k * 16 + 8)
+}
+
 // An edit's path: the very part of the request pool that holds it.
 pub fn edit_path_at<'a>(pool: &'a [u8], edits: &[u8], k: usize) -> &'a [u8]
     requires { ⌜ (k * 16 + 16 ≤ length (now edits))
@@ -140,7 +159,7 @@ pub fn edit_path_at<'a>(pool: &'a [u8], edits: &[u8], k: usize) -> &'a [u8]
 
 // The new name that an edit gives: the very part of the request pool that holds it.
 pub fn new_name_at<'a>(pool: &'a [u8], edits: &[u8], k: usize) -> &'a [u8]
-    requires { ⌜ (k * 16 + 16 ≤ length (now edits))
+    requires { ⌜ (k * 16 + 16 ≤ length (now edits)) × (edit-at (now edits) k .what ≡ 1)
         × (edit-in (length (now pool)) (now edits) k ≡ true) ⌝ }
     ensures { λ r. ⌜ (now r ≡ new-name (now (pool .entry)) (now (edits .entry)) k)
         × (r .ptr .0 ≡ pool .entry .ptr .0) × (r .ptr .1 ≡ pool .entry .ptr .1 + edit-at
@@ -151,7 +170,7 @@ pub fn new_name_at<'a>(pool: &'a [u8], edits: &[u8], k: usize) -> &'a [u8]
     &pool[from..from + len]
 }
 
-// Whether an edit keeps its byte rules: one that relaxes has no new name.
+// Whether an edit keeps its byte rules: one that relaxes or widens has no new name.
 fn edit_ok(edits: &[u8], k: usize) -> bool
     requires { ⌜ k * 16 + 16 ≤ length (now edits) ⌝ }
     ensures { λ r. ⌜ r ≡ ok-edit (now (edits .entry)) k ⌝ }
@@ -159,7 +178,7 @@ fn edit_ok(edits: &[u8], k: usize) -> bool
     let what = edits[k * 16 + 6];
     let from = new_name_from(edits, k);
     let len = new_name_len(edits, k);
-    ((what == 1) | (what == 2) & (from == 0) & (len == 0))
+    ((what == 1) | ((what == 2) & (from == 0) | (what == 3)) & (len == 0))
         & ((edits[k * 16 + 7] == 0) & ((edits[k * 16 + 13] == 0) & (le16(edits, k * 16 + 14) == 0)))
 }
 
@@ -207,7 +226,7 @@ fn path_ok(entries: &[u8], pool: usize, k: usize) -> bool
     from + len <= pool
 }
 
-// The same of an edit's path and new name.
+// The same of an edit's path, and of its new name if it renames.
 fn edit_inside(edits: &[u8], pool: usize, k: usize) -> bool
     requires { ⌜ k * 16 + 16 ≤ length (now edits) ⌝ }
     ensures { λ r. ⌜ r ≡ edit-in pool (now (edits .entry)) k ⌝ }
@@ -216,7 +235,7 @@ fn edit_inside(edits: &[u8], pool: usize, k: usize) -> bool
     let len = edit_path_len(edits, k);
     let name = new_name_from(edits, k);
     let name_len = new_name_len(edits, k);
-    (from + len <= pool) & (name + name_len <= pool)
+    (from + len <= pool) & ((edits[k * 16 + 6] != 1) | (name + name_len <= pool))
 }
 
 // Whether what an entry of a list points to lies in a pool of a length.
