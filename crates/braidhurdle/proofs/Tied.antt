@@ -75,11 +75,11 @@ module _ (κs : Lfts 3) (a : ArgsD update.signature κs) (r : ResD update.signat
   pub update-says : update-reads.Learnt κs a r s
       ≡ Answers laid
       (update-entry (stored (now (a .0)) (now (a .1 .0)) (a .1 .1 .1 .0))
-      (lent (now (a .1 .1 .0)) (now (a .1 .1 .1 .1 .0)) (now (a .1 .1 .1 .1 .1 .0))
-      (now (a .1 .1 .1 .1 .1 .1 .0)) (now (a .1 .1 .1 .1 .1 .1 .1 .0)) (now (a .1 .1 .1 .1 .1 .1 .1 .1 .0))
-      (length (now (a .1 .1 .1 .1 .1 .1 .1 .1 .1 .0))) (length (now (a .1 .1 .1 .1 .1 .1 .1 .1 .1 .1 .0)))))
-      (for-records (now (a .1 .1 .1 .1 .1 .1 .1 .1 .1 .0)) ∷ for-names (now (a .1 .1 .1 .1 .1 .1 .1 .1 .1 .1 .0)) ∷ []) r
-      (now (s .1 .1 .1 .1 .1 .1 .1 .1 .1 .0) ∷ now (s .1 .1 .1 .1 .1 .1 .1 .1 .1 .1 .0) ∷ [])
+      (lent (now (a .1 .1 .0)) (a .1 .1 .1 .1 .0) (now (a .1 .1 .1 .1 .1 .0)) (now (a .1 .1 .1 .1 .1 .1 .0))
+      (now (a .1 .1 .1 .1 .1 .1 .1 .0)) (now (a .1 .1 .1 .1 .1 .1 .1 .1 .0)) (now (a .1 .1 .1 .1 .1 .1 .1 .1 .1 .0))
+      (length (now (a .1 .1 .1 .1 .1 .1 .1 .1 .1 .1 .0))) (length (now (a .1 .1 .1 .1 .1 .1 .1 .1 .1 .1 .1 .0)))))
+      (for-records (now (a .1 .1 .1 .1 .1 .1 .1 .1 .1 .1 .0)) ∷ for-names (now (a .1 .1 .1 .1 .1 .1 .1 .1 .1 .1 .1 .0)) ∷ []) r
+      (now (s .1 .1 .1 .1 .1 .1 .1 .1 .1 .1 .0) ∷ now (s .1 .1 .1 .1 .1 .1 .1 .1 .1 .1 .1 .0) ∷ [])
   update-says = refl
 
 module _ (κs : Lfts 4) (a : ArgsD prune.signature κs) (r : ResD prune.signature κs) (s : AtExit prune.ended κs) where

@@ -6,10 +6,12 @@ use Rattle.paper.specs.Lent.{Stored, Lent}
 abbrev pub stored : (records pool : List ℕ) (last : ℕ) → Stored
 stored records pool last = record { records = records; pool = pool; last = last }
 
-abbrev pub lent : (identifiers deletions additions added-records edits request-pool : List ℕ) (room-records room-names : ℕ) → Lent
-lent identifiers deletions additions added-records edits request-pool room-records room-names =
+abbrev pub lent : (identifiers : List ℕ) (version : ℕ) (deletions additions added-records edits request-pool : List ℕ)
+    (room-records room-names : ℕ) → Lent
+lent identifiers version deletions additions added-records edits request-pool room-records room-names =
     record {
       identifiers = identifiers;
+      version = version;
       deletions = deletions;
       additions = additions;
       added-records = added-records;

@@ -159,19 +159,20 @@ fn lay_searched(searched: Searched) -> SearchedNumbers
 // The version of these functions, in its name too: whoever is compiled against other declarations asks for another name, and finds
 // none here. A change of any declaration raises both, and so does a call that is answered otherwise than before.
 #[no_mangle]
-pub extern "C" fn braidhurdle_abi_7() -> u32
-    ensures { λ r. ⌜ r ≡ 7 ⌝ }
+pub extern "C" fn braidhurdle_abi_8() -> u32
+    ensures { λ r. ⌜ r ≡ 8 ⌝ }
 {
-    7
+    8
 }
 
-// Drops, adds and edits columns; ids are handed out from `last_id` + 1.
+// Drops, adds and edits columns; ids are handed out from `last_id` + 1, and types widened by the steps of `version`.
 #[no_mangle]
 pub extern "C" fn braidhurdle_update<'a>(
     records: &'a [u8],
     pool: &'a [u8],
     identifiers: &'a [u8],
     last_id: u32,
+    version: u32,
     deletions: &'a [u8],
     additions: &'a [u8],
     added_records: &'a [u8],
@@ -182,7 +183,7 @@ pub extern "C" fn braidhurdle_update<'a>(
 ) -> ChangedNumbers
     ensures { λ r. ⌜ Answers laid
         (update-entry (stored (now (records .entry)) (now (pool .entry)) «last_id»)
-        (lent (now (identifiers .entry)) (now (deletions .entry)) (now (additions .entry))
+        (lent (now (identifiers .entry)) version (now (deletions .entry)) (now (additions .entry))
         (now («added_records» .entry)) (now (edits .entry)) (now («request_pool» .entry))
         (length (now («out_records» .entry))) (length (now («out_names» .entry)))))
         (for-records (now («out_records» .entry)) ∷ for-names (now («out_names» .entry)) ∷ []) r
@@ -190,7 +191,7 @@ pub extern "C" fn braidhurdle_update<'a>(
 {
     let trees = [records, pool, added_records, request_pool, edits];
     let lists = [identifiers, deletions, additions];
-    lay_changed(update(&trees, &lists, last_id, out_records, out_names))
+    lay_changed(update(&trees, &lists, last_id, version, out_records, out_names))
 }
 
 // Keeps the selected columns; not 0 for full mode.

@@ -20,18 +20,33 @@ use update::update;
 ghost use Prim.Native.Nat.{_≤_};
 ghost use lib.ListN.{length};
 
-// Whether a line is an update's; one with edits has a field more before the sign.
+// Whether a line is an update's. One with edits has a field more before the sign, one that names another version than 2 two more.
 fn is_update(line: &[u8]) -> bool {
-    readable(line, b"wwbbbwbbbbww=") | readable(line, b"wwbbbwbbbbwwb=")
+    readable(line, b"wwbbbwbbbbww=") | readable(line, b"wwbbbwbbbbwwb=") | names_version(line)
+}
+
+fn names_version(line: &[u8]) -> bool {
+    readable(line, b"wwbbbwbbbbwwbw=")
+}
+
+// The format version that a line names, or 2.
+fn version_in(line: &[u8]) -> Parsed {
+    if names_version(line) {
+        return number(field(line, 13));
+    }
+    Parsed::Number(2)
 }
 
 // update JUDGE RECORDS POOL IDENTIFIERS LAST_ID DELETIONS ADDITIONS ADDED_RECORDS REQUEST_POOL OUT_RECORDS OUT_NAMES = answer
-// with EDITS behind OUT_NAMES where there are any
+// with EDITS behind OUT_NAMES where there are any, and VERSION behind them where it is not 2
 pub fn replay(line: &[u8], inputs: &mut [u8], records: &mut [u8], names: &mut [u8]) -> Verdict {
     if !is_update(line) {
         return Verdict::Unreadable;
     }
     let Parsed::Number(last_id) = number(field(line, 5)) else {
+        return Verdict::Unreadable;
+    };
+    let Parsed::Number(version) = version_in(line) else {
         return Verdict::Unreadable;
     };
     let r = size(field(line, 10));
@@ -42,7 +57,14 @@ pub fn replay(line: &[u8], inputs: &mut [u8], records: &mut [u8], names: &mut [u
     if names.len() < n {
         return Verdict::Unreadable;
     }
-    verdict_on(agrees(line, inputs, last_id, &mut records[..r], &mut names[..n]))
+    verdict_on(agrees(
+        line,
+        inputs,
+        last_id,
+        version,
+        &mut records[..r],
+        &mut names[..n],
+    ))
 }
 
 // Whether an update gives the recorded answer, with output buffers of the recorded sizes.
@@ -50,11 +72,12 @@ fn agrees(
     line: &[u8],
     inputs: &mut [u8],
     last_id: u32,
+    version: u32,
     records: &mut [u8],
     names: &mut [u8],
 ) -> bool {
-    agrees_over(165, line, inputs, last_id, records, names)
-        & agrees_over(90, line, inputs, last_id, records, names)
+    agrees_over(165, line, inputs, last_id, version, records, names)
+        & agrees_over(90, line, inputs, last_id, version, records, names)
 }
 
 // The same, with output buffers that hold the pattern.
@@ -63,12 +86,13 @@ fn agrees_over(
     line: &[u8],
     inputs: &mut [u8],
     last_id: u32,
+    version: u32,
     records: &mut [u8],
     names: &mut [u8],
 ) -> bool {
     fill(records, pattern);
     fill(names, pattern);
-    let changed = changed_by(line, inputs, last_id, records, names);
+    let changed = changed_by(line, inputs, last_id, version, records, names);
     is_changed(answer(line), changed, records, names, pattern) & is_consumed(answer(line), changed)
 }
 
@@ -108,12 +132,13 @@ fn changed_by(
     line: &[u8],
     inputs: &mut [u8],
     last_id: u32,
+    version: u32,
     records: &mut [u8],
     names: &mut [u8],
 ) -> Changed {
     let base = decode_base(line, inputs);
     let request = decode_request(line, inputs, base.third);
-    call(inputs, base, request, last_id, records, names)
+    call(inputs, base, request, last_id, version, records, names)
 }
 
 // The call, on the parts of the buffer that hold its inputs.
@@ -122,6 +147,7 @@ fn call(
     base: Base,
     request: Request,
     last_id: u32,
+    version: u32,
     records: &mut [u8],
     names: &mut [u8],
 ) -> Changed
@@ -142,7 +168,7 @@ fn call(
         part(inputs, base.third, request.deletions),
         part(inputs, request.deletions, request.additions),
     ];
-    update(&trees, &lists, last_id, records, names)
+    update(&trees, &lists, last_id, version, records, names)
 }
 
 // Whether the last id consumed is the recorded one.

@@ -8,7 +8,7 @@ use native.Mathlib.Omega.{arith}
 use borrow.Author.Tests.{not-false}
 use lib.ListN.{length, replicate, length-replicate}
 use Rattle.paper.specs.Answer.{Answer, ok, refused, _>>=_}
-use Rattle.paper.specs.Refusals.{roomy, limited, rebuilt-within}
+use Rattle.paper.specs.Refusals.{roomy, limited, versioned, rebuilt-within}
 use Rattle.paper.specs.Forest.{Forest, siblings}
 use Rattle.paper.specs.Field.{Field, id-of, kind-of, with-id}
 use Rattle.paper.specs.Bytes.{turned, slots}
@@ -16,6 +16,7 @@ use Rattle.paper.specs.Decode.{decode}
 use Rattle.paper.specs.Lists.{ok-deletion, ok-addition, path-in, ok-edit, edit-in, entries, entries-ok, id-list}
 use Rattle.paper.specs.Edits.{edited-tree}
 use Rattle.paper.specs.Limits.{room, sized-update}
+use Rattle.paper.specs.Promotions.{known-version}
 use Rattle.paper.specs.Sound.{sound, within}
 use Rattle.paper.specs.Update.{Schema, schema, planned}
 use Rattle.paper.specs.Rebuild.{arrivals, rebuilt, carried-out, update}
@@ -68,28 +69,28 @@ end-joined (refused n l k) y u f = refl
 
 -- ---- what passed 1 to 6
 
-module _ (l : Trees) (lists : Lists) (rr rn : ℕ) (w : Opened) (o : Opens l lists rr rn w) (roots columns : ℕ) (q : w ≡ it.Roots roots columns) where
+module _ (l : Trees) (lists : Lists) (version rr rn : ℕ) (w : Opened) (o : Opens l lists version rr rn w) (roots columns : ℕ) (q : w ≡ it.Roots roots columns) where
   record Through : Type 0 where
     pub passed : Passed l lists
     pub rooms : room rr rn ≡ true
     pub root-count : roots ≡ siblings (passed .base)
     pub column-count : columns ≡ siblings (passed .added)
-    pub opens : (last : ℕ) → opening l lists last rr rn ≡ ok (both-trees (passed .base) (passed .added))
+    pub opens : (last : ℕ) → opening l lists last version rr rn ≡ ok (both-trees (passed .base) (passed .added))
 
   through : Through
   unfolding opening sized-update _>>=_
-  through = open-ok _ (opening l lists 0 rr rn) roots columns (sym q ∙ o .says 0) λ base added e er ec.
-      unbind _ _ e λ _ e₁ a₁. unbind _ _ a₁ λ _ e₂ a₂.
+  through = open-ok _ (opening l lists 0 version rr rn) roots columns (sym q ∙ o .says 0) λ base added e er ec.
+      unbind _ _ e λ _ e₁ a₁. unbind _ _ a₁ λ _ e₂ a₂. unbind _ _ a₂ λ _ _ a₃.
       record {
-        passed = record { base = base; added = added; limits = λ _ _ _. not-false _ (fault-if-ok 2 0 0 _ e₂); read = a₂ };
+        passed = record { base = base; added = added; limits = λ _ _ _ _. not-false _ (fault-if-ok 2 0 0 _ e₂); read = a₃ };
         rooms = not-false _ (fault-if-ok 1 0 0 _ e₁);
         root-count = er;
         column-count = ec;
         opens = λ last. e;
       }
 
-  limits : sized-update (stored-in l 0) (lent-in l lists 0 0) ≡ true
-  limits = through .passed .limits 0 0 0
+  limits : sized-update (stored-in l 0) (lent-in l lists 0 0 0) ≡ true
+  limits = through .passed .limits 0 0 0 0
 
   own : Contents l lists (through .passed .base) (through .passed .added)
   own = contents l lists (through .passed .base) (through .passed .added) (through .passed .read)
@@ -117,12 +118,12 @@ module _ (l : Trees) (lists : Lists) (rr rn : ℕ) (w : Opened) (o : Opens l lis
 
 -- ---- the entry
 
-module _ (l : Trees) (lists : Lists) (last : ℕ) (out text : List ℕ) where
+module _ (l : Trees) (lists : Lists) (last version : ℕ) (out text : List ℕ) where
   abbrev entry : Answer Result
-  entry = update-entry (stored-in l last) (lent-in l lists (length out) (length text))
+  entry = update-entry (stored-in l last) (lent-in l lists version (length out) (length text))
 
   abbrev open-first : Answer Forests
-  open-first = opening l lists last (length out) (length text)
+  open-first = opening l lists last version (length out) (length text)
 
   abbrev buffers : List (Buffer Result)
   buffers = for-records out ∷ for-names text ∷ []
@@ -132,35 +133,36 @@ module _ (l : Trees) (lists : Lists) (last : ℕ) (out text : List ℕ) where
 
   -- what follows 6
   abbrev carried : ℕ → Forest Field → Forest Field → Answer Result
-  carried g base added = update (schema base g) (request-in (lent-in l lists 0 0) added) >>= λ u. ok (result-of u)
+  carried g base added = update (schema base g) (request-in (lent-in l lists version 0 0) added) >>= λ u. ok (result-of u)
 
   entry-is : entry ≡ (open-first >>= λ v. carried (turned last) (v .base) (v .added))
   unfolding update-entry opening readable _>>=_
   entry-is =
-      go (roomy (room (length out) (length text))) (limited (sized-update (stored-in l last) (lent-in l lists (length out) (length text))))
+      go (roomy (room (length out) (length text))) (limited (sized-update (stored-in l last) (lent-in l lists version (length out) (length text)))) (versioned (known-version version))
       (decode 0 (l .records) (l .pool)) (decode 1 (l .added-records) (l .request-pool))
       (entries-ok 2 8 ok-deletion path-in (lists .deletions) (l .request-pool)) (entries-ok 3 8 ok-addition path-in (lists .additions) (l .request-pool))
       (entries-ok 6 16 ok-edit edit-in (l .edits) (l .request-pool)) (carried (turned last))
     where
-      go : (w z : Answer (Unit {0})) (x y : Answer (Forest Field)) (u v s : Answer (Unit {0})) (f : Forest Field → Forest Field → Answer Result)
-          → (w >>= λ _. z >>= λ _. x >>= λ t. y >>= λ n. u >>= λ _. v >>= λ _. s >>= λ _. f t n) ≡ ((w >>= λ _. z >>= λ _. x >>= λ t. y >>= λ n. u >>= λ _. v >>= λ _. s >>= λ _. ok (both-trees t n)) >>= λ t. f (t .base) (t .added))
-      go (refused n l k) z x y u v s f = refl
-      go (ok e) (refused n l k) x y u v s f = refl
-      go (ok e) (ok g) (refused n l k) y u v s f = refl
-      go (ok e) (ok g) (ok t) (refused n l k) u v s f = refl
-      go (ok e) (ok g) (ok t) (ok m) (refused n l k) v s f = refl
-      go (ok e) (ok g) (ok t) (ok m) (ok j) (refused n l k) s f = refl
-      go (ok e) (ok g) (ok t) (ok m) (ok j) (ok q) (refused n l k) f = refl
-      go (ok e) (ok g) (ok t) (ok m) (ok j) (ok q) (ok i) f = refl
+      go : (w z k : Answer (Unit {0})) (x y : Answer (Forest Field)) (u v s : Answer (Unit {0})) (f : Forest Field → Forest Field → Answer Result)
+          → (w >>= λ _. z >>= λ _. k >>= λ _. x >>= λ t. y >>= λ n. u >>= λ _. v >>= λ _. s >>= λ _. f t n) ≡ ((w >>= λ _. z >>= λ _. k >>= λ _. x >>= λ t. y >>= λ n. u >>= λ _. v >>= λ _. s >>= λ _. ok (both-trees t n)) >>= λ t. f (t .base) (t .added))
+      go (refused n l p) z k x y u v s f = refl
+      go (ok e) (refused n l p) k x y u v s f = refl
+      go (ok e) (ok g) (refused n l p) x y u v s f = refl
+      go (ok e) (ok g) (ok h) (refused n l p) y u v s f = refl
+      go (ok e) (ok g) (ok h) (ok t) (refused n l p) u v s f = refl
+      go (ok e) (ok g) (ok h) (ok t) (ok m) (refused n l p) v s f = refl
+      go (ok e) (ok g) (ok h) (ok t) (ok m) (ok j) (refused n l p) s f = refl
+      go (ok e) (ok g) (ok h) (ok t) (ok m) (ok j) (ok q) (refused n l p) f = refl
+      go (ok e) (ok g) (ok h) (ok t) (ok m) (ok j) (ok q) (ok i) f = refl
 
-  module _ (w : Opened) (o : Opens l lists (length out) (length text) w) where
+  module _ (w : Opened) (o : Opens l lists version (length out) (length text) w) where
     pub open-stops : (y : Refusal) → w ≡ it.Refused y → Ends-so (changed.Refused y) out text
     unfolding _>>=_
     open-stops y q = refuses _ y buffers (entry-is ∙ rw (open-refused open-first w y (o .says last) q))
 
     module _ (roots columns : ℕ) (q : w ≡ it.Roots roots columns) where
-      abbrev opened-as : Through l lists (length out) (length text) w o roots columns q
-      opened-as = through l lists (length out) (length text) w o roots columns q
+      abbrev opened-as : Through l lists version (length out) (length text) w o roots columns q
+      opened-as = through l lists version (length out) (length text) w o roots columns q
 
       abbrev base : Forest Field
       base = opened-as .passed .base
@@ -186,30 +188,30 @@ module _ (l : Trees) (lists : Lists) (last : ℕ) (out text : List ℕ) where
           goes-at : entry ≡ carried g base added
           goes-at = goes ∙ ap (λ (z : ℕ). carried z base added) (sym (eg .0))
 
-          module _ (y : Decided) (decisions′ : List (List ℕ)) (marks′ : List ℕ) (v : Settles l lists g y decisions′ marks′) where
+          module _ (y : Decided) (decisions′ : List (List ℕ)) (marks′ : List ℕ) (v : Settles l lists g version y decisions′ marks′) where
             pub decide-stops : (f : Refusal) → y ≡ decided.Refused f → Ends-so (changed.Refused f) out text
             unfolding update _>>=_
             decide-stops f z = refuses _ f buffers (goes-at ∙ rw (v .refusal base added (opened-as .passed .read) f z))
 
-            module _ (consumed : ℕ) (z : y ≡ decided.Last consumed) (given : Given) (eg′ : given ≡ given-in l lists consumed) where
-              the-plan : Settled l lists g base added decisions′ marks′ consumed
+            module _ (consumed : ℕ) (z : y ≡ decided.Last consumed) (given : Given) (eg′ : given ≡ given-in l lists consumed version) where
+              the-plan : Settled l lists g version base added decisions′ marks′ consumed
               the-plan = v .accepted base added (opened-as .passed .read) consumed z
 
               pub write-asks : Rebuildable l (lists .identifiers) given roots decisions′ marks′ plan′ index out text
               write-asks =
                   let w = rooms-of (length out) (length text) (opened-as .rooms) in
-                  let f = deletions-most _ _ true (sym (opened-as .passed .limits 0 0 0)) refl in
+                  let f = deletions-most _ _ true (sym (opened-as .passed .limits 0 0 0 0)) refl in
                   rw eg′
                   record {
                     base = base;
                     added = added;
-                    base-limits = update-sized _ _ true (sym (opened-as .passed .limits 0 0 0)) refl;
+                    base-limits = update-sized _ _ true (sym (opened-as .passed .limits 0 0 0 0)) refl;
                     base-read = read-as .base-read;
                     added-read = read-as .added-read;
                     base-count = refl;
                     added-count = refl;
                     root-count = opened-as .root-count;
-                    few = identifiers-most _ _ true (sym (opened-as .passed .limits 0 0 0)) refl;
+                    few = identifiers-most _ _ true (sym (opened-as .passed .limits 0 0 0 0)) refl;
                     few-drops = omega arith;
                     resolved = the-plan .resolved;
                     edits = the-plan .edits;
@@ -226,7 +228,7 @@ module _ (l : Trees) (lists : Lists) (last : ℕ) (out text : List ℕ) where
                   rebuilt id-of kind-of (row-ids (drops-in decisions′) (entries 8 (lists .deletions)))
                   (arrivals with-id g (parents-in (unders-in decisions′) (entries 8 (lists .additions))) added) none true (edited-tree (the-plan .edits) base)
 
-              tree-is : rebuilt-tree l (given-in l lists consumed) decisions′ (the-plan .edits) base ≡ paper-tree
+              tree-is : rebuilt-tree l (given-in l lists consumed version) decisions′ (the-plan .edits) base ≡ paper-tree
               unfolding rebuilt-tree
               tree-is = rw (the-plan .arrive)
 

@@ -101,7 +101,7 @@ chain-ok x f g a b e q = let z : f a ≡ ok b = rw e at q in rw (e, z)
 abbrev plan-from : List ℕ → Placed → List Edited → Plan
 plan-from ds a es = record { dropped = ds; parents = a .parents; last = a .last; edits = es }
 
-module _ (l : Trees) (lists : Lists) (last columns : ℕ) (plan index decisions : List (List ℕ)) (marks : List ℕ) (h : Decidable l lists last columns plan index decisions marks) where
+module _ (l : Trees) (lists : Lists) (last version columns : ℕ) (plan index decisions : List (List ℕ)) (marks : List ℕ) (h : Decidable l lists last columns plan index decisions marks) where
   abbrev n : ℕ
   n = slots (l .records)
 
@@ -114,8 +114,8 @@ module _ (l : Trees) (lists : Lists) (last columns : ℕ) (plan index decisions 
   abbrev a : ℕ
   a = entries 8 (lists .additions)
 
-  limits : sized-update (stored-in l 0) (lent-in l lists 0 0) ≡ true
-  limits = h .passed .limits 0 0 0
+  limits : sized-update (stored-in l 0) (lent-in l lists 0 0 0) ≡ true
+  limits = h .passed .limits 0 0 0 0
 
   own : Contents l lists (h .passed .base) (h .passed .added)
   own = contents l lists (h .passed .base) (h .passed .added) (h .passed .read)
@@ -133,8 +133,8 @@ module _ (l : Trees) (lists : Lists) (last columns : ℕ) (plan index decisions 
   unfolding addition-paths
   paths-are = length-from (parent-path (l .request-pool) (lists .additions)) 0 a
 
-  module _ (g : Given) (eg : g ≡ given-in l lists last) where
-    pub count-stops : (decisions′ : List (List ℕ)) → (columns ≡ g .additions → ⊥) → Settles l lists last (decided.Refused (refusal-of 10 3 0)) decisions′ marks
+  module _ (g : Given) (eg : g ≡ given-in l lists last version) where
+    pub count-stops : (decisions′ : List (List ℕ)) → (columns ≡ g .additions → ⊥) → Settles l lists last version (decided.Refused (refusal-of 10 3 0)) decisions′ marks
     unfolding planned _>>=_
     count-stops decisions′ other =
         record {
@@ -182,7 +182,7 @@ module _ (l : Trees) (lists : Lists) (last columns : ℕ) (plan index decisions 
           let w₀ = rw z at (w .0) in
           (reads-is 1 (kids-at b) m 16 a 0 (p .trees) w₀, rw (part-is 1 (kids-at b) m 16 a 0 (p .trees) w₀) (p .tree))
 
-      the-columns : ColumnsIn l (lists .additions) (given-in l lists last)
+      the-columns : ColumnsIn l (lists .additions) (given-in l lists last version)
       the-columns =
           record {
             entries = addition-entries;
@@ -217,13 +217,13 @@ module _ (l : Trees) (lists : Lists) (last columns : ℕ) (plan index decisions 
       placing base ds = all-placed base ds (l .request-pool) (l .added-records) (lists .additions) a m last
 
       abbrev editing : Forest Field → List ℕ → Answer (List Edited)
-      editing base ds = edited-all base ds 0 [] (from (edit-of (l .request-pool) (l .edits)) 0 (entries 16 (l .edits)))
+      editing base ds = edited-all base ds 0 [] (from (edit-of version (l .request-pool) (l .edits)) 0 (entries 16 (l .edits)))
 
       abbrev edited-plan : Forest Field → List ℕ → Placed → Answer Plan
       edited-plan base ds v = editing base ds >>= λ es. ok (plan-from ds v es)
 
       planned-is : (base added : Forest Field) → readable l lists ≡ ok (both-trees base added)
-          → planned-in l lists last base added ≡ (dropping base >>= λ ds. placing base ds >>= λ v. edited-plan base ds v)
+          → planned-in l lists last version base added ≡ (dropping base >>= λ ds. placing base ds >>= λ v. edited-plan base ds v)
       unfolding planned _>>=_ deletion-paths all-placed addition-paths edit-list
       planned-is base added e =
           let o = contents l lists base added e in
@@ -238,7 +238,7 @@ module _ (l : Trees) (lists : Lists) (last columns : ℕ) (plan index decisions 
             (drops-in decisions′) (unders-in decisions′) (firsts-in decisions′) (starts-in decisions′)
         at-tree base e = rw (base-is base e) at (rw eg at v)
 
-        pub changes-stop : (w : Refusal) → y ≡ decided.Refused w → Settles l lists last (decided.Refused w) decisions′ marks
+        pub changes-stop : (w : Refusal) → y ≡ decided.Refused w → Settles l lists last version (decided.Refused w) decisions′ marks
         unfolding changes
         changes-stop w z =
             record {
@@ -260,7 +260,7 @@ module _ (l : Trees) (lists : Lists) (last columns : ℕ) (plan index decisions 
           module _ (x : Check) (marks′ : List ℕ) (b : EditsIn l g plan decisions′ x marks′) where
             -- behind the deletions and the additions, the plan is what the edits say
             planned-at : (base added : Forest Field) → readable l lists ≡ ok (both-trees base added)
-                → planned-in l lists last base added ≡ edited-plan base (row-ids (drops-in decisions′) d) (record { parents = parents-in (unders-in decisions′) a; last = j })
+                → planned-in l lists last version base added ≡ edited-plan base (row-ids (drops-in decisions′) d) (record { parents = parents-in (unders-in decisions′) a; last = j })
             unfolding changes
             planned-at base added e =
                 let o = contents l lists base added e in
@@ -271,7 +271,7 @@ module _ (l : Trees) (lists : Lists) (last columns : ℕ) (plan index decisions 
             edits-at : (base : Forest Field) → decode 0 (l .records) (l .pool) ≡ ok base → EditsBy x (editing base (row-ids (drops-in decisions′) d)) l n marks′
             edits-at base e = rw (base-is base e) at ((rw eg at b) .by)
 
-            pub edits-stop : (w : Refusal) → x ≡ check.Refused w → Settles l lists last (decided.Refused w) decisions′ marks′
+            pub edits-stop : (w : Refusal) → x ≡ check.Refused w → Settles l lists last version (decided.Refused w) decisions′ marks′
             unfolding _>>=_
             edits-stop w q =
                 record {
@@ -284,7 +284,7 @@ module _ (l : Trees) (lists : Lists) (last columns : ℕ) (plan index decisions 
                       rw (← t) (planned-at base added e ∙ rw p);
                 }
 
-            pub all-settled : x ≡ check.Fine → Settles l lists last (decided.Last j) decisions′ marks′
+            pub all-settled : x ≡ check.Fine → Settles l lists last version (decided.Last j) decisions′ marks′
             unfolding _>>=_
             all-settled q =
                 record {
@@ -293,7 +293,7 @@ module _ (l : Trees) (lists : Lists) (last columns : ℕ) (plan index decisions 
                   refusal = λ base added e f r. absurd (let s : _≡_ {A = ℕ} 0 1 = cc in omega arith);
                 }
               where
-                settled : (base added : Forest Field) → readable l lists ≡ ok (both-trees base added) → Settled l lists last base added decisions′ marks′ j
+                settled : (base added : Forest Field) → readable l lists ≡ ok (both-trees base added) → Settled l lists last version base added decisions′ marks′ j
                 settled base added e =
                     let o = contents l lists base added e in
                     let p = placings base (o .base-read) in

@@ -31,9 +31,9 @@ use Rattle.update_schema.specs.Base.{DecisionsRoom}
 use Rattle.update_dropped.specs.Gathered.{row-ids}
 use Rattle.update_schema.specs.Additions.{parents-in}
 
--- How much is lent, and the last id.
-abbrev pub given-in : Trees → Lists → (last : ℕ) → Given
-given-in l lists last =
+-- How much is lent, the last id, and the format version.
+abbrev pub given-in : Trees → Lists → (last version : ℕ) → Given
+given-in l lists last version =
     record {
       base = slots (l .records);
       added = slots (l .added-records);
@@ -41,14 +41,15 @@ given-in l lists last =
       additions = entries 8 (lists .additions);
       edits = entries 16 (l .edits);
       last = last;
+      version = version;
     }
 
 -- What is lent passed 2 to 6 as these two trees.
 pub record Passed (l : Trees) (lists : Lists) : Type 0 where
   pub base : Forest Field
   pub added : Forest Field
-  pub limits : (last room-records room-names : ℕ)
-      → sized-update (stored-in l last) (lent-in l lists room-records room-names) ≡ true
+  pub limits : (last version room-records room-names : ℕ)
+      → sized-update (stored-in l last) (lent-in l lists version room-records room-names) ≡ true
   pub read : readable l lists ≡ ok (both-trees base added)
 
 -- The base, as a plan of itself, passed 7 to 9; so many columns are added; there is room for what is decided, and no mark yet.
@@ -64,13 +65,13 @@ pub record Decidable (l : Trees) (lists : Lists) (last columns : ℕ) (plan inde
   pub unmarked : Unmarked marks
 
 -- What the paper's `planned` says of the trees that were read.
-abbrev pub planned-in : Trees → Lists → (last : ℕ) (base added : Forest Field) → Answer Plan
-planned-in l lists last base added = planned (schema base last) (request-in (lent-in l lists 0 0) added)
+abbrev pub planned-in : Trees → Lists → (last version : ℕ) (base added : Forest Field) → Answer Plan
+planned-in l lists last version base added = planned (schema base last) (request-in (lent-in l lists version 0 0) added)
 
 -- The paper's plan is in the decisions and the marks: the dropped ids, the places, the trees that arrive, and the edits.
-pub record Settled (l : Trees) (lists : Lists) (last : ℕ) (base added : Forest Field) (decisions : List (List ℕ)) (marks : List ℕ) (consumed : ℕ) : Type 0 where
+pub record Settled (l : Trees) (lists : Lists) (last version : ℕ) (base added : Forest Field) (decisions : List (List ℕ)) (marks : List ℕ) (consumed : ℕ) : Type 0 where
   pub edits : List Edited
-  pub is : planned-in l lists last base added
+  pub is : planned-in l lists last version base added
       ≡ ok (record {
         dropped = row-ids (drops-in decisions) (entries 8 (lists .deletions));
         parents = parents-in (unders-in decisions) (entries 8 (lists .additions));
@@ -79,14 +80,14 @@ pub record Settled (l : Trees) (lists : Lists) (last : ℕ) (base added : Forest
       })
   pub carries : Carries l (slots (l .records)) marks edits
   pub most : consumed < 4294967296
-  pub resolved : ResolvedIn (l .added-records) (given-in l lists last) decisions
-  pub arrive : mapped-all (planned-field l) (additions-in (l .added-records) (given-in l lists last) decisions)
+  pub resolved : ResolvedIn (l .added-records) (given-in l lists last version) decisions
+  pub arrive : mapped-all (planned-field l) (additions-in (l .added-records) (given-in l lists last version) decisions)
       ≡ arrivals with-id last (parents-in (unders-in decisions) (entries 8 (lists .additions))) added
 
--- The base's 7 to 9 were passed, so this is 10 to 18 and 22, then 23, 24 and 13 of the edits.
-pub record Settles (l : Trees) (lists : Lists) (last : ℕ) (r : Decided) (decisions : List (List ℕ)) (marks : List ℕ) : Type 0 where
+-- The base's 7 to 9 were passed, so this is 10 to 18 and 22, then 23, 24, 13 and 26 of the edits.
+pub record Settles (l : Trees) (lists : Lists) (last version : ℕ) (r : Decided) (decisions : List (List ℕ)) (marks : List ℕ) : Type 0 where
   pub accepted : (base added : Forest Field) → readable l lists ≡ ok (both-trees base added) → (consumed : ℕ) → r ≡ decided.Last consumed
-      → Settled l lists last base added decisions marks consumed
+      → Settled l lists last version base added decisions marks consumed
   pub unmarked : entries 16 (l .edits) ≡ 0 → Unmarked marks
   pub refusal : (base added : Forest Field) → readable l lists ≡ ok (both-trees base added) → (x : Refusal) → r ≡ decided.Refused x
-      → planned-in l lists last base added ≡ refused (x .number) (x .list) (x .place)
+      → planned-in l lists last version base added ≡ refused (x .number) (x .list) (x .place)

@@ -42,10 +42,10 @@ fn counted(last_id: u32) -> u64
     long(turn(last_id))
 }
 
-// How much is lent, and the last id.
-fn given_of<'a>(trees: &Trees<'a>, lists: &Lists<'a>, last: u64) -> Given
+// How much is lent, the last id, and the format version.
+fn given_of<'a>(trees: &Trees<'a>, lists: &Lists<'a>, last: u64, version: u32) -> Given
     ensures { λ r. ⌜ r ≡ given-in (trees-in (now (trees .entry))) (lists-in (now (lists .entry)))
-        last ⌝ }
+        last version ⌝ }
 {
     Given {
         base: trees[RECORDS].len() / 24,
@@ -54,15 +54,17 @@ fn given_of<'a>(trees: &Trees<'a>, lists: &Lists<'a>, last: u64) -> Given
         additions: lists[ADDITIONS].len() / 8,
         edits: trees[EDITS].len() / 16,
         last,
+        version,
     }
 }
 
-// Decides all changes of a request that passed 1 to 9: refusal 10, then 11 to 18 and 22, then 23, 24 and 13 of the edits; or what the
-// rebuild needs.
+// Decides all changes of a request that passed 1 to 9: refusal 10, then 11 to 18 and 22, then 23, 24, 13 and 26 of the edits; or what
+// the rebuild needs.
 fn decide<'a>(
     trees: &Trees<'a>,
     lists: &Lists<'a>,
     last: u64,
+    version: u32,
     columns: u32,
     plan: &PlanRows,
     index: &IndexRows,
@@ -71,10 +73,10 @@ fn decide<'a>(
 ) -> Decided
     requires { ⌜ Decidable (trees-in (now trees)) (lists-in (now lists)) last columns (now plan)
         (now index) (now decisions) (now marks) ⌝ }
-    ensures { λ r. ⌜ Settles (trees-in (now (trees .entry))) (lists-in (now (lists .entry))) last r
-        (now (decisions .exit)) (now (marks .exit)) ⌝ }
+    ensures { λ r. ⌜ Settles (trees-in (now (trees .entry))) (lists-in (now (lists .entry))) last
+        version r (now (decisions .exit)) (now (marks .exit)) ⌝ }
 {
-    let given = given_of(trees, lists, last);
+    let given = given_of(trees, lists, last, version);
     if columns as usize != given.additions {
         // refusal 10
         return Decided::Refused(Refusal {
@@ -99,24 +101,25 @@ pub fn update<'a>(
     trees: &Trees<'a>,
     lists: &Lists<'a>,
     last_id: u32,
+    version: u32,
     out_records: &mut [u8],
     out_names: &mut [u8],
 ) -> Changed
     ensures { λ r. ⌜ Answers changes
         (update-entry (stored-in (trees-in (now (trees .entry))) «last_id»)
-        (lent-in (trees-in (now (trees .entry))) (lists-in (now (lists .entry)))
+        (lent-in (trees-in (now (trees .entry))) (lists-in (now (lists .entry))) version
         (length (now («out_records» .entry))) (length (now («out_names» .entry)))))
         (for-records (now («out_records» .entry)) ∷ for-names (now («out_names» .entry)) ∷ []) r
         (now («out_records» .exit) ∷ now («out_names» .exit) ∷ []) ⌝ }
 {
     // open
-    match open_update(trees, lists, out_records.len(), out_names.len()) {
+    match open_update(trees, lists, version, out_records.len(), out_names.len()) {
         Opened::Refused(r) => Changed::Refused(r),
         Opened::Roots(roots, columns) => {
             let mut plan = [[0u32; 1024]; 3];
             let mut index = [[0u16; 1024]; 8];
             let mut decisions = [[0u64; 64]; 4];
-            let mut marks = [0u8; 1024];
+            let mut marks = [0u16; 1024];
             // test
             let n = trees[RECORDS].len() / 24;
             let sound = index_base(trees, n, lists[IDENTIFIERS], &mut plan, &mut index);
@@ -129,6 +132,7 @@ pub fn update<'a>(
                 trees,
                 lists,
                 last,
+                version,
                 columns,
                 &plan,
                 &index,
@@ -140,7 +144,7 @@ pub fn update<'a>(
                 Decided::Last(consumed) => write_rebuilt(
                     trees,
                     lists[IDENTIFIERS],
-                    given_of(trees, lists, consumed),
+                    given_of(trees, lists, consumed, version),
                     roots,
                     &decisions,
                     &marks,

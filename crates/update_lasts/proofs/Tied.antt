@@ -19,36 +19,36 @@ use Rattle.update_lasts.specs.Calls.{Ensures, of-update, of-c-update}
 use Rattle.update_lasts.proofs.lent_bytes as lent-bytes
 use Rattle.update_lasts.proofs.lent_bytes.Reads as lent-bytes-reads
 
--- `trees`, `lists`, `last_id`, both buffers.
+-- `trees`, `lists`, `last_id`, `version`, both buffers.
 pub update-says : (κs : Lfts 5) (a : ArgsD update.signature κs) (r : ResD update.signature κs)
     (s : AtExit update.ended κs)
     → update-reads.Learnt κs a r s
     ≡ Ensures of-update (stored-in (trees-in (now (a .0))) (a .1 .1 .0))
     (record {
-      lent = lent-in (trees-in (now (a .0))) (lists-in (now (a .1 .0)))
-          (length (now (a .1 .1 .1 .0))) (length (now (a .1 .1 .1 .1 .0)));
-      records-before = now (a .1 .1 .1 .0);
-      names-before = now (a .1 .1 .1 .1 .0);
-      records-after = now (s .1 .1 .1 .0);
-      names-after = now (s .1 .1 .1 .1 .0);
+      lent = lent-in (trees-in (now (a .0))) (lists-in (now (a .1 .0))) (a .1 .1 .1 .0)
+          (length (now (a .1 .1 .1 .1 .0))) (length (now (a .1 .1 .1 .1 .1 .0)));
+      records-before = now (a .1 .1 .1 .1 .0);
+      names-before = now (a .1 .1 .1 .1 .1 .0);
+      records-after = now (s .1 .1 .1 .1 .0);
+      names-after = now (s .1 .1 .1 .1 .1 .0);
       answer = r;
     })
 update-says κs a r s = refl
 
--- `records`, `pool`, `identifiers`, `last_id`, `deletions`, `additions`, `added_records`, `edits`, `request_pool`,
--- both buffers.
+-- `records`, `pool`, `identifiers`, `last_id`, `version`, `deletions`, `additions`, `added_records`, `edits`,
+-- `request_pool`, both buffers.
 pub c-update-says : (κs : Lfts 3) (a : ArgsD c-update.signature κs) (r : ResD c-update.signature κs)
     (s : AtExit c-update.ended κs)
     → c-update-reads.Learnt κs a r s
     ≡ Ensures of-c-update (stored (now (a .0)) (now (a .1 .0)) (a .1 .1 .1 .0))
     (record {
-      lent = lent (now (a .1 .1 .0)) (now (a .1 .1 .1 .1 .0)) (now (a .1 .1 .1 .1 .1 .0))
-          (now (a .1 .1 .1 .1 .1 .1 .0)) (now (a .1 .1 .1 .1 .1 .1 .1 .0)) (now (a .1 .1 .1 .1 .1 .1 .1 .1 .0))
-          (length (now (a .1 .1 .1 .1 .1 .1 .1 .1 .1 .0))) (length (now (a .1 .1 .1 .1 .1 .1 .1 .1 .1 .1 .0)));
-      records-before = now (a .1 .1 .1 .1 .1 .1 .1 .1 .1 .0);
-      names-before = now (a .1 .1 .1 .1 .1 .1 .1 .1 .1 .1 .0);
-      records-after = now (s .1 .1 .1 .1 .1 .1 .1 .1 .1 .0);
-      names-after = now (s .1 .1 .1 .1 .1 .1 .1 .1 .1 .1 .0);
+      lent = lent (now (a .1 .1 .0)) (a .1 .1 .1 .1 .0) (now (a .1 .1 .1 .1 .1 .0)) (now (a .1 .1 .1 .1 .1 .1 .0))
+          (now (a .1 .1 .1 .1 .1 .1 .1 .0)) (now (a .1 .1 .1 .1 .1 .1 .1 .1 .0)) (now (a .1 .1 .1 .1 .1 .1 .1 .1 .1 .0))
+          (length (now (a .1 .1 .1 .1 .1 .1 .1 .1 .1 .1 .0))) (length (now (a .1 .1 .1 .1 .1 .1 .1 .1 .1 .1 .1 .0)));
+      records-before = now (a .1 .1 .1 .1 .1 .1 .1 .1 .1 .1 .0);
+      names-before = now (a .1 .1 .1 .1 .1 .1 .1 .1 .1 .1 .1 .0);
+      records-after = now (s .1 .1 .1 .1 .1 .1 .1 .1 .1 .1 .0);
+      names-after = now (s .1 .1 .1 .1 .1 .1 .1 .1 .1 .1 .1 .0);
       answer = r;
     })
 c-update-says κs a r s = refl

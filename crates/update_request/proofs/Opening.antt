@@ -10,6 +10,7 @@ use Rattle.paper.specs.Field.{Field}
 use Rattle.paper.specs.Lists.{ok-deletion, ok-addition, path-in, ok-edit, edit-in, entries-ok}
 use Rattle.paper.specs.Decode.{decode}
 use Rattle.paper.specs.Limits.{room}
+use Rattle.paper.specs.Promotions.{known-version}
 use Rattle.laws.proofs.Basics.{bind-is, bind-not}
 use Rattle.record.specs.declared.Check.{Check}
 use Rattle.record.specs.declared.Check.the-variants as check
@@ -121,27 +122,32 @@ module _ (l : Trees) (lists : Lists) (w : Opened) (ew : w ≡ opened (trees-read
         let z = checked-ok (all-lists l lists) v ev h in
         eo ∙ sym (ap opened (trees-first l lists ∙ bind-is (trees-read l) _ t et ∙ bind-is (all-lists l lists) _ tt z))
 
--- ---- 1 and 2
+-- ---- 1, 2 and 25
 
-module _ (l : Trees) (lists : Lists) (rr rn : ℕ) (g : Bool) (eg : g ≡ room rr rn) where
-  pub no-room : not g ≡ true → Opens l lists rr rn (it.Refused (refusal-of 1 0 0))
+module _ (l : Trees) (lists : Lists) (v rr rn : ℕ) (g : Bool) (eg : g ≡ room rr rn) where
+  pub no-room : not g ≡ true → Opens l lists v rr rn (it.Refused (refusal-of 1 0 0))
   unfolding opening _>>=_ opened
   no-room q = record { says = λ last. rw (← eg, q) }
 
   module _ (q : not g ≡ false) (h : Bool) (sized : SizedUpdate l lists h) where
-    pub no-limits : not h ≡ true → Opens l lists rr rn (it.Refused (refusal-of 2 0 0))
+    pub no-limits : not h ≡ true → Opens l lists v rr rn (it.Refused (refusal-of 2 0 0))
     unfolding opening _>>=_ opened
-    no-limits f = record { says = λ last. rw (← eg, q, ← (sized .says last rr rn), f) }
+    no-limits f = record { says = λ last. rw (← eg, q, ← (sized .says last v rr rn), f) }
 
-    pub opens-on : (w : Opened) → not h ≡ false → w ≡ opened (readable l lists) → Opens l lists rr rn w
-    unfolding opening _>>=_
-    opens-on w f e = record { says = λ last. rw (← eg, q, ← (sized .says last rr rn), f) e }
+    module _ (f : not h ≡ false) (k : Bool) (ek : k ≡ known-version v) where
+      pub no-version : not k ≡ true → Opens l lists v rr rn (it.Refused (refusal-of 25 0 0))
+      unfolding opening _>>=_ opened
+      no-version u = record { says = λ last. rw (← eg, q, ← (sized .says last v rr rn), f, ← ek, u) }
+
+      pub opens-on : (w : Opened) → not k ≡ false → w ≡ opened (readable l lists) → Opens l lists v rr rn w
+      unfolding opening _>>=_
+      opens-on w u e = record { says = λ last. rw (← eg, q, ← (sized .says last v rr rn), f, ← ek, u) e }
 
 -- what passed 2 is short enough for what follows
 pub most : (l : Trees) (lists : Lists) (h : Bool) → SizedUpdate l lists h → not h ≡ false
     → (length (l .records) ≤ 24576) × (length (l .added-records) ≤ 24576) × (length (lists .deletions) ≤ 512) × (length (lists .additions) ≤ 512) × (length (l .edits) ≤ 1024)
 most l lists h sized f =
-    let e = sized .says 0 0 0 in
+    let e = sized .says 0 0 0 0 in
     (base-most _ _ h e f, added-most _ _ h e f, deletions-most _ _ h e f, additions-most _ _ h e f, edits-most _ _ h e f)
 
-pub ruleset openings = (list-stops, next-stops, list-goes, base-stops, added-stops, both-read, contents-stop, lists-stop, contents-fine, no-room, no-limits, opens-on)
+pub ruleset openings = (list-stops, next-stops, list-goes, base-stops, added-stops, both-read, contents-stop, lists-stop, contents-fine, no-room, no-limits, no-version, opens-on)

@@ -2,12 +2,13 @@
 use Prim.Native.Nat.{ℕ}
 use mathlib.Core.Path.{_≡_}
 use Rattle.paper.specs.Answer.{Answer, ok, refused, _>>=_, _>>_}
-use Rattle.paper.specs.Refusals.{roomy, limited}
+use Rattle.paper.specs.Refusals.{roomy, limited, versioned}
 use Rattle.paper.specs.Forest.{Forest, siblings}
 use Rattle.paper.specs.Field.{Field}
 use Rattle.paper.specs.Lists.{ok-deletion, ok-addition, path-in, ok-edit, edit-in, entries-ok}
 use Rattle.paper.specs.Decode.{decode}
 use Rattle.paper.specs.Limits.{room, sized-update}
+use Rattle.paper.specs.Promotions.{known-version}
 use Rattle.record.specs.declared.Check.{Check}
 use Rattle.record.specs.Says.{refusal-of, checked}
 use Rattle.record.specs.Trees.{Trees, Lists, stored-in, lent-in}
@@ -46,10 +47,11 @@ readable l lists = do
   entries-ok 6 16 ok-edit edit-in (l .edits) (l .request-pool)
   ok (both-trees base added)
 
-unfoldable pub opening : Trees → Lists → (last room-records room-names : ℕ) → Answer Forests
-opening l lists last room-records room-names = do
+unfoldable pub opening : Trees → Lists → (last version room-records room-names : ℕ) → Answer Forests
+opening l lists last version room-records room-names = do
   roomy (room room-records room-names)
-  limited (sized-update (stored-in l last) (lent-in l lists room-records room-names))
+  limited (sized-update (stored-in l last) (lent-in l lists version room-records room-names))
+  versioned (known-version version)
   readable l lists
 
 -- What the code says of it.
@@ -58,5 +60,5 @@ opened (ok both) = it.Roots (siblings (both .base)) (siblings (both .added))
 opened (refused n l p) = it.Refused (refusal-of n l p)
 
 -- Whatever the last id is.
-pub record Opens (l : Trees) (lists : Lists) (room-records room-names : ℕ) (r : Opened) : Type 0 where
-  pub says : (last : ℕ) → r ≡ opened (opening l lists last room-records room-names)
+pub record Opens (l : Trees) (lists : Lists) (version room-records room-names : ℕ) (r : Opened) : Type 0 where
+  pub says : (last : ℕ) → r ≡ opened (opening l lists last version room-records room-names)

@@ -1,4 +1,4 @@
-// All that an update is lent, tested before anything is decided: refusals 1 to 6.
+// All that an update is lent, tested before anything is decided: refusals 1 to 6 and 25.
 use record::ADDED_RECORDS;
 use record::ADDITIONS;
 use record::Check;
@@ -19,6 +19,7 @@ use tree::check_tree;
 ghost use mathlib.Core.Path.{_≡_};
 ghost use Prim.Native.Nat.{_≤_};
 ghost use lib.ListN.{length};
+ghost use Rattle.paper.specs.Promotions.{known-version};
 ghost use Rattle.record.specs.Trees.{trees-in, lists-in};
 ghost use Rattle.update_request.specs.Opened.{trees-read, listed, readable, opened, Opens};
 
@@ -81,14 +82,22 @@ fn check_contents<'a>(trees: &Trees<'a>, lists: &Lists<'a>) -> Opened
     }
 }
 
-// Refusals 1 and 2 for everything, then the contents. The rooms are the lengths of the output buffers.
+// Whether there is such a format version.
+fn known_version(version: u32) -> bool
+    ensures { λ r. ⌜ r ≡ known-version version ⌝ }
+{
+    (version == 2) | (version == 3)
+}
+
+// Refusals 1 and 2 for everything, 25, then the contents. The rooms are the lengths of the output buffers.
 pub fn open_update<'a>(
     trees: &Trees<'a>,
     lists: &Lists<'a>,
+    version: u32,
     room_records: usize,
     room_names: usize,
 ) -> Opened
-    ensures { λ r. ⌜ Opens (trees-in (now (trees .entry))) (lists-in (now (lists .entry)))
+    ensures { λ r. ⌜ Opens (trees-in (now (trees .entry))) (lists-in (now (lists .entry))) version
         «room_records» «room_names» r ⌝ }
 {
     if !room(room_records, room_names) {
@@ -103,6 +112,14 @@ pub fn open_update<'a>(
         // refusal 2
         return Opened::Refused(Refusal {
             number: 2,
+            list: 0,
+            place: 0,
+        });
+    }
+    if !known_version(version) {
+        // refusal 25
+        return Opened::Refused(Refusal {
+            number: 25,
             list: 0,
             place: 0,
         });

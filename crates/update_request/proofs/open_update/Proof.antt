@@ -1,4 +1,4 @@
--- Room, limits, contents.
+-- Room, limits, version, contents.
 use Rattle.update_request.proofs.Opening.{most}
 use Rattle.update_request.proofs.Opening.{openings}
 use borrow.Author.Needs.{needs}
@@ -13,6 +13,8 @@ open-update-spec =
     (λ c. search (openings, needs))  -- returns
     (λ c κs. search needs)  -- sized-update-requires
     (λ c. search (openings, needs))  -- returns-2
-    (λ c κs. most _ _ _ (c .before .sized-update .ensures) (c .if2 .left))  -- check-contents-requires
+    (λ c κs. search needs)  -- known-version-requires
     (λ c. search (openings, needs))  -- returns-3
+    (λ c κs. most _ _ _ (c .before .before .before .sized-update .ensures) (c .before .before .if2 .left))  -- check-contents-requires
+    (λ c. search (openings, needs))  -- returns-4
     )

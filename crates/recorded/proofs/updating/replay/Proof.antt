@@ -16,12 +16,16 @@ replay-spec =
     (λ c. search needs)  -- enum-known-last-id
     (λ c. search needs)  -- enum-told
     (λ c. search needs)  -- returns-2
+    (λ c κs. search needs)  -- version-in-requires
+    (λ c. search needs)  -- enum-known-version
+    (λ c. search needs)  -- enum-told-2
+    (λ c. search needs)  -- returns-3
     (λ c κs. search needs)  -- field-requires-2
     (λ c κs. search needs)  -- size-requires
     (λ c κs. search needs)  -- field-requires-3
     (λ c κs. search needs)  -- size-requires-2
-    (λ c. search needs)  -- returns-3
     (λ c. search needs)  -- returns-4
+    (λ c. search needs)  -- returns-5
     (λ c. search needs)  -- slice-relend-prefix-agrees
     (λ c. simp length-take (omega arith))  -- slice-aggregate-agrees
     (λ c. search needs)  -- slice-relend-prefix-agrees-2
@@ -31,5 +35,5 @@ replay-spec =
     (λ c. search needs)  -- same-length
     (λ c. search needs)  -- same-length-2
     (λ c. search needs)  -- same-length-3
-    (λ c. search needs)  -- returns-5
+    (λ c. search needs)  -- returns-6
     )
