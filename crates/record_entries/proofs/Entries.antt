@@ -1,12 +1,12 @@
 -- Refusals 3 and 4 over a list of entries, once for all lists: whatever their width and their rules are. `search listing`.
 use mathlib.Core.Path.{_≡_, sym, ap, _∙_}
 use mathlib.Core.List.{List}
-use mathlib.Core.Bool.{Bool, true}
+use mathlib.Core.Bool.{Bool, true, not, _||_}
 use Prim.Native.Nat.{ℕ, _+_, _-_, _*_, _/_, _<_, _≤_}
 use native.Mathlib.Nat.{add-sub-cancel-left}
 use native.Mathlib.Omega.{arith}
-use borrow.Author.Tests.{leb-true}
-use lib.Dec.{leb}
+use borrow.Author.Tests.{leb-true, eq-eqb, ne-eqb}
+use lib.Dec.{eqb, leb}
 use lib.ListN.{length, take, drop}
 use Rattle.paper.specs.Answer.{lowest}
 use Rattle.paper.specs.Lists.{entry-at, path-in, path-of, edit-at, edit-in, edit-path, new-name, entries-ok}
@@ -16,9 +16,10 @@ use Rattle.record.specs.declared.Check.{Check}
 use Rattle.record.specs.declared.Check.the-variants.{Fine, Refused}
 use Rattle.record.specs.Says.{tested, checked}
 use Rattle.record.proofs.Testing.{tested-fault, chain-goes, chain-stops}
+use Rattle.record_entries.specs.declared.What.the-variants.{Rename, Relax, Widen}
 use Rattle.record_entries.specs.declared.PathList.{PathList}
 use Rattle.record_entries.specs.declared.PathList.the-variants.{Deletions, Additions, Edits}
-use Rattle.record_entries.specs.Rule.{width-of}
+use Rattle.record_entries.specs.Rule.{width-of, what-of}
 
 module _ (list width : ℕ) (rule : List ℕ → ℕ → Bool) (inside : ℕ → List ℕ → ℕ → Bool) (s pool : List ℕ) (number w n : ℕ) (en : number ≡ list) (ew : w ≡ width) (e : n ≡ length s / w) where
   -- 3, then 4
@@ -77,15 +78,15 @@ module _ (s : List ℕ) (k from len : ℕ) (ef : from ≡ entry-at s k .path-at)
 
 pub ruleset pathing = (path-within, path-is)
 
--- ---- so are the path and the new name of an edit
+-- ---- so are the path of an edit, and the new name of one that renames
 
-pub edit-ends : (n : ℕ) (s : List ℕ) (k : ℕ) → edit-in n s k ≡ true → (edit-at s k .path-at + edit-at s k .path-len ≤ n) × (edit-at s k .name-at + edit-at s k .name-len ≤ n)
+pub edit-ends : (n : ℕ) (s : List ℕ) (k : ℕ) → edit-in n s k ≡ true → (edit-at s k .path-at + edit-at s k .path-len ≤ n) × (edit-at s k .what ≡ 1 → edit-at s k .name-at + edit-at s k .name-len ≤ n)
 unfolding edit-in
 edit-ends n s k h =
     let path = edit-at s k .path-at + edit-at s k .path-len in
     let name = edit-at s k .name-at + edit-at s k .name-len in
-    let b = both (leb path n) (leb name n) h in
-    (leb-true path n (b .0), leb-true name n (b .1))
+    let b = both (leb path n) (not (eqb (edit-at s k .what) 1) || leb name n) h in
+    (leb-true path n (b .0), λ w. leb-true name n (rw (eq-eqb (edit-at s k .what) 1 w) at (b .1)))
 
 module _ (s : List ℕ) (k from len : ℕ) where
   module _ (ef : from ≡ edit-at s k .path-at) (el : len ≡ edit-at s k .path-len) where
@@ -97,11 +98,28 @@ module _ (s : List ℕ) (k from len : ℕ) where
     edit-path-is pool = rw (add-sub-cancel-left from len, ef, el)
 
   module _ (ef : from ≡ edit-at s k .name-at) (el : len ≡ edit-at s k .name-len) where
-    pub new-name-within : (n : ℕ) → edit-in n s k ≡ true → from + len ≤ n
-    new-name-within n h = let b = edit-ends n s k h .1 in omega arith
+    pub new-name-within : (n : ℕ) → edit-at s k .what ≡ 1 → edit-in n s k ≡ true → from + len ≤ n
+    new-name-within n w h = let b = edit-ends n s k h .1 w in omega arith
 
     pub new-name-is : (pool : List ℕ) → take (from + len - from) (drop from pool) ≡ new-name pool s k
     unfolding new-name
     new-name-is pool = rw (add-sub-cancel-left from len, ef, el)
 
 pub ruleset editing = (edit-path-within, edit-path-is, new-name-within, new-name-is)
+
+-- ---- what an edit does, by its byte
+
+module _ (byte : ℕ) where
+  pub what-renames : byte ≡ 1 → Rename ≡ what-of byte
+  unfolding what-of
+  what-renames e = rw e
+
+  pub what-relaxes : byte ≡ 2 → Relax ≡ what-of byte
+  unfolding what-of
+  what-relaxes e = rw e
+
+  pub what-widens : (byte ≡ 1 → ⊥) → (byte ≡ 2 → ⊥) → Widen ≡ what-of byte
+  unfolding what-of
+  what-widens a b = rw (ne-eqb byte 1 a, ne-eqb byte 2 b)
+
+pub ruleset telling = (what-renames, what-relaxes, what-widens)

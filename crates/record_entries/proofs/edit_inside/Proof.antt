@@ -14,6 +14,9 @@ edit-inside-spec =
     (λ c κs. search needs)  -- new-name-from-requires
     (λ c κs. search needs)  -- new-name-len-requires
     (λ c. search needs)  -- add-result
+    (λ c. search needs)  -- mul-result
     (λ c. search needs)  -- add-result-2
+    (λ c. search needs)  -- shared-slice-read-result
+    (λ c. search needs)  -- add-result-3
     (λ c. cc)  -- returns
     )
