@@ -19,7 +19,7 @@ use Rattle.paper.specs.Encode.{bytes32, row24, rec-bytes}
 use Rattle.tree.proofs.Filled.{lt-or-le}
 use Rattle.record.specs.Trees.{Trees, lent-trees, trees-in, slice-at}
 use Rattle.record_entries.proofs.Entries.{edit-ends}
-use Rattle.plan.specs.Plan.{edited-slot, mark-of, renaming, marked-name, marked-flags, marked-field, by-source, source-field, planned-field, Sits}
+use Rattle.plan.specs.Plan.{edited-slot, mark-of, low-part, renaming, widening, marked-name, marked-flags, marked-code, marked-field, by-source, source-field, planned-field, Sits}
 use Rattle.plan.specs.Sources.{source-kind, marked-len, source-len, source-flags, source-code, row-of, source-row, NameAt, In}
 
 -- ---- what the code reads and writes
@@ -41,8 +41,11 @@ module _ (base added edits : List ℕ) (x : ℕ) (h : In base added edits x) whe
     pub in-edited : (slot : ℕ) → slot ≡ edited-slot x → slot * 24 + 24 ≤ length base
     in-edited slot e = rw e (h .edited-in l)
 
-    pub in-renamed : (mark : ℕ) → mark ≡ mark-of x → 2 ≤ mark → renaming mark * 16 + 16 ≤ length edits
-    in-renamed mark e m = rw e (h .renamed-in l (rw e at m))
+    pub in-renamed : (low : ℕ) → low ≡ low-part (mark-of x) → 2 ≤ low → (low / 2 - 1) * 16 + 16 ≤ length edits
+    in-renamed low e m = rw e (h .renamed-in l (rw e at m))
+
+    pub in-widened : (mark : ℕ) → mark ≡ mark-of x → 256 ≤ mark → widening mark * 16 + 16 ≤ length edits
+    in-widened mark e m = rw e (h .widened-in l (rw e at m))
 
 module _ {A : Type 0} (x : ℕ) (r a b c : A) where
   pub from-base : x < 1024 → r ≡ a → r ≡ by-source x a b c
@@ -75,12 +78,18 @@ module _ (s p b r e : List ℕ) (x : ℕ) (h : Sits (lent-trees s p b r e) x) wh
       pub named-edited : in-pool (length p) s slot ≡ true
       named-edited = rw q (h .edited-named l)
 
-    module _ (mark : ℕ) (q : mark ≡ mark-of x) (m : 2 ≤ mark) where
-      pub sits-renamed : renaming mark * 16 + 16 ≤ length e
+    module _ (low : ℕ) (q : low ≡ low-part (mark-of x)) (m : 2 ≤ low) where
+      pub sits-renamed : (low / 2 - 1) * 16 + 16 ≤ length e
       sits-renamed = rw q (h .renamed-in l (rw q at m))
 
-      pub named-renamed : edit-in (length r) e (renaming mark) ≡ true
+      pub what-renamed : edit-at e (low / 2 - 1) .what ≡ 1
+      what-renamed = rw q (h .renamed-what l (rw q at m))
+
+      pub named-renamed : edit-in (length r) e (low / 2 - 1) ≡ true
       named-renamed = rw q (h .renamed-named l (rw q at m))
+
+    pub sits-widened : (mark : ℕ) → mark ≡ mark-of x → 256 ≤ mark → widening mark * 16 + 16 ≤ length e
+    sits-widened mark q m = rw q (h .widened-in l (rw q at m))
 
 -- ---- what a mark leaves
 
@@ -111,30 +120,36 @@ module _ (base edits : List ℕ) (x mark slot : ℕ) (em : mark ≡ mark-of x) w
       unfolding marked-flags
       flags-kept q = rw (← es, ← em, ne-eqb (mark % 2) 1 q) ef
 
-    pub len-kept : (r : ℕ) → mark < 2 → r ≡ rec-at base slot .name-len → r ≡ marked-len base edits (mark-of x) (edited-slot x)
-    unfolding marked-len
-    len-kept r q e = rw (← es, ← em, lt-ltb mark 2 q) e
+    pub code-kept : (r : ℕ) → mark < 256 → r ≡ rec-at base slot .code → r ≡ marked-code base edits (mark-of x) (edited-slot x)
+    unfolding marked-code
+    code-kept r q e = rw (← es, ← em, lt-ltb mark 256 q) e
 
-  pub len-new : (r : ℕ) → 2 ≤ mark → r ≡ edit-at edits (renaming mark) .name-len → r ≡ marked-len base edits (mark-of x) (edited-slot x)
+  pub code-new : (r : ℕ) → 256 ≤ mark → r ≡ edit-at edits (widening mark) .code → r ≡ marked-code base edits (mark-of x) (edited-slot x)
+  unfolding marked-code
+  code-new r q e = rw (← em, le-ltb mark 256 q) e
+
+module _ (base edits : List ℕ) (x low slot : ℕ) (em : low ≡ low-part (mark-of x)) where
+  pub len-kept : (r : ℕ) → slot ≡ edited-slot x → low < 2 → r ≡ rec-at base slot .name-len → r ≡ marked-len base edits (mark-of x) (edited-slot x)
   unfolding marked-len
-  len-new r q e = rw (← em, le-ltb mark 2 q) e
+  len-kept r es q e = rw (← es, ← em, lt-ltb low 2 q) e
 
-pub ruleset marking = (flags-relaxed, flags-kept, len-kept, len-new)
+  pub len-new : (r : ℕ) → 2 ≤ low → r ≡ edit-at edits (low / 2 - 1) .name-len → r ≡ marked-len base edits (mark-of x) (edited-slot x)
+  unfolding marked-len
+  len-new r q e = rw (← em, le-ltb low 2 q) e
+
+pub ruleset marking = (flags-relaxed, flags-kept, code-kept, code-new, len-kept, len-new)
 
 module _ (base added edits : List ℕ) (x slot : ℕ) (l : 2048 ≤ x) (es : slot ≡ edited-slot x) where
   pub kind-edited : (r : Kind) → r ≡ kind-at base slot → r ≡ source-kind base added x
   unfolding source-kind
   kind-edited r e = from-edited x r _ _ (kind-at base (edited-slot x)) l (rw (← es) e)
 
-  pub code-edited : (r : ℕ) → r ≡ rec-at base slot .code → r ≡ source-code base added x
-  unfolding source-code
-  code-edited r e = from-edited x r _ _ (rec-at base (edited-slot x) .code) l (rw (← es) e)
-
-  pub row-edited : (r : List ℕ) (id kids at len flags : ℕ) → len ≡ marked-len base edits (mark-of x) (edited-slot x) → flags ≡ marked-flags base (mark-of x) (edited-slot x) → r ≡ row-of base slot id kids at len flags
-      → r ≡ source-row base added edits x id kids at
+  pub row-edited : (r : List ℕ) (id kids at len flags code : ℕ) → len ≡ marked-len base edits (mark-of x) (edited-slot x) → flags ≡ marked-flags base (mark-of x) (edited-slot x)
+      → code ≡ marked-code base edits (mark-of x) (edited-slot x) → r ≡ row-of base slot id kids at len flags code → r ≡ source-row base added edits x id kids at
   unfolding source-row
-  row-edited r id kids at len flags el ef e =
-      from-edited x r _ _ (row-of base (edited-slot x) id kids at (marked-len base edits (mark-of x) (edited-slot x)) (marked-flags base (mark-of x) (edited-slot x))) l (rw (← el, ← ef, ← es) e)
+  row-edited r id kids at len flags code el ef ec e =
+      from-edited x r _ _ (row-of base (edited-slot x) id kids at (marked-len base edits (mark-of x) (edited-slot x)) (marked-flags base (mark-of x) (edited-slot x)) (marked-code base edits (mark-of x) (edited-slot x))) l
+      (rw (← el, ← ef, ← ec, ← es) e)
 
 -- ---- the name as a part of its pool
 
@@ -153,29 +168,29 @@ module _ (slices : List (RefT (List ℕ))) (x : ℕ) (r : RefT (List ℕ)) where
       let q = lt-ltb x 2048 c in
       record { name = rw (p, q) (e .0); pool = rw (p, q) (e .1); offset = rw (p, q) (e .2) }
 
-  module _ (l : 2048 ≤ x) (mark : ℕ) (em : mark ≡ mark-of x) where
+  module _ (l : 2048 ≤ x) (low : ℕ) (em : low ≡ low-part (mark-of x)) where
     not-base : ltb x 1024 ≡ false
     not-base = le-ltb x 1024 (omega arith)
 
     not-added : ltb x 2048 ≡ false
     not-added = le-ltb x 2048 l
 
-    pub name-kept : (slot : ℕ) → slot ≡ edited-slot x → mark < 2 → Part (name-of (trees-in slices .pool) (trees-in slices .records) slot) 1 (rec-at (trees-in slices .records) slot .name-at) → NameAt slices x r
+    pub name-kept : (slot : ℕ) → slot ≡ edited-slot x → low < 2 → Part (name-of (trees-in slices .pool) (trees-in slices .records) slot) 1 (rec-at (trees-in slices .records) slot .name-at) → NameAt slices x r
     unfolding source-field marked-field marked-name
     name-kept slot es b e =
-        let p = lt-ltb mark 2 b in
+        let p = lt-ltb low 2 b in
         record { name = rw (not-base, not-added, ← em, ← es, p) (e .0); pool = rw (not-base, not-added, ← em, p) (e .1); offset = rw (not-base, not-added, ← em, ← es, p) (e .2) }
 
-    pub name-new : 2 ≤ mark → Part (new-name (trees-in slices .request-pool) (trees-in slices .edits) (renaming mark)) 3 (edit-at (trees-in slices .edits) (renaming mark) .name-at) → NameAt slices x r
+    pub name-new : 2 ≤ low → Part (new-name (trees-in slices .request-pool) (trees-in slices .edits) (low / 2 - 1)) 3 (edit-at (trees-in slices .edits) (low / 2 - 1) .name-at) → NameAt slices x r
     unfolding source-field marked-field marked-name
     name-new b e =
-        let p = le-ltb mark 2 b in
+        let p = le-ltb low 2 b in
         record { name = rw (not-base, not-added, ← em, p) (e .0); pool = rw (not-base, not-added, ← em, p) (e .1); offset = rw (not-base, not-added, ← em, p) (e .2) }
 
 pub ruleset parting = (name-base, name-added, name-kept, name-new)
 
 pub ruleset sourcing =
-    (in-base, in-added, in-edited, in-renamed, from-base, from-added, from-edited, sits-base, named-base, sits-added, named-added, sits-edited, named-edited, sits-renamed, named-renamed)
+    (in-base, in-added, in-edited, in-renamed, in-widened, from-base, from-added, from-edited, sits-base, named-base, sits-added, named-added, sits-edited, named-edited, sits-renamed, what-renamed, named-renamed, sits-widened)
 
 -- ---- the same of the planned field
 
@@ -204,19 +219,19 @@ bits-again x rest = rw (same-bits x) (go (x % 4294967296) (x / 4294967296) (omeg
         let a′ : x % 256 ≡ r % 256 = omega arith in
         rw (a′, b, c, d, lowest-byte (r / 256) (q * 65536), lowest-byte (r / 65536) (q * 256), lowest-byte (r / 16777216) q)
 
-new-name-length : (pool s : List ℕ) (k : ℕ) → edit-in (length pool) s k ≡ true → length (new-name pool s k) ≡ edit-at s k .name-len
+new-name-length : (pool s : List ℕ) (k : ℕ) → edit-at s k .what ≡ 1 → edit-in (length pool) s k ≡ true → length (new-name pool s k) ≡ edit-at s k .name-len
 unfolding new-name
-new-name-length pool s k e =
-    let h = edit-ends (length pool) s k e .1 in
+new-name-length pool s k w e =
+    let h = edit-ends (length pool) s k e .1 w in
     length-take-le (edit-at s k .name-len) (drop (edit-at s k .name-at) pool) (simp length-drop (omega arith))
 
-marked-length : (l : Trees) (mark slot : ℕ) → in-pool (length (l .pool)) (l .records) slot ≡ true → (2 ≤ mark → edit-in (length (l .request-pool)) (l .edits) (renaming mark) ≡ true)
-    → marked-len (l .records) (l .edits) mark slot ≡ length (marked-name l mark slot)
+marked-length : (l : Trees) (mark slot : ℕ) → in-pool (length (l .pool)) (l .records) slot ≡ true → (2 ≤ low-part mark → edit-at (l .edits) (renaming mark) .what ≡ 1)
+    → (2 ≤ low-part mark → edit-in (length (l .request-pool)) (l .edits) (renaming mark) ≡ true) → marked-len (l .records) (l .edits) mark slot ≡ length (marked-name l mark slot)
 unfolding marked-len marked-name
-marked-length l mark slot h g = ⊎-elim
-    (λ b. rw (lt-ltb mark 2 b, name-length (l .pool) (l .records) slot h))
-    (λ b. rw (le-ltb mark 2 b, new-name-length (l .request-pool) (l .edits) (renaming mark) (g b)))
-    (lt-or-le mark 2)
+marked-length l mark slot h w g = ⊎-elim
+    (λ b. rw (lt-ltb (low-part mark) 2 b, name-length (l .pool) (l .records) slot h))
+    (λ b. rw (le-ltb (low-part mark) 2 b, new-name-length (l .request-pool) (l .edits) (renaming mark) (w b) (g b)))
+    (lt-or-le (low-part mark) 2)
 
 -- The three kinds of sources.
 pub source-cases : {P : Type 0} (x : ℕ) → (x < 1024 → P) → (1024 ≤ x → x < 2048 → P) → (1024 ≤ x → 2048 ≤ x → P) → P
@@ -224,7 +239,7 @@ source-cases x f g h = ⊎-elim f (λ b. ⊎-elim (g b) (h b) (lt-or-le x 2048))
 
 module _ (l : Trees) (x : ℕ) where
   pub sits-in : Sits l x → In (l .records) (l .added-records) (l .edits) x
-  sits-in h = record { base-in = h .base-in; added-in = h .added-in; edited-in = h .edited-in; renamed-in = h .renamed-in }
+  sits-in h = record { base-in = h .base-in; added-in = h .added-in; edited-in = h .edited-in; renamed-in = h .renamed-in; widened-in = h .widened-in }
 
   pub kind-source : source-kind (l .records) (l .added-records) x ≡ source-field l x .kind
   unfolding source-kind source-field field-at marked-field
@@ -234,7 +249,7 @@ module _ (l : Trees) (x : ℕ) where
   unfolding source-flags source-field field-at marked-field
   flags-source = source-cases x (λ b. rw (lt-ltb x 1024 b)) (λ b c. rw (le-ltb x 1024 b, lt-ltb x 2048 c)) (λ b c. rw (le-ltb x 1024 b, le-ltb x 2048 c))
 
-  pub code-source : source-code (l .records) (l .added-records) x ≡ source-field l x .code
+  pub code-source : source-code (l .records) (l .added-records) (l .edits) x ≡ source-field l x .code
   unfolding source-code source-field field-at marked-field
   code-source = source-cases x (λ b. rw (lt-ltb x 1024 b)) (λ b c. rw (le-ltb x 1024 b, lt-ltb x 2048 c)) (λ b c. rw (le-ltb x 1024 b, le-ltb x 2048 c))
 
@@ -243,11 +258,11 @@ module _ (l : Trees) (x : ℕ) where
   len-source h = source-cases x
       (λ b. rw (lt-ltb x 1024 b, name-length (l .pool) (l .records) x (h .base-named b)))
       (λ b c. rw (le-ltb x 1024 b, lt-ltb x 2048 c, name-length (l .request-pool) (l .added-records) (x - 1024) (h .added-named b c)))
-      (λ b c. rw (le-ltb x 1024 b, le-ltb x 2048 c) (marked-length l (mark-of x) (edited-slot x) (h .edited-named c) (h .renamed-named c)))
+      (λ b c. rw (le-ltb x 1024 b, le-ltb x 2048 c) (marked-length l (mark-of x) (edited-slot x) (h .edited-named c) (h .renamed-what c) (h .renamed-named c)))
 
   pub row-source : (id kids at : ℕ) → Sits l x → source-row (l .records) (l .added-records) (l .edits) x id kids at ≡ rec-bytes at (planned-field l (record { slot = x; id = id })) kids
   unfolding source-row row-of source-field planned-field field-at marked-field row24
   row-source id kids at h = source-cases x
       (λ b. rw (lt-ltb x 1024 b, name-length (l .pool) (l .records) x (h .base-named b)) (bits-again id _))
       (λ b c. rw (le-ltb x 1024 b, lt-ltb x 2048 c, name-length (l .request-pool) (l .added-records) (x - 1024) (h .added-named b c)) (bits-again id _))
-      (λ b c. rw (le-ltb x 1024 b, le-ltb x 2048 c, marked-length l (mark-of x) (edited-slot x) (h .edited-named c) (h .renamed-named c)) (bits-again id _))
+      (λ b c. rw (le-ltb x 1024 b, le-ltb x 2048 c, marked-length l (mark-of x) (edited-slot x) (h .edited-named c) (h .renamed-what c) (h .renamed-named c)) (bits-again id _))

@@ -90,7 +90,9 @@ module _ (list : ℕ) (l : Trees) (t : Forest Field) where
         edited-in = λ c. absurd (omega arith);
         edited-named = λ c. absurd (omega arith);
         renamed-in = λ c _. absurd (omega arith);
+        renamed-what = λ c _. absurd (omega arith);
         renamed-named = λ c _. absurd (omega arith);
+        widened-in = λ c _. absurd (omega arith);
       }
 
   pub added-sits : decode list (l .added-records) (l .request-pool) ≡ ok t → slots (l .added-records) ≤ 1024 → (j : ℕ) → j < slots (l .added-records) → Sits l (1024 + j)
@@ -104,7 +106,9 @@ module _ (list : ℕ) (l : Trees) (t : Forest Field) where
         edited-in = λ c. absurd (omega arith);
         edited-named = λ c. absurd (omega arith);
         renamed-in = λ c _. absurd (omega arith);
+        renamed-what = λ c _. absurd (omega arith);
         renamed-named = λ c _. absurd (omega arith);
+        widened-in = λ c _. absurd (omega arith);
       }
 
 -- ---- what it is a plan of

@@ -16,6 +16,7 @@ use record::kind_at;
 use record::name_at;
 use record::name_len_at;
 use record::word_bytes;
+use record_entries::new_code_at;
 use record_entries::new_name_at;
 use record_entries::new_name_len;
 ghost use mathlib.Core.Path.{_≡_};
@@ -25,7 +26,7 @@ ghost use lib.Seq.{sets};
 ghost use Rattle.paper.specs.Edits.{relaxed};
 ghost use Rattle.paper.specs.Encode.{kind-byte, row24};
 ghost use Rattle.record.specs.Trees.{trees-in};
-ghost use Rattle.plan.specs.Plan.{edited-slot, mark-of, marked-flags, Sits};
+ghost use Rattle.plan.specs.Plan.{edited-slot, mark-of, low-part, marked-flags, marked-code, Sits};
 ghost use Rattle.plan.specs.Sources.{source-kind, marked-len, source-len, source-flags, source-code};
 ghost use Rattle.plan.specs.Sources.{row-of, kept-row, source-row, NameAt, In, Summed, Written};
 ghost use Rattle.plan.specs.Named.{names-in, SourcesIn};
@@ -33,7 +34,8 @@ ghost use Rattle.plan.specs.Table.{sources, PlanIn, fields-in, InsideIn,
 
 // A plan's rows: where each planned record comes from, its id as 32 bits, how many members it has. A source below 1,024 is a slot of
 // the base, one from 1,024 to 2,047 a slot of the additions tree, one from 2,048 on a slot of the base as edits leave it:
-// 2,048 + slot + 1,024 * mark. The mark is 1 if the column is relaxed, and 2 * (k + 1) more if edit k renames it.
+// 2,048 + slot + 1,024 * mark. The mark is 1 if the column is relaxed, 2 * (k + 1) more if edit k renames it, and 256 * (k + 1)
+// more if edit k widens it.
 pub type PlanRows = [[u32; 1024]; 3];
 
 pub const SOURCES: usize = 0;
@@ -81,7 +83,7 @@ pub fn take_base(records: &[u8], n: usize, plan: &mut PlanRows)
     copy_records(records, 0, n, plan, 0);
 }
 
-// Of a source from 2,048 on: the slot in the base, and the mark.
+// Of a source from 2,048 on: the slot in the base, the mark, and the part of the mark on renaming and relaxing.
 fn edited_slot(k: usize) -> usize
     requires { ⌜ 2048 ≤ k ⌝ }
     ensures { λ r. ⌜ r ≡ edited-slot k ⌝ }
@@ -94,6 +96,13 @@ fn mark_of(k: usize) -> usize
     ensures { λ r. ⌜ r ≡ mark-of k ⌝ }
 {
     (k - 2048) / 1024
+}
+
+fn low_part(k: usize) -> usize
+    requires { ⌜ 2048 ≤ k ⌝ }
+    ensures { λ r. ⌜ r ≡ low-part (mark-of k) ⌝ }
+{
+    mark_of(k) % 256
 }
 
 // The flags of a column that is no longer required.
@@ -113,11 +122,11 @@ fn edited_name_len<'a>(trees: &Trees<'a>, k: usize) -> usize
     ensures { λ r. ⌜ (r ≡ marked-len (trees-in (now (trees .entry)) .records)
         (trees-in (now (trees .entry)) .edits) (mark-of k) (edited-slot k)) × (r ≤ 255) ⌝ }
 {
-    let mark = mark_of(k);
-    if mark < 2 {
+    let low = low_part(k);
+    if low < 2 {
         return name_len_at(trees[RECORDS], edited_slot(k));
     }
-    new_name_len(trees[EDITS], mark / 2 - 1)
+    new_name_len(trees[EDITS], low / 2 - 1)
 }
 
 // Its flags: no longer required, if it is relaxed.
@@ -134,14 +143,28 @@ fn edited_flags<'a>(trees: &Trees<'a>, k: usize) -> u8
     flags
 }
 
+// Its type code: the new one, if it is widened.
+fn edited_code<'a>(trees: &Trees<'a>, k: usize) -> u32
+    requires { ⌜ (2048 ≤ k) × In (trees-in (now trees) .records)
+        (trees-in (now trees) .added-records) (trees-in (now trees) .edits) k ⌝ }
+    ensures { λ r. ⌜ r ≡ marked-code (trees-in (now (trees .entry)) .records)
+        (trees-in (now (trees .entry)) .edits) (mark-of k) (edited-slot k) ⌝ }
+{
+    let mark = mark_of(k);
+    if mark < 256 {
+        return code_at(trees[RECORDS], edited_slot(k));
+    }
+    new_code_at(trees[EDITS], mark / 256 - 1)
+}
+
 // Its name: a part of the request pool, if it is renamed, else of the base's.
 fn edited_name<'a>(trees: &Trees<'a>, k: usize) -> &'a [u8]
     requires { ⌜ (2048 ≤ k) × Sits (trees-in (now trees)) k ⌝ }
     ensures { λ r. ⌜ NameAt (now (trees .entry)) k r ⌝ }
 {
-    let mark = mark_of(k);
-    if 2 <= mark {
-        return new_name_at(trees[REQUEST_POOL], trees[EDITS], mark / 2 - 1);
+    let low = low_part(k);
+    if 2 <= low {
+        return new_name_at(trees[REQUEST_POOL], trees[EDITS], low / 2 - 1);
     }
     name_at(trees[POOL], trees[RECORDS], edited_slot(k))
 }
@@ -187,7 +210,8 @@ pub fn planned_code<'a>(trees: &Trees<'a>, source: u32) -> u32
     requires { ⌜ In (trees-in (now trees) .records) (trees-in (now trees) .added-records)
         (trees-in (now trees) .edits) source ⌝ }
     ensures { λ r. ⌜ r ≡ source-code (trees-in (now (trees .entry)) .records)
-        (trees-in (now (trees .entry)) .added-records) source ⌝ }
+        (trees-in (now (trees .entry)) .added-records) (trees-in (now (trees .entry)) .edits)
+        source ⌝ }
 {
     let k = source as usize;
     if k < 1024 {
@@ -196,7 +220,7 @@ pub fn planned_code<'a>(trees: &Trees<'a>, source: u32) -> u32
     if k < 2048 {
         return code_at(trees[ADDED_RECORDS], k - 1024);
     }
-    code_at(trees[RECORDS], edited_slot(k))
+    edited_code(trees, k)
 }
 
 // The length of its name.
@@ -321,7 +345,7 @@ fn row_bytes(
     ]
 }
 
-// A record of a list with another id, number of members, name offset, name length and flags.
+// A record of a list with another id, number of members, name offset, name length, flags and type code.
 fn changed_bytes(
     recs: &[u8],
     slot: usize,
@@ -330,9 +354,10 @@ fn changed_bytes(
     at: u32,
     len: usize,
     flags: u8,
+    code: u32,
 ) -> [u8; 24]
     requires { ⌜ (slot * 24 + 24 ≤ length (now recs)) × (len ≤ 255) ⌝ }
-    ensures { λ r. ⌜ r ≡ row-of (now (recs .entry)) slot id kids at len flags ⌝ }
+    ensures { λ r. ⌜ r ≡ row-of (now (recs .entry)) slot id kids at len flags code ⌝ }
 {
     row_bytes(
         id,
@@ -341,12 +366,12 @@ fn changed_bytes(
         kind_byte(kind_at(recs, slot)),
         flags,
         kids,
-        code_at(recs, slot),
+        code,
         attribute_at(recs, slot),
     )
 }
 
-// The same with its own name length and flags.
+// The same with its own name length, flags and type code.
 fn kept_bytes(recs: &[u8], slot: usize, id: u32, kids: u32, at: u32) -> [u8; 24]
     requires { ⌜ slot * 24 + 24 ≤ length (now recs) ⌝ }
     ensures { λ r. ⌜ r ≡ kept-row (now (recs .entry)) slot id kids at ⌝ }
@@ -359,6 +384,7 @@ fn kept_bytes(recs: &[u8], slot: usize, id: u32, kids: u32, at: u32) -> [u8; 24]
         at,
         name_len_at(recs, slot),
         flags_at(recs, slot),
+        code_at(recs, slot),
     )
 }
 
@@ -378,7 +404,17 @@ fn planned_bytes<'a>(trees: &Trees<'a>, source: u32, id: u32, kids: u32, at: u32
     }
     let len = edited_name_len(trees, k);
     let flags = edited_flags(trees, k);
-    changed_bytes(trees[RECORDS], edited_slot(k), id, kids, at, len, flags)
+    let code = edited_code(trees, k);
+    changed_bytes(
+        trees[RECORDS],
+        edited_slot(k),
+        id,
+        kids,
+        at,
+        len,
+        flags,
+        code,
+    )
 }
 
 // The bytes of `src` into `out` from `at` on; the rest of `out` stays.

@@ -43,7 +43,8 @@ ghost use Rattle.update_rebuild.specs.Planned.{
   Rebuilds,
 };
 
-// How much a request has: base records, added records, deletions, additions and edits; and the last id, plus 2^31.
+// How much a request has: base records, added records, deletions, additions and edits; the last id, plus 2^31; and the version that
+// it names.
 pub struct Given {
     pub base: usize,
     pub added: usize,
@@ -51,6 +52,7 @@ pub struct Given {
     pub additions: usize,
     pub edits: usize,
     pub last: u64,
+    pub version: u32,
 }
 
 // What is decided of a request, in rows: the bits of each deletion's id; of each addition where it goes, its first slot in the

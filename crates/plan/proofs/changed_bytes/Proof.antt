@@ -12,7 +12,6 @@ changed-bytes-spec =
     (λ c. search needs)  -- cast-row-bytes
     (λ c κs. search needs)  -- kind-at-requires
     (λ c κs. search needs)  -- kind-byte-requires
-    (λ c κs. search needs)  -- code-at-requires
     (λ c κs. search needs)  -- attribute-at-requires
     (λ c κs. search needs)  -- row-bytes-requires
     (λ c. cc)  -- returns

@@ -8,7 +8,7 @@ pub edited-name-spec : {M : Type 1} → statement M
 edited-name-spec =
     tie.close
     (tie.spec
-    (λ c κs. search (sourcing, needs))  -- mark-of-requires
+    (λ c κs. search (sourcing, needs))  -- low-part-requires
     (λ c. search (sourcing, needs))  -- element-copy-out-new-name-at
     (λ c. search (sourcing, needs))  -- element-copy-out-new-name-at-2
     (λ c. search (sourcing, needs))  -- sub-new-name-at

@@ -8,7 +8,7 @@ pub edited-name-len-spec : {M : Type 1} → statement M
 edited-name-len-spec =
     tie.close
     (tie.spec
-    (λ c κs. search (sourcing, marking, needs))  -- mark-of-requires
+    (λ c κs. search (sourcing, marking, needs))  -- low-part-requires
     (λ c. search (sourcing, marking, needs))  -- element-copy-out-name-len-at
     (λ c κs. search (sourcing, marking, needs))  -- edited-slot-requires
     (λ c κs. search (sourcing, marking, needs))  -- name-len-at-requires

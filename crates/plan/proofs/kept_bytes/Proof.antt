@@ -1,4 +1,4 @@
--- Its own length and flags.
+-- Its own length, flags and type code.
 use borrow.Author.Needs.{needs}
 use Rattle.plan.proofs.kept_bytes.Statement.{statement}
 use Rattle.plan.proofs.kept_bytes.Tie as tie
@@ -8,6 +8,7 @@ kept-bytes-spec =
     tie.close (tie.spec
     (λ c κs. search needs)  -- name-len-at-requires
     (λ c κs. search needs)  -- flags-at-requires
+    (λ c κs. search needs)  -- code-at-requires
     (λ c κs. search needs)  -- changed-bytes-requires
     (λ c. cc)  -- returns
     )

@@ -18,6 +18,7 @@ planned-bytes-spec =
     (λ c. search (sourcing, needs))  -- returns-2
     (λ c κs. search (sourcing, needs))  -- edited-name-len-requires
     (λ c κs. search (sourcing, needs))  -- edited-flags-requires
+    (λ c κs. search (sourcing, needs))  -- edited-code-requires
     (λ c. search (sourcing, needs))  -- element-copy-out-changed-bytes
     (λ c κs. search (sourcing, needs))  -- edited-slot-requires
     (λ c κs. search (sourcing, needs))  -- changed-bytes-requires

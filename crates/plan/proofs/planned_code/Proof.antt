@@ -1,5 +1,5 @@
 -- The three kinds of sources in turn.
-use Rattle.plan.proofs.Sourcing.{sourcing, code-edited}
+use Rattle.plan.proofs.Sourcing.{sourcing}
 use Rattle.plan.specs.Sources.{source-code}
 use borrow.Author.Needs.{needs}
 use Rattle.plan.proofs.planned_code.Statement.{statement}
@@ -16,8 +16,6 @@ planned-code-spec =
     (λ c. search (sourcing, needs))  -- element-copy-out-code-at-2
     (λ c κs. search (sourcing, needs))  -- code-at-requires-2
     (λ c. search (sourcing, needs))  -- returns-2
-    (λ c. search (sourcing, needs))  -- element-copy-out-code-at-3
-    (λ c κs. search (sourcing, needs))  -- edited-slot-requires
-    (λ c κs. search (sourcing, needs))  -- code-at-requires-3
-    (λ c. search (code-edited, needs))  -- returns-3
+    (λ c κs. search (sourcing, needs))  -- edited-code-requires
+    (λ c. search (sourcing, needs))  -- returns-3
     )
