@@ -1,19 +1,21 @@
--- Without edits an update answers what it answered before 02, 5/13: no step of it asks or changes more.
+-- Without edits an update that names a known version answers what it answered before 02, 5/13: no other step of it asks or
+-- changes more.
 use Prim.Native.Nat.{ℕ}
 use mathlib.Core.Path.{_≡_, refl, ap, _∙_}
-use mathlib.Core.Bool.{Bool, _&&_, and-true}
+use mathlib.Core.Bool.{Bool, true, _&&_, and-true}
 use mathlib.Core.List.{List, []}
 use mathlib.Core.Option.{Option}
 use lib.Dec.{eqb}
 use lib.ListN.{length}
 use Rattle.paper.specs.Answer.{Answer, ok, refused, _>>=_}
-use Rattle.paper.specs.Refusals.{roomy, limited, matched}
+use Rattle.paper.specs.Refusals.{roomy, limited, versioned, matched}
 use Rattle.paper.specs.Forest.{siblings}
 use Rattle.paper.specs.Sound.{sound}
 use Rattle.paper.specs.Edits.{edited-all}
 use Rattle.paper.specs.Update.{Request, Schema, deleted, placed-all, planned}
 use Rattle.paper.specs.Rebuild.{carried-out, update}
 use Rattle.paper.specs.Bytes.{turned, from}
+use Rattle.paper.specs.Promotions.{known-version}
 use Rattle.paper.specs.Lists.{ok-deletion, ok-addition, path-in, ok-edit, edit-in, entries-ok, edit-list}
 use Rattle.paper.specs.Decode.{decode}
 use Rattle.paper.specs.Limits.{room, whole, sized, sized-ids, sized-update}
@@ -44,9 +46,9 @@ unchanged : (s : Schema) (q : Request) (ds : List ℕ) (parents : List (Option �
 unfolding edited-all carried-out Before.carried-out _>>=_
 unchanged s q ds parents last e = rw (e, unedited (s .tree))
 
-no-edits : (pool : List ℕ) → edit-list pool [] ≡ []
+no-edits : (v : ℕ) (pool : List ℕ) → edit-list v pool [] ≡ []
 unfolding edit-list from
-no-edits pool = refl
+no-edits v pool = refl
 
 pub as-before : (s : Schema) (q : Request) → q .edits ≡ [] → update s q ≡ Before.update s (request-before q)
 unfolding update planned Before.update Before.planned
@@ -67,17 +69,19 @@ sized-before s q e =
     (ap (λ (b : Bool). sized-ids 64 (s .records) (s .pool) (q .identifiers) && (b && sized (q .added-records) (q .request-pool)))
     (and-true lists))
 
-pub as-before-stored : (s : Stored) (q : Lent) → q .edits ≡ []
+pub as-before-stored : (s : Stored) (q : Lent) → known-version (q .version) ≡ true → q .edits ≡ []
     → update-entry s q ≡ Before.update-entry s (lent-before q)
 unfolding update-entry Before.update-entry
-as-before-stored s q e =
+as-before-stored s q known e =
     then-same (roomy (room (q .room-records) (q .room-names))) _ _ λ _.
     rw (sized-before s q e)
     (then-same (limited (Before.sized-update s (lent-before q))) _ _ λ _.
+    bind-is (versioned (known-version (q .version))) _ (tt {0}) (rw known)
+    ∙
     then-same (decode 0 (s .records) (s .pool)) _ _ λ t.
     then-same (decode 1 (q .added-records) (q .request-pool)) _ _ λ n.
     then-same (entries-ok 2 8 ok-deletion path-in (q .deletions) (q .request-pool)) _ _ λ _.
     then-same (entries-ok 3 8 ok-addition path-in (q .additions) (q .request-pool)) _ _ λ _.
     bind-is (entries-ok 6 16 ok-edit edit-in (q .edits) (q .request-pool)) _ (tt {0}) (rw e (nothing-edited (q .request-pool)))
     ∙ ap (λ (a : Answer Schema). a >>= λ u. ok (record { tree = u .tree; identifiers = []; last = turned (u .last) }))
-    (as-before (schema-in s t) (request-in q n) (rw e (no-edits (q .request-pool)))))
+    (as-before (schema-in s t) (request-in q n) (rw e (no-edits (q .version) (q .request-pool)))))

@@ -21,7 +21,7 @@ use Rattle.laws.proofs.Edited.{edits-keep-id, edits-keep-kind}
 use Rattle.theorems.specs.Columns.{Column, Stands, settings}
 use Rattle.theorems.specs.Edited.{StaysAsSet}
 use Rattle.theorems.proofs.Receiving.{gone-node}
-use Rattle.theorems.proofs.Setting.{as-last-set, decided-edits}
+use Rattle.theorems.proofs.Setting.{as-last-set, decided-edits, planned-steps}
 use Rattle.theorems.proofs.Standing.{accepted}
 
 -- ---- records and those above them
@@ -157,5 +157,5 @@ stays-as-set s q p u e₁ e c h out =
     let later : Column = record { parent = nearest (map (edit-fields es) (o .0)); field = edit-fields es (c .field) } in (
       later,
       at-stands [] (u .tree) (edit-fields es (c .field)) (map (edit-fields es) (o .0)) (rw (answered s q p u e₁ e) now),
-      as-last-set es c later (nearest-edited es (o .0) ∙ sym (o .2)) refl,
+      as-last-set es c later (nearest-edited es (o .0) ∙ sym (o .2)) refl (planned-steps s q p e₁ c h),
     )

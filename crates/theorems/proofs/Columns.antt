@@ -1,15 +1,17 @@
--- Columns of forests and their ids. All by induction on the forest.
+-- Columns of forests, their ids and their rows. All by induction on the forest.
 use Prim.Native.Nat.{ℕ}
 use mathlib.Core.Path.{_≡_, refl, sym, subst, ap}
 use mathlib.Core.Logic.{_⊎_, inl, inr, ⊎-elim}
 use mathlib.Core.Bool.{Bool, true, false, cond}
-use mathlib.Core.List.{_∷_, _++_}
+use mathlib.Core.List.{List, _∷_, _++_}
 use mathlib.Core.Option.{Option, some}
 use Rattle.paper.specs.Forest.{Forest, empty, node, _then_}
 use Rattle.paper.specs.Field.{Field}
+use Rattle.paper.specs.Rows.{Row, Start, top, row, below, beside, rows}
 use Rattle.paper.specs.Sound.{ids}
 use Rattle.laws.specs.Members.{_∈_}
-use Rattle.laws.proofs.Basics.{in-left, in-right, in-append, Distinct, distinct-append}
+use Rattle.laws.proofs.Basics.{in-left, in-right, in-append, Distinct, distinct-append, distinct-one}
+use Rattle.laws.proofs.Ordered.{row-ids}
 use Rattle.theorems.specs.Columns.{Column, Stands}
 
 pub stands-id : (t : Forest Field) (q : Option ℕ) (c : Column) → Stands q t c → c .field .id ∈ ids t
@@ -18,6 +20,24 @@ stands-id empty q c h = h
 stands-id (node f m n) q c (inl e) = inl (ap (λ (d : Column). d .field .id) e)
 stands-id (node f m n) q c (inr (inl h)) = inr (in-left _ (ids m) (ids n) (stands-id m (some (f .id)) c h))
 stands-id (node f m n) q c (inr (inr h)) = inr (in-right _ (ids m) (ids n) (stands-id n q c h))
+
+-- The row of a column.
+pub stands-row : (s : Start) (q : Option ℕ) (t : Forest Field) (c : Column) → Stands q t c
+    → (r : Row) × (r ∈ rows s t) × (r .field ≡ c .field)
+unfolding rows
+stands-row s q empty c h = absurd h
+stands-row s q (node f m n) c (inl e) = (row s f m, inl refl, ap (λ (d : Column). d .field) (sym e))
+stands-row s q (node f m n) c (inr (inl h)) =
+    let o = stands-row (below s f) (some (f .id)) m c h in
+    (o .0, inr (in-left (o .0) (rows (below s f) m) (rows (beside s m) n) (o .1)), o .2)
+stands-row s q (node f m n) c (inr (inr h)) =
+    let o = stands-row (beside s m) q n c h in
+    (o .0, inr (in-right (o .0) (rows (below s f) m) (rows (beside s m) n) (o .1)), o .2)
+
+-- Rows of one id are one row.
+pub one-row : (t : Forest Field) → Distinct (ids t) → (r q : Row) → r ∈ rows top t → q ∈ rows top t
+    → r .field .id ≡ q .field .id → r ≡ q
+one-row t d r q = distinct-one (λ (x : Row). x .field .id) (rows top t) (rw (row-ids top t) d) r q
 
 -- The column of an id.
 pub record Of (q : Option ℕ) (t : Forest Field) (x : ℕ) : Type 0 where

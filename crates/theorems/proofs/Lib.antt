@@ -1,5 +1,6 @@
 -- The theorems of documents 01 and 02.
 pub mod Signed
+pub mod Promoted
 pub mod Counting
 pub mod Columns
 pub mod Setting

@@ -3,6 +3,7 @@ use mathlib.Core.Path.{_≡_, refl}
 use mathlib.Core.List.{map}
 use Rattle.paper.specs.Answer.{_>>=_, lowest}
 use Rattle.paper.specs.Forest.{size, siblings, preorder, counts, mapped, _then_}
+use Rattle.paper.specs.Promotions.{known-version}
 use Rattle.paper.specs.Rows.{rows, entered, look-name, look-id}
 use Rattle.paper.specs.Sound.{fitting, misnamed, names, ids, sound}
 use Rattle.paper.specs.Prune.{prune}
@@ -21,7 +22,7 @@ use Rattle.paper.specs.Asked.{signed-id, answer-of, answer}
 use Rattle.paper.specs.Pinned.{limits}
 
 pub limits-hold : map (λ e. answer (e .asked)) limits ≡ map (λ e. e .given) limits
-unfolding answer answer-of signed-id _>>=_ lowest size siblings preorder counts mapped _then_ rows entered look-name look-id
+unfolding answer answer-of known-version signed-id _>>=_ lowest size siblings preorder counts mapped _then_ rows entered look-name look-id
     fitting misnamed names ids sound prune renumber planned update
     word16 word32 turned ok-bytes in-pool kind-from name-of field-at from
     ok-deletion ok-addition path-in ok-edit edit-in entries-ok path-of parent-path deletion-paths addition-paths

@@ -46,4 +46,6 @@ one-number-each =
       of-22 = only-if 22 3;
       of-23 = only-demand 23 6;
       of-24 = only-if 24 6;
+      of-25 = λ b. only-if 25 0 0 (not b);
+      of-26 = only-if 26 6;
     }

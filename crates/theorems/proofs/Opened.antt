@@ -12,6 +12,7 @@ use Rattle.paper.specs.Renumber.{renumber}
 use Rattle.paper.specs.Update.{Schema, planned}
 use Rattle.paper.specs.Rebuild.{update}
 use Rattle.paper.specs.Bytes.{turned}
+use Rattle.paper.specs.Promotions.{known-version}
 use Rattle.paper.specs.Lists.{id-list}
 use Rattle.paper.specs.Decode.{decode}
 use Rattle.paper.specs.Limits.{whole, sized, sized-ids, sized-update}
@@ -106,6 +107,7 @@ open-renumber s p i start lr ln li r e =
     }
 
 pub record OpenedUpdate (s : Stored) (q : Lent) (r : Result) : Type 0 where
+  pub version : known-version (q .version) ≡ true
   pub tree : Forest Field
   pub base : Base (s .records) (s .pool) tree
   pub few : whole 4 64 (q .identifiers) ≡ true
@@ -119,12 +121,13 @@ pub record OpenedUpdate (s : Stored) (q : Lent) (r : Result) : Type 0 where
 pub open-update : (s : Stored) (q : Lent) (r : Result) → update-entry s q ≡ ok r → OpenedUpdate s q r
 unfolding update-entry update planned
 open-update s q r e =
-    unbind _ _ e λ _ _ a₁. unbind _ _ a₁ λ _ e₂ a₂. unbind _ _ a₂ λ t e₃ a₃. unbind _ _ a₃ λ n e₄ a₄.
+    unbind _ _ e λ _ _ a₁. unbind _ _ a₁ λ _ e₂ a₂. unbind _ _ a₂ λ _ e₀ a₀. unbind _ _ a₀ λ t e₃ a₃. unbind _ _ a₃ λ n e₄ a₄.
     unbind _ _ a₄ λ _ _ a₅.
     unbind _ _ a₅ λ _ _ a₆. unbind _ _ a₆ λ _ _ a₆′. unbind _ _ a₆′ λ u e₇ a₇. unbind _ _ e₇ λ _ e₈ _.
     unbind _ _ e₈ λ _ e₉ _.
     let z = sized-trees s q (passed 2 0 0 (sized-update s q) e₂) in
     record {
+      version = passed 25 0 0 (known-version (q .version)) e₀;
       tree = t;
       base = record { sizes = z .0; decodes = e₃; sound-tree = sound-without 0 t (id-list (q .identifiers)) e₉ };
       few = z .2;

@@ -93,16 +93,17 @@ unfolding update-entry sized-update sized-ids deletion-paths addition-paths edit
 passes-again t identifiers h few e =
     record {
       accepted = e;
-      lent-again = λ last lr ln l z.
+      lent-again = λ last version lr ln l known z.
           rebind _ _ (rw z)
           (rebind _ _ (rw (sized-written t h, few, nothing-sized))
+          (rebind _ _ (rw known)
           (rebind _ _ (decode-encode 0 t h)
           (rebind _ _ (nothing-decodes 1)
           (rebind _ _ (nothing-listed 2 ok-deletion path-in [])
           (rebind _ _ (nothing-listed 3 ok-addition path-in [])
           (rebind _ _ (nothing-edited [])
           (rebind _ _ (nothing-asked (schema t (turned last)) (id-list identifiers) (h .limits) e)
-          (rw (turned-twice last l)))))))));
+          (rw (turned-twice last l))))))))));
     }
 
 -- ---- bytes of ids

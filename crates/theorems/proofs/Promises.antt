@@ -11,6 +11,7 @@ use Rattle.paper.specs.Forest.{Forest, size}
 use Rattle.paper.specs.Field.{Field}
 use Rattle.paper.specs.Renumber.{renumber}
 use Rattle.paper.specs.Renumber as Renumber
+use Rattle.paper.specs.Promotions.{known-version, known-code, allowed}
 use Rattle.paper.specs.Edits.{Edited}
 use Rattle.paper.specs.Update.{Request, Schema, Plan, planned}
 use Rattle.paper.specs.Rebuild.{update}
@@ -33,6 +34,7 @@ use Rattle.paper.specs.Pinned.{limits}
 use Rattle.paper.proofs.Hold.{T-decodes, all-hold}
 use Rattle.paper.proofs.Pins.{Held, pins}
 use Rattle.laws.specs.Fit.{Bytes}
+use Rattle.theorems.specs.Promoted.{Chain, OnlyRises}
 use Rattle.theorems.specs.Columns.{Column, Has, SameColumn}
 use Rattle.theorems.specs.Run.{Begins, run, run-sets, identifiers-at, Lasting}
 use Rattle.theorems.specs.Run.{LastingRun}
@@ -40,7 +42,7 @@ use Rattle.theorems.specs.Stored.{schema-of, BytesLent, LendsBytes, byte
 use Rattle.theorems.specs.Stored.{stored-sets, LastingStored}
 use Rattle.theorems.specs.Identified.{PassesAgain, IdentifiersAgain}
 use Rattle.theorems.specs.Standing.{AdditionsStand, ConsumedAreAdded, NothingVanishes, GoneIsLeftOut, OfStored}
-use Rattle.theorems.specs.Edited.{StaysAsSet, RenamesFound, EditedInARow}
+use Rattle.theorems.specs.Edited.{StaysAsSet, RenamesFound, EditedInARow, WidenedInARow}
 use Rattle.theorems.specs.Before as Before
 use Rattle.theorems.specs.Before.{request-before, lent-before}
 use Rattle.theorems.specs.Again.{ReadsAgain}
@@ -52,7 +54,8 @@ use Rattle.theorems.specs.Folds.{Alone, Second, ByRows, Plain, CaseForgo
 use Rattle.theorems.specs.Many.{Lendable, OneByOne, InSlots}
 use Rattle.theorems.specs.Wrong.{P4, two-added, RightUpdate, P8, P9, RightPruner}
 use Rattle.theorems.proofs.Signed.{signed-natural, signed-negative}
-use Rattle.theorems.proofs.Evolution.{begins-without, lasting, one-column}
+use Rattle.theorems.proofs.Promoted.{two-in-three, rises, not-to-itself, never-back, in-table}
+use Rattle.theorems.proofs.Evolution.{begins-without, lasting, types-rise, one-column}
 use Rattle.theorems.proofs.Storing.{begins-stored-without, lasting-stored, of-stored}
 use Rattle.theorems.proofs.Identified.{update-identified, renumber-identified}
 use Rattle.theorems.proofs.Passing.{update-passes, renumber-passes}
@@ -67,6 +70,9 @@ use Rattle.theorems.proofs.Beginning.{T-lends-bytes, accepted-in-a-row}
 use Rattle.theorems.proofs.Beginning.{keyed-schema, keyed-stored, keyed-by, keyed-requests, keyed-begins}
 use Rattle.theorems.proofs.Beginning.{keyed-begins-stored, keyed-lends-bytes, keyed-answers, keyed-in-a-row}
 use Rattle.theorems.proofs.Beginning.{edits-requests, edits-lend-bytes, edits-asked, edited-in-a-row, edited-in-a-row-stored}
+use Rattle.theorems.proofs.Beginning.{sales-schema, sales-stored, sales-begins, sales-begins-stored, sales-requests}
+use Rattle.theorems.proofs.Beginning.{sales-lend-bytes, sales-asked, sales-answers, sales-answers-stored}
+use Rattle.theorems.proofs.Beginning.{widened-in-a-row, widened-in-a-row-stored}
 use Rattle.theorems.proofs.Ends as Ends
 use Rattle.theorems.proofs.Again.{decoded-again, update-again, prune-again, renumber-again}
 use Rattle.theorems.proofs.Again.{prune-parts, renumber-numbers}
@@ -105,6 +111,29 @@ pub signed-reading : (n : ℕ) → n < 2_147_483_648
     → (signed-id (turned n) ≡ pos n) × (signed-id (turned (4_294_967_295 - n)) ≡ negsuc n)
 signed-reading n l = (signed-natural n l, signed-negative n l)
 
+-- ---- the steps of a type, by the table of 02, 6/13
+
+-- What version 2 allows, version 3 allows.
+pub steps-of-2-are-of-3 : (old new : ℕ) → allowed 2 old new ≡ true → allowed 3 old new ≡ true
+steps-of-2-are-of-3 = two-in-three
+
+-- In whatever version, a step leads from a code to a higher one,
+pub steps-rise : (version old new : ℕ) → allowed version old new ≡ true → old < new
+steps-rise = rises
+
+-- so none to the same;
+pub no-step-to-itself : (version code : ℕ) → allowed version code code ≡ true → ⊥
+no-step-to-itself = not-to-itself
+
+-- and no steps one after another, each in whatever version, lead back to the code that they left.
+pub steps-never-lead-back : (code : ℕ) → Chain code code → ⊥
+steps-never-lead-back = never-back
+
+-- No step leads to a code outside the table, or from one.
+pub steps-stay-in-the-table : (version old new : ℕ) → allowed version old new ≡ true
+    → (known-code old ≡ true) × (known-code new ≡ true)
+steps-stay-in-the-table = in-table
+
 -- ---- demand 3
 
 -- Over forests: from a schema that is accepted with its identifiers, and whose ids are at most its last id, every run
@@ -126,8 +155,8 @@ pub runs-begin-without-stored : (stored : Stored) (identifiers : List ℕ) → B
     → BeginsStored stored []
 runs-begin-without-stored = begins-stored-without
 
--- So an id found in two schemas of a run, whichever two, names one column: the same kind, default flag, type code,
--- attribute and parent id. Its name and whether it is required are as last set (`later-column`).
+-- So an id found in two schemas of a run, whichever two, names one column: the same kind, default flag, attribute and
+-- parent id. Its name, whether it is required and its type code are as last set (`later-column`).
 pub ids-keep-columns : (schema : Schema) (identifiers : List ℕ) → Begins schema identifiers → (requests : ℕ → Request)
     → (i j : ℕ) (column other : Column) → Has (run schema requests i) column
     → Has (run schema requests j) other → column .field .id ≡ other .field .id → SameColumn column other
@@ -144,7 +173,24 @@ ids-keep-columns-stored stored identifiers begins requests bytes =
     one-column (λ i. schema-of (run-stored stored requests i)) _
     (runs-last-stored stored identifiers begins requests bytes .lasts)
 
--- Neither is empty: T begins a run, and these requests lend bytes,
+-- And its type code only rises, whatever versions the requests named: it is the same, or reached by steps.
+pub types-only-rise : (schema : Schema) (identifiers : List ℕ) → Begins schema identifiers → (requests : ℕ → Request)
+    → (i j : ℕ) → i ≤ j → (column later : Column) → Has (run schema requests i) column
+    → Has (run schema requests j) later → column .field .id ≡ later .field .id
+    → OnlyRises (column .field .code) (later .field .code)
+types-only-rise schema identifiers begins requests =
+    types-rise _ _ (runs-last schema identifiers begins requests .lasts)
+
+pub types-only-rise-stored : (stored : Stored) (identifiers : List ℕ) → BeginsStored stored identifiers
+    → (requests : ℕ → Lent) → LendsBytes requests
+    → (i j : ℕ) → i ≤ j → (column later : Column) → Has (schema-of (run-stored stored requests i)) column
+    → Has (schema-of (run-stored stored requests j)) later → column .field .id ≡ later .field .id
+    → OnlyRises (column .field .code) (later .field .code)
+types-only-rise-stored stored identifiers begins requests bytes =
+    types-rise (λ i. schema-of (run-stored stored requests i)) _
+    (runs-last-stored stored identifiers begins requests bytes .lasts)
+
+-- None of this is empty: T begins a run, and these requests lend bytes,
 pub runs-begin : Begins T-schema [] × BeginsStored T-stored [] × LendsBytes T-requests
 runs-begin = (T-begins, T-begins-stored, T-lends-bytes)
 
@@ -183,6 +229,17 @@ pub runs-edit-stored : BeginsStored keyed-stored [] × LendsBytes edits-requests
     (stored-sets (run-stored keyed-stored edits-requests) edits-requests)
 runs-edit-stored =
     (begins-stored-without keyed-stored keyed-by keyed-begins-stored, edits-lend-bytes, edited-in-a-row-stored)
+
+-- With widenings too: an int becomes a long, a decimal gets a higher precision twice, and a date becomes a timestamp in
+-- version 3, after a request in version 2 that is refused for it, and sets nothing.
+pub runs-widen : Begins sales-schema []
+    × WidenedInARow sales-answers (run sales-schema sales-asked) (run-sets sales-schema sales-asked)
+runs-widen = (sales-begins, widened-in-a-row)
+
+pub runs-widen-stored : BeginsStored sales-stored [] × LendsBytes sales-requests
+    × WidenedInARow sales-answers-stored (λ i. schema-of (run-stored sales-stored sales-requests i))
+    (stored-sets (run-stored sales-stored sales-requests) sales-requests)
+runs-widen-stored = (sales-begins-stored, sales-lend-bytes, widened-in-a-row-stored)
 
 -- ---- one update
 
@@ -233,8 +290,8 @@ pub gone-is-left-out-stored : (stored : Stored) (lent : Lent) (result : Result) 
 gone-is-left-out-stored stored lent result bytes added accepted =
     of-stored stored lent result bytes added accepted _ gone-is-left-out
 
--- What stays is as it was last set: each column of the base that does not go stands in the answer, and but for its name
--- and whether it is required, which are as the request sets them, it is as it was.
+-- What stays is as it was last set: each column of the base that does not go stands in the answer, and but for its name,
+-- whether it is required and its type code, which are as the request sets them, it is as it was.
 pub what-stays-is-as-set : (schema : Schema) (request : Request) (plan : Plan) (updated : Schema)
     → planned schema request ≡ ok plan → update schema request ≡ ok updated
     → StaysAsSet schema request plan updated
@@ -257,12 +314,13 @@ pub renamed-columns-are-found-stored : (stored : Stored) (lent : Lent) (result :
 renamed-columns-are-found-stored stored lent result bytes added accepted =
     of-stored stored lent result bytes added accepted _ renamed-columns-are-found
 
--- Without edits an update answers what it answered before 02, 5/13.
+-- Without edits an update answers what it answered before 02, 5/13;
 pub no-edits-as-before : (schema : Schema) (request : Request) → request .edits ≡ []
     → update schema request ≡ Before.update schema (request-before request)
 no-edits-as-before = as-before
 
-pub no-edits-as-before-stored : (stored : Stored) (lent : Lent) → lent .edits ≡ []
+-- over bytes one that names a known version (25).
+pub no-edits-as-before-stored : (stored : Stored) (lent : Lent) → known-version (lent .version) ≡ true → lent .edits ≡ []
     → update-entry stored lent ≡ Before.update-entry stored (lent-before lent)
 no-edits-as-before-stored = as-before-stored
 

@@ -15,7 +15,7 @@ use Rattle.paper.specs.Forest.{Forest, empty, node}
 use Rattle.paper.specs.Field.{Field}
 use Rattle.paper.specs.Rows.{Row, Start, skipped, dotted, top, row, below, beside, rows, entered, look-name, look-id}
 use Rattle.paper.specs.Sound.{names, sound}
-use Rattle.paper.specs.Edits.{Change, rename, relax, Edited, is-rename, renamed, again, has-dot, with-change}
+use Rattle.paper.specs.Edits.{Change, rename, relax, widen, Edited, is-rename, renamed, again, has-dot, with-change}
 use Rattle.paper.specs.Edits.{edit-field, edit-fields}
 use Rattle.paper.specs.Update.{Request, Schema, Plan, planned}
 use Rattle.paper.specs.Rebuild.{added, update}
@@ -32,8 +32,8 @@ use Rattle.theorems.specs.Numbers.{tally}
 use Rattle.theorems.specs.Columns.{settings, named-by, new-names, last-of}
 use Rattle.theorems.specs.Edited.{names-above, RenamesFound}
 use Rattle.theorems.proofs.Counting.{tally-append, tally-out}
-use Rattle.theorems.proofs.Setting.{name-last, Decided, AllDecided, decided-edits}
-use Rattle.theorems.proofs.Edited.{one-row}
+use Rattle.theorems.proofs.Columns.{one-row}
+use Rattle.theorems.proofs.Setting.{name-last, Decided, AllDecided, decided-edits, any-append}
 use Rattle.theorems.proofs.Identified.{update-identified}
 use Rattle.theorems.proofs.Carried.{row-at, at-row, carried, answered}
 
@@ -168,28 +168,24 @@ full-of t = row-full top t (refl, inl refl)
 
 -- ---- new names
 
+renamed-more : (x : ℕ) (earlier : List Edited) (e : Edited)
+    → renamed x (earlier ++ (e ∷ [])) ≡ (renamed x earlier || renamed x (e ∷ []))
+renamed-more x earlier e = any-append (λ z. eqb x (z .id) && is-rename (z .change)) earlier (e ∷ [])
+
 module _ (t : Forest Field) (ds : List ℕ) where
   -- Once renamed, no later edit renames it.
   renamed-once : (x : ℕ) (earlier es : List Edited) → AllDecided t ds earlier es → renamed x earlier ≡ true
       → new-names x es ≡ []
   renamed-once x earlier [] a h = refl
   renamed-once x earlier (e ∷ es) a h =
-      rw (renamed-once x (earlier ++ (e ∷ [])) es (a .1) (any-left earlier (e ∷ []) h))
+      rw (renamed-once x (earlier ++ (e ∷ [])) es (a .1) (renamed-more x earlier e ∙ rw h))
       (go (eqb (e .id) x) refl (e .change) (a .0 .once))
     where
-      any-left : (s s′ : List Edited) → renamed x s ≡ true → renamed x (s ++ s′) ≡ true
-      any-left [] s′ k = absurd (true≢false (sym k))
-      any-left (y ∷ s) s′ k = either (eqb x (y .id) && is-rename (y .change)) k (any-left s s′)
-        where
-          either : (b : Bool) → (b || renamed x s) ≡ true → (renamed x s ≡ true → renamed x (s ++ s′) ≡ true)
-              → (b || renamed x (s ++ s′)) ≡ true
-          either true k f = refl
-          either false k f = f k
-
       go : (b : Bool) → eqb (e .id) x ≡ b → (c : Change) → again c (e .id) earlier ≡ false
           → cond b (named-by c) [] ++ [] ≡ []
       go false q c o = refl
       go true q relax o = refl
+      go true q (widen v z) o = refl
       go true q (rename z) o =
           let same = eqb-true (e .id) x q in
           absurd (true≢false (sym h ∙ (rw same at o)))
@@ -199,12 +195,9 @@ module _ (t : Forest Field) (ds : List ℕ) where
       → record { id = x; change = rename new } ∈ es → last-of name (new-names x es) ≡ new
   new-name-last x new name earlier [] a h = absurd h
   new-name-last x new name earlier (e ∷ es) a (inl q) =
-      let here : renamed x (earlier ++ (e ∷ [])) ≡ true = rw (← q) (renamed-here earlier) in
+      let here : renamed x (earlier ++ (e ∷ [])) ≡ true =
+      renamed-more x earlier e ∙ rw (← q, eqb-self x) (or-true (renamed x earlier)) in
       rw (renamed-once x (earlier ++ (e ∷ [])) es (a .1) here, ← q, eqb-self x)
-    where
-      renamed-here : (s : List Edited) → renamed x (s ++ (record { id = x; change = rename new } ∷ [])) ≡ true
-      renamed-here [] = rw (eqb-self x)
-      renamed-here (y ∷ s) = rw (renamed-here s) (or-true (eqb x (y .id) && is-rename (y .change)))
   new-name-last x new name earlier (e ∷ es) a (inr h) =
       go (eqb (e .id) x) (e .change) (λ before. new-name-last x new before (earlier ++ (e ∷ [])) es (a .1) h)
     where
@@ -212,6 +205,7 @@ module _ (t : Forest Field) (ds : List ℕ) where
           → last-of name (cond b (named-by c) [] ++ new-names x es) ≡ new
       go true (rename z) f = f z
       go true relax f = f name
+      go true (widen v z) f = f name
       go false c f = f name
 
   -- No name gets more dots.
@@ -227,6 +221,7 @@ module _ (t : Forest Field) (ds : List ℕ) where
       go : (b : Bool) (c : Change) → has-dot c ≡ false → dots (cond b (with-change c f) f .name) ≤ dots (f .name)
       go true (rename z) h = let d = dotless z h in omega arith
       go true relax h = omega arith
+      go true (widen v z) h = omega arith
       go false c h = omega arith
 
   dots-above : (es : List Edited) → AllDecided t ds [] es → (above : List Field)

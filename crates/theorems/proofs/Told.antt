@@ -23,7 +23,8 @@ use Rattle.paper.specs.Sound.{misnamed, names, ids, identifies, sound, within}
 use Rattle.paper.specs.Prune.{kept, pruned, tested, is-chosen, prune}
 use Rattle.paper.specs.Renumber.{renumber}
 use Rattle.paper.specs.Gone.{gone-columns}
-use Rattle.paper.specs.Edits.{Edit, Edited, remaining, forbidden, again, has-dot, edited-one, edited-all, edited-tree}
+use Rattle.paper.specs.Promotions.{known-version}
+use Rattle.paper.specs.Edits.{Edit, Edited, remaining, forbidden, again, has-dot, no-step, edited-one, edited-all, edited-tree}
 use Rattle.paper.specs.Update.{Request, Schema, Plan, receiver, root-taken, member-taken}
 use Rattle.paper.specs.Update.{deleted, placed, placed-all, planned}
 use Rattle.paper.specs.Rebuild.{rebuilt, added, carried-out, update}
@@ -178,7 +179,8 @@ edited-one-told t ds k earlier x =
     told-bind (asked 23 6 (omega arith, omega arith, omega arith) k column) λ r.
     let no = forbidden (x .change) (r .role) || again (x .change) (r .field .id) earlier in
     told-bind (test 24 6 (omega arith, omega arith, omega arith) k no) λ _.
-    told-bind (test 13 6 (omega arith, omega arith, omega arith) k (has-dot (x .change))) λ _. accepted
+    told-bind (test 13 6 (omega arith, omega arith, omega arith) k (has-dot (x .change))) λ _.
+    told-bind (test 26 6 (omega arith, omega arith, omega arith) k (no-step (x .change) (r .field))) λ _. accepted
 
 edited-all-told : (t : Forest Field) (ds : List ℕ) (k : ℕ) (earlier : List Edited) (xs : List Edit)
     → Told (edited-all t ds k earlier xs)
@@ -254,6 +256,7 @@ unfolding update-entry
 update-entry-told s q =
     told-bind (room-told (room (q .room-records) (q .room-names))) λ _.
     told-bind (size-told (sized-update s q)) λ _.
+    told-bind (test 25 0 (omega arith, omega arith, omega arith) 0 (not (known-version (q .version)))) λ _.
     told-bind (decode-told 0 (omega arith) (s .records) (s .pool)) λ t.
     told-bind (decode-told 1 (omega arith) (q .added-records) (q .request-pool)) λ n.
     told-bind (entries-told 2 8 (omega arith) ok-deletion path-in (q .deletions) (q .request-pool)) λ _.

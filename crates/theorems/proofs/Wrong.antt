@@ -12,6 +12,7 @@ use Rattle.paper.specs.Rows.{rows, entered, look-name}
 use Rattle.paper.specs.Sound.{fitting, misnamed, names, ids, sound, name-bytes, within}
 use Rattle.paper.specs.Prune.{prune}
 use Rattle.paper.specs.Gone.{gone}
+use Rattle.paper.specs.Promotions.{known-version}
 use Rattle.paper.specs.Edits.{edited-one, edited-all, edit-fields}
 use Rattle.paper.specs.Update.{deleted, member-taken, placed, placed-all, planned}
 use Rattle.paper.specs.Rebuild.{fresh, arrivals, arriving, rebuilt, carried-out, update}
@@ -49,7 +50,7 @@ record Computed : Type 0 where
   P9-many : length (ids-of (P9 prune-entry)) ≡ 1
 
 answers : Computed
-unfolding update-entry prune-entry changed _>>=_ lowest size siblings levels preorder counts mapped _then_
+unfolding update-entry prune-entry known-version changed _>>=_ lowest size siblings levels preorder counts mapped _then_
     rows entered look-name fitting misnamed names ids sound name-bytes within prune
     gone deleted member-taken placed placed-all edited-one edited-all planned edit-fields fresh arrivals arriving rebuilt carried-out update
     word16 word32 turned ok-bytes in-pool kind-from name-of field-at from

@@ -9,6 +9,7 @@ use Rattle.paper.specs.Answer.{ok}
 use Rattle.paper.specs.Forest.{Forest}
 use Rattle.paper.specs.Field.{Field}
 use Rattle.paper.specs.Sound.{sound}
+use Rattle.paper.specs.Promotions.{known-version}
 use Rattle.paper.specs.Lists.{id-list}
 use Rattle.paper.specs.Limits.{room}
 use Rattle.paper.specs.Lent.{Lent}
@@ -17,10 +18,11 @@ use Rattle.paper.specs.Outcome.{leaves, out-identifiers}
 use Rattle.theorems.specs.Stored.{bytes-of}
 
 -- A request that asks for nothing.
-abbrev pub nothing-with : (identifiers : List ℕ) (room-records room-names : ℕ) → Lent
-nothing-with identifiers room-records room-names =
+abbrev pub nothing-with : (identifiers : List ℕ) (version room-records room-names : ℕ) → Lent
+nothing-with identifiers version room-records room-names =
     record {
       identifiers = identifiers;
+      version = version;
       deletions = [];
       additions = [];
       added-records = [];
@@ -34,10 +36,11 @@ nothing-with identifiers room-records room-names =
 pub record PassesAgain (tree : Forest Field) (identifiers : List ℕ) : Type 0 where
   -- 7 to 9 accept the tree with them.
   pub accepted : sound 0 tree (id-list identifiers) ≡ ok tt
-  -- So does an update, from 1 on, that is lent the bytes of both and asks for nothing. It answers that tree, and the
-  -- last id that it was given.
-  pub lent-again : (last room-records room-names : ℕ) → last < 4294967296 → room room-records room-names ≡ true
-      → update-entry (bytes-of tree last) (nothing-with identifiers room-records room-names)
+  -- So does an update, from 1 on, that is lent the bytes of both, names a known version and asks for nothing. It answers that
+  -- tree, and the last id that it was given.
+  pub lent-again : (last version room-records room-names : ℕ) → last < 4294967296 → known-version version ≡ true
+      → room room-records room-names ≡ true
+      → update-entry (bytes-of tree last) (nothing-with identifiers version room-records room-names)
       ≡ ok (record { tree = tree; identifiers = []; last = last })
 
 -- Of what an accepted renumbering answers to so many bytes of identifiers.

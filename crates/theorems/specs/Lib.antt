@@ -2,6 +2,7 @@
 -- parts of a tree, refusals, slots, names whose case is forgotten, many ids at once, what stands after an update, identifiers
 -- that pass again, the update as it was before edits.
 pub mod Numbers
+pub mod Promoted
 pub mod Columns
 pub mod Run
 pub mod Stored

@@ -9,7 +9,7 @@ use Rattle.paper.specs.Answer.{Answer, ok, refused}
 use Rattle.paper.specs.Refusals.{last-refusal, roomy, limited, unbroken, pooled, misshapen, named, own-ids, own-names}
 use Rattle.paper.specs.Refusals.{identified, matched, found-column, no-identifier, dotless, fillable, found-parent}
 use Rattle.paper.specs.Refusals.{found-struct, free-name, ids-left, rebuilt-within, chosen-directly, ambiguous, standing}
-use Rattle.paper.specs.Refusals.{surviving, permitted}
+use Rattle.paper.specs.Refusals.{surviving, permitted, versioned, stepped}
 use Rattle.theorems.specs.Numbers.{range}
 
 -- No refusal, or one of this number.
@@ -32,7 +32,8 @@ numbers-given =
     ∷ number-of (fillable 0 true) ∷ number-of (found-parent 0 absent) ∷ number-of (found-struct 0 absent)
     ∷ number-of (free-name 0 true) ∷ number-of (ids-left 0 0 true) ∷ number-of (rebuilt-within false)
     ∷ number-of {A = ℕ} (chosen-directly 0) ∷ number-of {A = ℕ} (ambiguous 0) ∷ number-of (standing 0 true)
-    ∷ number-of (surviving 0 absent) ∷ number-of (permitted 0 true) ∷ []
+    ∷ number-of (surviving 0 absent) ∷ number-of (permitted 0 true) ∷ number-of (versioned false)
+    ∷ number-of (stepped 0 true) ∷ []
 
 pub record OneNumberEach : Type 1 where
   -- From 1 to the last, each once;
@@ -62,3 +63,5 @@ pub record OneNumberEach : Type 1 where
   pub of-22 : (place : ℕ) (gone : Bool) → Only 22 (standing place gone)
   pub of-23 : {A : Type 0} (place : ℕ) (column : Option A) → Only 23 (surviving place column)
   pub of-24 : (place : ℕ) (forbidden : Bool) → Only 24 (permitted place forbidden)
+  pub of-25 : (known : Bool) → Only 25 (versioned known)
+  pub of-26 : (place : ℕ) (barred : Bool) → Only 26 (stepped place barred)
