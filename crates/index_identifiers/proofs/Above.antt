@@ -27,7 +27,7 @@ use Rattle.index_identifiers.specs.Nine.{held-up}
 -- ---- a source
 
 module _ (l : Trees) (x : ℕ) (k : Kind) (ek : k ≡ source-kind (l .records) (l .added-records) x) (flags : ℕ) (ef : flags ≡ source-flags (l .records) (l .added-records) x) (required : Bool) (er : required ≡ is-required flags) where
-  pub identifying-is : (code : ℕ) → code ≡ source-code (l .records) (l .added-records) x → (primitive : Bool) → primitive ≡ is-primitive k
+  pub identifying-is : (code : ℕ) → code ≡ source-code (l .records) (l .added-records) (l .edits) x → (primitive : Bool) → primitive ≡ is-primitive k
       → (primitive && (required && not (eqb code 5 || eqb code 6))) ≡ identifying (source-field l x)
   identifying-is code ec primitive ep = rw (ep, er, ek, ef, ec, kind-source l x, flags-source l x, code-source l x)
 
