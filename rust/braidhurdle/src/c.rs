@@ -91,37 +91,37 @@ pub struct Name {
 #[used]
 static DECLARED: unsafe extern "C" fn() -> u32 = {
     unsafe extern "C" {
-        fn braidhurdle_abi_7() -> u32;
+        fn braidhurdle_abi_8() -> u32;
     }
-    braidhurdle_abi_7
+    braidhurdle_abi_8
 };
 
-/// One function of the archive. Its arguments are lists, a number, lists, and buffers to write, in
+/// One function of the archive. Its arguments are lists, numbers, lists, and buffers to write, in
 /// this order; in C a list or buffer is a pointer and a length, as `include/braidhurdle.h` has it.
 macro_rules! function {
     (
         $(#[$doc:meta])*
         $name:ident is $symbol:ident(
-            $($list:ident)*; $($number:ident: $type:ty)?; $($more:ident)*; $($out:ident)*
+            $($list:ident)*; $($number:ident: $type:ty)*; $($more:ident)*; $($out:ident)*
         ) -> $answer:ty
     ) => {
         $(#[$doc])*
         #[must_use]
         #[allow(clippy::too_many_arguments)] // the C function's own
         pub fn $name(
-            $($list: &[u8],)* $($number: $type,)? $($more: &[u8],)* $($out: &mut [u8],)*
+            $($list: &[u8],)* $($number: $type,)* $($more: &[u8],)* $($out: &mut [u8],)*
         ) -> $answer {
             #[cfg(archive)]
             unsafe extern "C" {
                 fn $symbol(
-                    $($list: *const u8, _: usize,)* $($number: $type,)?
+                    $($list: *const u8, _: usize,)* $($number: $type,)*
                     $($more: *const u8, _: usize,)* $($out: *mut u8, _: usize,)*
                 ) -> $answer;
             }
             #[cfg(not(archive))]
             #[allow(unused_variables)]
             unsafe fn $symbol(
-                $($list: *const u8, _: usize,)* $($number: $type,)?
+                $($list: *const u8, _: usize,)* $($number: $type,)*
                 $($more: *const u8, _: usize,)* $($out: *mut u8, _: usize,)*
             ) -> $answer {
                 panic!("braidhurdle was built with BRAIDHURDLE_ARCHIVE=none, so without its code")
@@ -131,7 +131,7 @@ macro_rules! function {
             // what it writes overlaps nothing else. They are a slice's own, borrowed for the call.
             unsafe {
                 $symbol(
-                    $($list.as_ptr(), $list.len(),)* $($number,)?
+                    $($list.as_ptr(), $list.len(),)* $($number,)*
                     $($more.as_ptr(), $more.len(),)* $($out.as_mut_ptr(), $out.len(),)*
                 )
             }
@@ -140,9 +140,10 @@ macro_rules! function {
 }
 
 function! {
-    /// Drops, adds and edits columns. Ids are handed out from `last_id` + 1.
+    /// Drops, adds and edits columns. Ids are handed out from `last_id` + 1, and types are widened
+    /// by the steps of the format version, 2 or 3.
     update is braidhurdle_update(
-        records pool identifiers; last_id: i32;
+        records pool identifiers; last_id: i32 version: u32;
         deletions additions added_records edits request_pool;
         out_records out_names
     ) -> Changed
