@@ -175,14 +175,34 @@ pub const RENAME: u8 = 1;
 /// Byte 6 of an edit: no longer required.
 pub const RELAX: u8 = 2;
 
-/// An edit's 16 bytes, with the offset and length of its path and, where it renames, of the new
-/// name; else it relaxes.
-pub(crate) fn edit((offset, length): (u32, u16), name: Option<(u32, u8)>) -> [u8; EDIT_BYTES] {
+/// Byte 6 of an edit: a wider type.
+pub const WIDEN: u8 = 3;
+
+/// What an edit does.
+pub(crate) enum Edit {
+    /// The offset and length of the new name.
+    Rename {
+        offset: u32,
+        length: u8,
+    },
+    Relax,
+    /// The new type code.
+    Widen {
+        code: u32,
+    },
+}
+
+/// An edit's 16 bytes, with the offset and length of its path.
+pub(crate) fn edit((offset, length): (u32, u16), what: Edit) -> [u8; EDIT_BYTES] {
+    let (number, word, byte) = match what {
+        Edit::Rename { offset, length } => (RENAME, offset, length),
+        Edit::Relax => (RELAX, 0, 0),
+        Edit::Widen { code } => (WIDEN, code, 0),
+    };
     let mut b = [0; EDIT_BYTES];
     b[..ENTRY_BYTES].copy_from_slice(&entry(offset, length, true));
-    b[6] = if name.is_some() { RENAME } else { RELAX };
-    let (offset, length) = name.unwrap_or_default();
-    b[8..12].copy_from_slice(&offset.to_le_bytes());
-    b[12] = length;
+    b[6] = number;
+    b[8..12].copy_from_slice(&word.to_le_bytes());
+    b[12] = byte;
     b
 }

@@ -127,6 +127,7 @@ mod refusal;
 mod request;
 mod room;
 mod tree;
+mod types;
 
 pub use columns::{Column, Columns};
 pub use field::{Field, Overlong};
@@ -136,6 +137,7 @@ pub use refusal::{Refusal, RefusalKind, RefusalList};
 pub use request::{Request, RequestRef};
 pub use room::Room;
 pub use tree::{Mode, Renumbered, Tree, TreeRef, Updated};
+pub use types::{Decimal, NoType, NoVersion, Type, TypeCode, Version};
 
 /// Is the archive linked? Only a build with `BRAIDHURDLE_ARCHIVE=none` is without it, for machines
 /// that test the rest; there every call panics.

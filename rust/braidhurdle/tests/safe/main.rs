@@ -16,4 +16,5 @@ mod room;
 mod t;
 mod tables;
 mod text;
+mod types;
 mod worked;
