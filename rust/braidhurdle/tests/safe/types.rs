@@ -132,11 +132,12 @@ fn the_library_has_the_same_steps() -> Result<(), Box<dyn std::error::Error>> {
             for &to in &codes {
                 let request = Request::new(FieldId(0)).version(version).widen("a", to)?;
                 let answer = tree.lent().update_in(request.lent(), &mut room);
-                let records = answer.map(|updated| updated.tree.records[16..].to_vec());
-                let refused = Refusal { number: 26, list: 6, place: 0 };
-                let widened = Tree::build(&[Field::primitive("a", to)])?.records[16..].to_vec();
-                let expected = if steps.contains(&to) { Ok(widened) } else { Err(refused) };
-                assert_eq!(records, expected, "{from} to {to} in version {version}");
+                let code = answer.map(|updated| updated.tree.records[16..20].to_vec());
+                let expected = match steps.contains(&to) {
+                    true => Ok(to.to_le_bytes().to_vec()),
+                    false => Err(Refusal { number: 26, list: 6, place: 0 }),
+                };
+                assert_eq!(code, expected, "{from} to {to} in version {version}");
             }
         }
     }
