@@ -9,7 +9,7 @@ check-edit-spec =
     tie.close
     (tie.spec
     (λ c κs. search needs)  -- what-at-requires
-    (λ c κs. search needs)  -- is-barred-requires
+    (λ c κs. search (fitting, needs))  -- is-barred-requires
     (λ c. search needs)  -- cast-t14
     (λ c. search (fitting, needs))  -- returns
     (λ c κs. search needs)  -- is-dotted-requires
