@@ -80,7 +80,7 @@ module _ (l : Trees) (lists : Lists) (version rr rn : ℕ) (w : Opened) (o : Ope
   through : Through
   unfolding opening sized-update _>>=_
   through = open-ok _ (opening l lists 0 version rr rn) roots columns (sym q ∙ o .says 0) λ base added e er ec.
-      unbind _ _ e λ _ e₁ a₁. unbind _ _ a₁ λ _ e₂ a₂. unbind _ _ a₂ λ _ _ a₃.
+      unbind _ _ e λ _ e₁ a₁. unbind _ _ a₁ λ _ e₂ a₂. unbind (versioned (known-version version)) _ a₂ λ _ _ a₃.
       record {
         passed = record { base = base; added = added; limits = λ _ _ _ _. not-false _ (fault-if-ok 2 0 0 _ e₂); read = a₃ };
         rooms = not-false _ (fault-if-ok 1 0 0 _ e₁);

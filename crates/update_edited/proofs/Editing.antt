@@ -41,7 +41,7 @@ use Rattle.update_edits.specs.declared.Editing as declared
 use Rattle.update_edits.specs.Edit.{Lands, Named, change-of, edited-at, EditedBy, OneEdited}
 use Rattle.update_edits.specs.Marks.{as-marked, Carries, marked-by}
 use Rattle.update_edits.proofs.Deciding.{found-lands, edited-is}
-use Rattle.update_edits.proofs.Carrying.{parts-sit, carries-none, carries-more}
+use Rattle.update_edits.proofs.Carrying.{asks-none, parts-sit, carries-none, carries-more}
 use Rattle.update_rebuild.specs.declared.Given.{Given}
 use Rattle.update_rebuild.specs.Planned.{drops-in}
 use Rattle.update_schema.proofs.Deleting.{entry-here}
@@ -67,9 +67,9 @@ module _ (t : Forest Field) (ds ds′ : List ℕ) (h : (x : ℕ) → among x ds 
 
 -- ---- the loop
 
-module _ (l : Trees) (n total : ℕ) (t : Forest Field) (ds : List ℕ) where
+module _ (l : Trees) (version n total : ℕ) (t : Forest Field) (ds : List ℕ) where
   abbrev asked : ℕ → Edit
-  asked = edit-of (l .request-pool) (l .edits)
+  asked = edit-of version (l .request-pool) (l .edits)
 
   abbrev whole : Answer (List Edited)
   whole = edited-all t ds 0 [] (from asked 0 total)
@@ -160,24 +160,24 @@ module _ (l : Trees) (given : Given) (plan index : List (List ℕ)) (marks₀ : 
       let few = h .based .plan .few in
       let w = h .based .whole in
       rw (h .unmarked)
-      (carries-none l n few (λ s b. parts-sit l s (omega arith) 0 (omega arith, lowest-none (in-pool (length (l .pool)) (l .records)) 0 n (h .based .named) s (omega arith) (omega arith)) (λ q. absurd (omega arith))))
+      (carries-none l n few (λ s b. parts-sit l s (omega arith) 0 (omega arith, lowest-none (in-pool (length (l .pool)) (l .records)) 0 n (h .based .named) s (omega arith) (omega arith)) (asks-none l)))
 
   module _ (k : ℕ) (b : k < given .edits) (p : List ℕ) (f : Found) (ef : f ≡ found-row (look-name t p)) where
     pub one-asks : (drops : Dropped) → Good drops → Lands n f × Rises (l .records) n (ups-in index) × Named (l .request-pool) (l .edits) k × Good drops
-    one-asks drops g = (found-lands rises-here (l .pool) (l .request-pool) (l .edits) k p f (rw (← base-is) ef), rises-here, named-here k b, g)
+    one-asks drops g = (found-lands rises-here (l .pool) (given .version) (l .request-pool) (l .edits) k p f (rw (← base-is) ef), rises-here, named-here k b, g)
 
-    module _ (ds marks : List ℕ) (ep : p ≡ edit-path (l .request-pool) (l .edits) k) (H : Editing l n (given .edits) t ds k marks) (r : declared.Editing) (o : OneEdited f (l .records) n (ups-in index) (l .request-pool) (l .edits) k ds marks r) where
+    module _ (ds marks : List ℕ) (ep : p ≡ edit-path (l .request-pool) (l .edits) k) (H : Editing l (given .version) n (given .edits) t ds k marks) (r : declared.Editing) (o : OneEdited f (l .records) n (ups-in index) (given .version) (l .request-pool) (l .edits) k ds marks r) where
       -- what is decided of the edit is the paper's, whatever was carried before it
-      one-says : (earlier : List Edited) → Carries l n marks earlier → EditedBy r (edited-one t ds k earlier (edit-of (l .request-pool) (l .edits) k)) (l .records) n (change-of (l .request-pool) (l .edits) k)
+      one-says : (earlier : List Edited) → Carries l n marks earlier → EditedBy r (edited-one t ds k earlier (edit-of (given .version) (l .request-pool) (l .edits) k)) (l .records) n (change-of (given .version) (l .request-pool) (l .edits) k)
       one-says earlier c =
-          rw base-is (edited-is rises-here (l .pool) (l .request-pool) (l .edits) k ds marks earlier f r (rw (← base-is, ← ep) ef) (c .renames) o)
+          rw base-is (edited-is rises-here (l .pool) (given .version) (l .request-pool) (l .edits) k ds marks earlier f r (rw (← base-is, ← ep) ef) (c .told) o)
 
       pub all-stop : (x : Refusal) → r ≡ editing.Refused x → all-edited l given plan ds ≡ refused (x .number) (x .list) (x .place)
-      all-stop x q = edit-stops l n (given .edits) t ds k marks H b r one-says x q
+      all-stop x q = edit-stops l (given .version) n (given .edits) t ds k marks H b r one-says x q
 
-      pub all-go : (s : Slot) (marks′ : List ℕ) → r ≡ editing.At s → marks′ ≡ set marks (s .0) (marked-by (l .edits) k (getD marks (s .0) 0)) → Editing l n (given .edits) t ds (k + 1) marks′
+      pub all-go : (s : Slot) (marks′ : List ℕ) → r ≡ editing.At s → marks′ ≡ set marks (s .0) (marked-by (l .edits) k (getD marks (s .0) 0)) → Editing l (given .version) n (given .edits) t ds (k + 1) marks′
       all-go s marks′ q e =
-          edit-goes l n (given .edits) t ds k marks H b r one-says s marks′ q (λ earlier c i. carries-more c rises-here k (s .0) i (named-here k b) marks′ e)
+          edit-goes l (given .version) n (given .edits) t ds k marks H b r one-says s marks′ q (λ earlier c i. carries-more c rises-here (given .version) k (s .0) i (named-here k b) marks′ e)
 
       pub mark-asks : (s : Slot) → r ≡ editing.At s → (s .0 < 1024) × (k < 64) × (k * 16 + 16 ≤ length (l .edits))
       mark-asks s q =
@@ -186,15 +186,15 @@ module _ (l : Trees) (given : Given) (plan index : List (List ℕ)) (marks₀ : 
           let e = named-here k b in
           (omega arith, e .few, e .entry)
 
-  pub all-begin : (ds : List ℕ) → Editing l n (given .edits) t ds 0 marks₀
-  all-begin ds = edit-starts l n (given .edits) t ds marks₀ begins
+  pub all-begin : (ds : List ℕ) → Editing l (given .version) n (given .edits) t ds 0 marks₀
+  all-begin ds = edit-starts l (given .version) n (given .edits) t ds marks₀ begins
 
   -- ---- behind the deletions
 
   pub none-asked : (decisions : List (List ℕ)) → given .edits ≡ 0 → EditsIn l given plan decisions check.Fine marks₀
   none-asked decisions e =
       let ds = row-ids (drops-in decisions) (given .deletions) in
-      record { by = edit-ends l n (given .edits) t ds 0 marks₀ (all-begin ds) (omega arith); unmarked = λ _. h .unmarked }
+      record { by = edit-ends l (given .version) n (given .edits) t ds 0 marks₀ (all-begin ds) (omega arith); unmarked = λ _. h .unmarked }
 
   pub behind : (decisions : List (List ℕ)) (drops : Dropped) (c : Check) (marks′ : List ℕ) → (given .edits ≡ 0 → ⊥) → Gathered (drops-in decisions) (given .deletions) drops
       → EditsBy c (all-edited l given plan (dropped-ids drops)) l n marks′ → EditsIn l given plan decisions c marks′

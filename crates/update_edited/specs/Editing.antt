@@ -29,7 +29,7 @@ pub record Editable (l : Trees) (given : Given) (plan index : List (List ℕ)) (
 -- What the paper decides of all edits.
 abbrev pub all-edited : Trees → Given → (plan : List (List ℕ)) (dropped : List ℕ) → Answer (List Edited)
 all-edited l given plan dropped =
-    edited-all (fields-in l plan (given .base)) dropped 0 [] (from (edit-of (l .request-pool) (l .edits)) 0 (given .edits))
+    edited-all (fields-in l plan (given .base)) dropped 0 [] (from (edit-of (given .version) (l .request-pool) (l .edits)) 0 (given .edits))
 
 -- They are accepted, and the marks carry them.
 pub record EditsLeft (l : Trees) (n : ℕ) (marks : List ℕ) (a : Answer (List Edited)) : Type 0 where

@@ -1,4 +1,4 @@
-// The edits, one at a time: refusals 23, 24 and 13, or the marks that they leave on slots of the base.
+// The edits, one at a time: refusals 23, 24, 13 and 26, or the marks that they leave on slots of the base.
 use index::look_name;
 use index_ids::IndexRows;
 use plan::PlanRows;
@@ -48,6 +48,7 @@ fn edit_all<'a>(
             trees[RECORDS],
             given.base,
             index,
+            given.version,
             pool,
             edits,
             k,
@@ -67,7 +68,7 @@ fn edit_all<'a>(
     Check::Fine
 }
 
-// The edits of a request whose deletions and additions are decided: refusals 23, 24 and 13, or their marks.
+// The edits of a request whose deletions and additions are decided: refusals 23, 24, 13 and 26, or their marks.
 pub fn edit_columns<'a>(
     trees: &Trees<'a>,
     given: Given,

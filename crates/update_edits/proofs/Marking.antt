@@ -1,21 +1,30 @@
 -- A mark with one more edit, and the source that it makes of a slot.
-use Prim.Native.Nat.{ℕ, suc, _+_, _-_, _*_, _%_, _<_, _≤_}
+use Prim.Native.Nat.{ℕ, suc, _+_, _-_, _*_, _/_, _%_, _<_, _≤_}
 use mathlib.Core.Path.{_≡_, refl, sym, ap, _∙_}
-use mathlib.Core.Bool.{Bool, true, false, cond}
+use mathlib.Core.Bool.{true, false, cond}
 use mathlib.Core.List.{List}
 use native.Mathlib.Omega.{arith}
 use lib.Dec.{eqb, ltb}
 use lib.ListN.{getD}
 use borrow.Author.Tests.{eq-eqb, ne-eqb, lt-ltb, le-ltb}
+use Rattle.record_entries.specs.declared.What.{What}
+use Rattle.record_entries.specs.declared.What.the-variants.{Rename, Relax, Widen}
 use Rattle.update_edits.specs.Marks.{mark-with, as-marked, remarked}
 
 -- ---- the code
 
-pub with-rename : (b : Bool) (k mark v : ℕ) → b ≡ true → v ≡ mark % 2 + 2 * (k + 1) → v ≡ mark-with b k mark
-with-rename b k mark v e ev = rw e ev
+-- `search marking`
+module _ (w : What) (k mark v : ℕ) where
+  pub with-rename : w ≡ Rename → v ≡ mark / 256 * 256 + (mark % 2 + 2 * (k + 1)) → v ≡ mark-with w k mark
+  with-rename e ev = rw e ev
 
-pub with-relax : (b : Bool) (k mark v : ℕ) → b ≡ false → v ≡ mark + (1 - mark % 2) → v ≡ mark-with b k mark
-with-relax b k mark v e ev = rw e ev
+  pub with-relax : w ≡ Relax → v ≡ mark + (1 - mark % 2) → v ≡ mark-with w k mark
+  with-relax e ev = rw e ev
+
+  pub with-widening : w ≡ Widen → v ≡ mark % 256 + 256 * (k + 1) → v ≡ mark-with w k mark
+  with-widening e ev = rw e ev
+
+pub ruleset marking = (with-rename, with-relax, with-widening)
 
 -- `search sourcing`
 pub source-stays : (marks : List ℕ) (x : ℕ) → 1024 ≤ x → x ≡ remarked marks x

@@ -1,22 +1,24 @@
 -- The role by the place above a slot is that of the paper's row: a row that a look-up finds is the record at its slot, in its role.
-use Prim.Native.Nat.{ℕ, zero, suc, _+_, _-_, _*_, _<_, _≤_}
+use Prim.Native.Nat.{ℕ, zero, suc, _+_, _-_, _*_, _%_, _<_, _≤_}
 use mathlib.Core.Path.{_≡_, refl, sym, ap, _∙_}
-use mathlib.Core.Bool.{Bool, true, false, cond}
+use mathlib.Core.Bool.{Bool, true, false, not, _&&_, cond}
 use mathlib.Core.List.{List}
 use mathlib.Core.Option.{Option, none, some}
 use native.Mathlib.Numerals.{sub-one}
 use native.Mathlib.Omega.{arith}
-use lib.Dec.{eqb}
+use lib.Dec.{eqb, leb}
 use lib.ListN.{length, getD}
 use borrow.Author.Tests.{eq-eqb, ne-eqb}
 use Rattle.paper.specs.declared.Kind.{Kind}
 use Rattle.paper.specs.declared.Role.{Role}
 use Rattle.paper.specs.declared.Role.the-variants.{Member, Element, Key, Value}
+use Rattle.paper.specs.Answer.{among}
 use Rattle.paper.specs.Bytes.{kids-at, kind-at, field-at}
 use Rattle.paper.specs.Decode.{fields}
-use Rattle.paper.specs.Field.{Field, first, after}
+use Rattle.paper.specs.Field.{Field, first, after, is-primitive}
 use Rattle.paper.specs.Forest.{Forest, node, size, mapped}
 use Rattle.paper.specs.Layout.{roots}
+use Rattle.paper.specs.Promotions.{allowed}
 use Rattle.paper.specs.Rows.{Row, Start, row, below, beside, look-name}
 use Rattle.laws.proofs.Basics.{eqb-self}
 use Rattle.laws.proofs.Preorder.{size-mapped}
@@ -30,10 +32,12 @@ use Rattle.record.specs.declared.Slot.{Slot}
 use Rattle.record.specs.declared.Found.{Found}
 use Rattle.record.specs.declared.Found.the-variants.{At}
 use Rattle.record.specs.Says.{found-row}
+use Rattle.record_entries.specs.declared.What.{What}
+use Rattle.record_entries.specs.declared.What.the-variants.{Rename, Widen}
 use Rattle.update_gone.specs.Gone.{base-slots, Rises}
 use Rattle.update_gone.proofs.Leaving.{base-climbs, up-falls}
 use Rattle.update_edits.specs.Edit.{Lands}
-use Rattle.update_edits.specs.Roles.{role-under, role-at, Stood, forbids}
+use Rattle.update_edits.specs.Roles.{role-under, role-at, Stood, repeats, dots, stepless}
 
 -- ---- the code: `search roles`
 
@@ -65,30 +69,24 @@ module _ (records us : List ℕ) (slot above : ℕ) (e : above ≡ getD us slot 
 
 pub ruleset roles = (role-root, role-room, role-first, role-next)
 
--- ---- what a role forbids: `search forbidding`
+-- ---- what is asked of an edit, by what it does: `search asking`
 
-cond-same : (b c : Bool) → cond b c c ≡ c
-cond-same true c = refl
-cond-same false c = refl
+module _ (w : What) (a : Bool) where
+  module _ (e : w ≡ Rename) where
+    pub rename-repeats : (mark : ℕ) → a ≡ leb 2 (mark % 256) → a ≡ repeats w mark
+    rename-repeats mark q = rw e q
 
-cond-itself : (b : Bool) → cond b true false ≡ b
-cond-itself true = refl
-cond-itself false = refl
+    pub rename-dots : (x y : List ℕ) → y ≡ x → a ≡ among 46 y → a ≡ dots w x
+    rename-dots x y ey q = rw (e, ← ey) q
 
-module _ (b : Bool) (r : Role) where
-  pub of-member : r ≡ Member → false ≡ forbids b r
-  of-member e = rw e (sym (cond-same b false))
+  module _ (e : w ≡ Widen) where
+    pub widen-repeats : (mark : ℕ) → a ≡ leb 256 mark → a ≡ repeats w mark
+    widen-repeats mark q = rw e q
 
-  pub of-element : r ≡ Element → b ≡ forbids b r
-  of-element e = rw e (sym (cond-itself b))
+    pub widen-steps : (v : ℕ) (k : Kind) (old new new′ : ℕ) (b : Bool) → new′ ≡ new → b ≡ (is-primitive k && allowed v old new′) → a ≡ not b → a ≡ stepless w v k old new
+    widen-steps v k old new new′ b en eb q = rw (e, ← en, ← eb) q
 
-  pub of-key : r ≡ Key → true ≡ forbids b r
-  of-key e = rw e (sym (cond-same b true))
-
-  pub of-value : r ≡ Value → b ≡ forbids b r
-  of-value e = rw e (sym (cond-itself b))
-
-pub ruleset forbidding = (of-member, of-element, of-key, of-value)
+pub ruleset asking = (rename-repeats, rename-dots, widen-repeats, widen-steps)
 
 -- ---- the rows
 

@@ -1,7 +1,7 @@
 -- The marks that edits leave on slots of the base, and the sources that carry them (`plan`'s Plan has their numbers).
-use Prim.Native.Nat.{ℕ, suc, _+_, _-_, _*_, _%_, _<_, _≤_}
+use Prim.Native.Nat.{ℕ, suc, _+_, _-_, _*_, _/_, _%_, _<_, _≤_}
 use mathlib.Core.Path.{_≡_}
-use mathlib.Core.Bool.{Bool, cond}
+use mathlib.Core.Bool.{cond}
 use mathlib.Core.List.{List}
 use lib.Dec.{eqb, ltb}
 use lib.ListN.{length, getD, replicate}
@@ -10,16 +10,21 @@ use Rattle.paper.specs.Bytes.{field-at, from}
 use Rattle.paper.specs.Lists.{edit-at}
 use Rattle.paper.specs.Edits.{Edited, edit-fields}
 use Rattle.record.specs.Trees.{Trees}
-use Rattle.plan.specs.Plan.{Source, source-field, Sits}
+use Rattle.record_entries.specs.declared.What.{What}
+use Rattle.record_entries.specs.declared.What.the-variants.{Rename, Relax, Widen}
+use Rattle.record_entries.specs.Rule.{what-of}
+use Rattle.plan.specs.Plan.{Source, low-part, source-field, Sits}
 use Rattle.plan.specs.Table.{sources, numbers, members}
 use Rattle.update_edits.specs.Edit.{Tells}
 
--- A mark with the edit k: a rename keeps whether the column is relaxed, and a relaxing keeps its new name.
-abbrev pub mark-with : (renames : Bool) (k mark : ℕ) → ℕ
-mark-with renames k mark = cond renames (mark % 2 + 2 * (k + 1)) (mark + (1 - mark % 2))
+-- A mark with the edit k, which keeps what other edits left.
+abbrev pub mark-with : What → (k mark : ℕ) → ℕ
+mark-with Rename k mark = mark / 256 * 256 + (mark % 2 + 2 * (k + 1))
+mark-with Relax k mark = mark + (1 - mark % 2)
+mark-with Widen k mark = low-part mark + 256 * (k + 1)
 
 abbrev pub marked-by : (edits : List ℕ) (k mark : ℕ) → ℕ
-marked-by edits k mark = mark-with (eqb (edit-at edits k .what) 1) k mark
+marked-by edits k mark = mark-with (what-of (edit-at edits k .what)) k mark
 
 -- The source that a mark makes of a slot of the base.
 unfoldable pub as-marked : (mark slot : ℕ) → ℕ
@@ -44,7 +49,7 @@ pub record Carries (l : Trees) (n : ℕ) (marks : List ℕ) (decided : List Edit
   pub room : length marks ≡ 1024
   pub field : (s : ℕ) → s < n → source-field l (marked marks s) ≡ edit-fields decided (field-at (l .pool) (l .records) s)
   pub sits : (s : ℕ) → s < n → Sits l (marked marks s)
-  pub renames : Tells (l .records) n marks decided
+  pub told : Tells (l .records) n marks decided
 
 -- The first m sources are as their marks have them, and all else is as it was.
 pub record RemarkedIn (marks : List ℕ) (m : ℕ) (plan plan′ : List (List ℕ)) : Type 0 where

@@ -5,7 +5,7 @@ use alloc::vec::Vec;
 use core::fmt;
 
 use crate::layout::{DEFAULT, Kind, REQUIRED, Record};
-use crate::{FieldId, Tree};
+use crate::{FieldId, Tree, TypeCode};
 
 /// A column with all that is inside it, to build a tree or an addition of. A list's child must be
 /// named `element`, a map's `key` and `value`: refusal 6 says where one is not.
@@ -55,10 +55,10 @@ impl Field {
         }
     }
 
-    /// An optional primitive of this type code, with id 0.
+    /// An optional primitive of this type or type code, with id 0.
     #[must_use]
-    pub fn primitive(name: impl AsRef<[u8]>, type_code: u32) -> Field {
-        Field::new(name, Kind::Primitive, type_code, vec![])
+    pub fn primitive(name: impl AsRef<[u8]>, of: impl TypeCode) -> Field {
+        Field::new(name, Kind::Primitive, of.type_code(), vec![])
     }
 
     /// An optional struct of these members, with id 0.

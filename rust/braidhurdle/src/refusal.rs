@@ -121,7 +121,11 @@ numbered! {
         ParentGone = 22: "the receiving struct, or a record above it, is dropped as a member \
             of a struct or of the root",
         NoSurvivingColumn = 23: "an edit finds no column that stays",
-        EditNotAllowed = 24: "an edit that its column's role forbids, or a second rename of a column",
+        EditNotAllowed = 24: "an edit that its column's role forbids, or a second rename or \
+            widening of a column",
+        UnknownVersion = 25: "the format version is unknown",
+        StepNotAllowed = 26: "a widening of what is no primitive, or by a step that the version \
+            does not allow",
     }
 }
 

@@ -3,22 +3,24 @@
 use alloc::vec::Vec;
 
 use crate::field::{end, write};
-use crate::layout::{ENTRY_BYTES, edit, entry};
-use crate::{Field, FieldId, Overlong};
+use crate::layout::{ENTRY_BYTES, Edit, edit, entry};
+use crate::{Field, FieldId, Overlong, TypeCode, Version};
 
 /// What an update is asked to do: the columns to drop, to add and to edit, in this order, the last
-/// id that was handed out, and the ids of the identifier fields. Later versions may have more to
-/// ask for; what is not named has a default.
+/// id that was handed out, the format version, and the ids of the identifier fields. Later versions
+/// may have more to ask for; what is not named has a default.
 ///
 /// ```
-/// use braidhurdle::{Field, FieldId, Request};
+/// use braidhurdle::{Field, FieldId, Request, Type, Version};
 ///
 /// let request = Request::new(FieldId(10))
+///     .version(Version::V3)
 ///     .drop("node.cost")?
-///     .add_under("node", Field::primitive("cost", 3))?
-///     .add(Field::primitive("floor", 2))?
+///     .add_under("node", Field::primitive("cost", Type::Long))?
+///     .add(Field::primitive("floor", Type::Int))?
 ///     .rename("node.button", "push")?
 ///     .relax("parts.value")?
+///     .widen("visits.day", Type::Timestamp)?
 ///     .identifiers(&[FieldId(1)]);
 /// # Ok::<(), braidhurdle::Overlong>(())
 /// ```
@@ -27,6 +29,8 @@ pub struct Request {
     /// The last id that was handed out, or consumed: not the largest in the tree, since that one
     /// may have been dropped.
     pub last_id: FieldId,
+    /// The format version whose steps a widening goes by.
+    pub version: Version,
     /// The ids of the identifier fields, 4 bytes each.
     pub identifiers: Vec<u8>,
     /// The paths to drop, 8 bytes an entry.
@@ -42,10 +46,13 @@ pub struct Request {
 }
 
 /// A request whose bytes are lent: what [`Request`] owns, or parts of a message.
-#[derive(Clone, Copy, Debug, Default, PartialEq, Eq, Hash)]
+#[derive(Clone, Copy, Debug, PartialEq, Eq, Hash)]
 pub struct RequestRef<'a> {
     /// The last id that was handed out, or consumed.
     pub last_id: FieldId,
+    /// The number of the format version, as a message has it: one that is no [`Version`] is refused
+    /// with 25.
+    pub version: u32,
     /// The ids of the identifier fields, 4 bytes each.
     pub identifiers: &'a [u8],
     /// The paths to drop, 8 bytes an entry.
@@ -58,6 +65,22 @@ pub struct RequestRef<'a> {
     pub edits: &'a [u8],
     /// Paths and new names.
     pub pool: &'a [u8],
+}
+
+impl Default for RequestRef<'_> {
+    /// Nothing is asked for, and the version is the default one.
+    fn default() -> Self {
+        RequestRef {
+            last_id: FieldId::default(),
+            version: Version::default().number(),
+            identifiers: &[],
+            deletions: &[],
+            additions: &[],
+            added_records: &[],
+            edits: &[],
+            pool: &[],
+        }
+    }
 }
 
 impl Request {
@@ -123,13 +146,13 @@ impl Request {
     /// most, without a dot. Two can exchange their names:
     ///
     /// ```
-    /// use braidhurdle::{Field, FieldId, RefusalKind, Request, Tree, Updated};
+    /// use braidhurdle::{Field, FieldId, RefusalKind, Request, Tree, Type, Updated};
     ///
-    /// let [a, b] = [("a", 1), ("b", 2)].map(|(name, id)| Field::primitive(name, 2).id(FieldId(id)));
-    /// let tree = Tree::build(&[a, b])?;
+    /// let column = |id, name| Field::primitive(name, Type::Int).id(FieldId(id));
+    /// let tree = Tree::build(&[column(1, "a"), column(2, "b")])?;
     /// let request = Request::new(FieldId(2)).rename("a", "b")?.rename("b", "a")?;
     /// let Updated { tree, last_id } = tree.update(&request)?;
-    /// assert_eq!(tree.to_string(), "1 b: primitive 2\n2 a: primitive 2\n");
+    /// assert_eq!(tree.to_string(), "1 b: int\n2 a: int\n");
     ///
     /// // All paths are looked up in the tree as it was: there is no column `c` yet.
     /// let request = Request::new(last_id).rename("a", "c")?.relax("c")?;
@@ -149,7 +172,7 @@ impl Request {
         let name = name.as_ref();
         let length = u8::try_from(name.len()).map_err(|_| Overlong::Name(name.len()))?;
         let path = pooled(path.as_ref(), &mut self.pool)?;
-        self.edits.extend(edit(path, Some((end(&self.pool)?, length))));
+        self.edits.extend(edit(path, Edit::Rename(end(&self.pool)?, length)));
         self.pool.extend_from_slice(name);
         Ok(self)
     }
@@ -163,8 +186,44 @@ impl Request {
     /// What the layout can't hold.
     pub fn relax(mut self, path: impl AsRef<[u8]>) -> Result<Request, Overlong> {
         let path = pooled(path.as_ref(), &mut self.pool)?;
-        self.edits.extend(edit(path, None));
+        self.edits.extend(edit(path, Edit::Relax));
         Ok(self)
+    }
+
+    /// Also gives a column a wider type, by a step of the request's format version:
+    /// [`Type::steps`](crate::Type::steps) has them. It is a primitive of the tree as it was, one
+    /// that stays, in any role; its id is as it was. Each column is widened once at most.
+    ///
+    /// ```
+    /// use braidhurdle::{Field, FieldId, RefusalKind, Request, Tree, Type, Updated, Version};
+    ///
+    /// let price = Field::primitive("price", Type::Int).id(FieldId(1));
+    /// let tree = Tree::build(&[price, Field::primitive("day", Type::Date).id(FieldId(2))])?;
+    /// let request = Request::new(FieldId(2)).widen("price", Type::Long)?;
+    /// let Updated { tree, last_id } = tree.update(&request)?;
+    /// assert_eq!(tree.to_string(), "1 price: long\n2 day: date\n");
+    ///
+    /// // A date is widened by version 3 alone.
+    /// let request = Request::new(last_id).widen("day", Type::Timestamp)?;
+    /// let refusal = tree.update(&request).unwrap_err();
+    /// assert_eq!(refusal.kind(), Some(RefusalKind::StepNotAllowed));
+    /// assert!(tree.update(&request.version(Version::V3)).is_ok());
+    /// # Ok::<(), Box<dyn std::error::Error>>(())
+    /// ```
+    ///
+    /// # Errors
+    ///
+    /// What the layout can't hold.
+    pub fn widen(mut self, path: impl AsRef<[u8]>, to: impl TypeCode) -> Result<Request, Overlong> {
+        let path = pooled(path.as_ref(), &mut self.pool)?;
+        self.edits.extend(edit(path, Edit::Widen(to.type_code())));
+        Ok(self)
+    }
+
+    /// The same request by the steps of this format version. Without it they are those of 2.
+    #[must_use]
+    pub fn version(self, version: Version) -> Request {
+        Request { version, ..self }
     }
 
     /// The same request with these identifier fields. They can't be dropped. Each is a required
@@ -182,6 +241,7 @@ impl Request {
     pub fn lent(&self) -> RequestRef<'_> {
         RequestRef {
             last_id: self.last_id,
+            version: self.version.number(),
             identifiers: &self.identifiers,
             deletions: &self.deletions,
             additions: &self.additions,

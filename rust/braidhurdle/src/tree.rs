@@ -73,7 +73,7 @@ impl Tree {
     ///
     /// # Errors
     ///
-    /// Refusals 2 to 19 and 22 to 24.
+    /// Refusals 2 to 19, 22 to 24 and 26.
     pub fn update(&self, request: &Request) -> Result<Updated, Refusal> {
         let mut room = Room::boxed();
         let Updated { tree, last_id } = self.lent().update_in(request.lent(), &mut room)?;
@@ -242,7 +242,7 @@ impl<'a> TreeRef<'a> {
     ///
     /// # Errors
     ///
-    /// Refusals 2 to 19 and 22 to 24.
+    /// Refusals 2 to 19 and 22 to 26.
     pub fn update_in<'r>(
         self,
         request: RequestRef<'_>,
@@ -253,6 +253,7 @@ impl<'a> TreeRef<'a> {
             self.pool,
             request.identifiers,
             request.last_id.0,
+            request.version,
             request.deletions,
             request.additions,
             request.added_records,

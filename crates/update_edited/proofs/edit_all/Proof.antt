@@ -10,7 +10,7 @@ use Rattle.update_edited.proofs.edit_all.Tie as tie
 
 abbrev Inv-loop : tie.InvT-loop
 Inv-loop trees given plan index dropped drops marks₀ pool edits k₀ marks k =
-    Editing (trees-in trees) (given .base) (given .edits) (fields-in (trees-in trees) plan (given .base)) (dropped-ids (set-of dropped drops)) k marks
+    Editing (trees-in trees) (given .version) (given .base) (given .edits) (fields-in (trees-in trees) plan (given .base)) (dropped-ids (set-of dropped drops)) k marks
 
 abbrev μ-loop : tie.MeasureT-loop
 μ-loop trees given plan index dropped drops marks₀ pool edits k₀ marks k = given .edits - k
@@ -35,5 +35,5 @@ edit-all-spec =
     (λ c. let few = c .before .before .before .before .before .before .before .before .before .before .before .before .before .before .before .pre .0 .edits-there .few in let more = c .before .before .before .before .before .before .before .before .before .before .if1 .taken in search needs)  -- add-k
     (λ c. search needs)  -- loop-less
     (λ c. all-go _ _ _ _ _ (c .before .before .before .before .before .before .before .before .before .before .before .before .before .before .before .pre .0) _ (c .before .before .before .before .before .before .before .before .before .before .if1 .taken) _ _ (c .before .before .before .before .before .before .before .before .look-name .ensures) _ _ (c .before .before .before .before .before .before .before .before .before .edit-path-at .ensures) (c .before .before .before .before .before .before .before .before .before .before .before .before .loop .inv) _ (c .before .before .before .before .before .edit-one .ensures) _ _ (c .before .before .before .slot .given .1) (c .put-edit .ensures))  -- loop-again
-    (λ c. edit-ends _ _ _ _ _ _ _ (c .before .before .loop .inv) (c .if1 .left))  -- returns-2
+    (λ c. edit-ends _ _ _ _ _ _ _ _ (c .before .before .loop .inv) (c .if1 .left))  -- returns-2
     )

@@ -1,4 +1,4 @@
--- Nothing found or gone is 23; then the role and an earlier rename, then the dot.
+-- Nothing found or gone is 23; then what is asked of the column.
 use Rattle.update_edits.proofs.Deciding.{deciding}
 use borrow.Author.Needs.{needs}
 use Rattle.update_edits.proofs.edit_one.Statement.{statement}
@@ -15,12 +15,9 @@ edit-one-spec =
     (λ c κs. search (deciding, needs))  -- is-gone-requires
     (λ c. search needs)  -- cast-t16
     (λ c. search (deciding, needs))  -- returns-2
-    (λ c κs. search needs)  -- is-rename-requires
-    (λ c κs. search (deciding, needs))  -- is-barred-requires
-    (λ c. search needs)  -- cast-t19
+    (λ c κs. search (deciding, needs))  -- check-edit-requires
+    (λ c. search needs)  -- enum-known-r
     (λ c. search (deciding, needs))  -- returns-3
-    (λ c κs. search needs)  -- is-dotted-requires
-    (λ c. search needs)  -- cast-t22
+    (λ c. search needs)  -- enum-told-2
     (λ c. search (deciding, needs))  -- returns-4
-    (λ c. search (deciding, needs))  -- returns-5
     )

@@ -9,6 +9,8 @@ is-barred-spec =
     (tie.spec
     (λ c κs. search needs)  -- role-at-requires
     (λ c κs. search needs)  -- is-forbidden-requires
+    (λ c. search needs)  -- mul-mark
     (λ c. search needs)  -- element-copy-out-mark
+    (λ c κs. search needs)  -- is-again-requires
     (λ c. cc)  -- returns
     )

@@ -9,8 +9,9 @@ marked-source-spec =
     tie.close
     (tie.spec
     (λ c. search (sourcing, needs))  -- returns
-    (λ c. search needs)  -- element-copy-out-wide
-    (λ c κs. search needs)  -- wide-requires
+    (λ c. search needs)  -- mul-number-of
+    (λ c. search needs)  -- element-copy-out-number-of
+    (λ c κs. search needs)  -- number-of-requires
     (λ c. search (sourcing, needs))  -- returns-2
     (λ c. search needs)  -- add-result
     (λ c. search needs)  -- mul-result

@@ -7,9 +7,11 @@ pub put-edit-spec : {M : Type 1} → statement M
 put-edit-spec =
     tie.close
     (tie.spec
+    (λ c. search needs)  -- mul-mark
     (λ c. search needs)  -- element-copy-out-mark
-    (λ c κs. search needs)  -- is-rename-requires
+    (λ c κs. search needs)  -- what-at-requires
     (λ c κs. search needs)  -- with-edit-requires
+    (λ c. search needs)  -- mul-marks
     (λ c. search needs)  -- element-write-marks
     (λ c. cc)  -- returns
     )

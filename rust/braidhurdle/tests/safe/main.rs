@@ -3,7 +3,6 @@
 mod any_bytes;
 mod building;
 mod edits;
-mod examples;
 mod files;
 mod find_ids;
 mod folded;
@@ -16,4 +15,6 @@ mod room;
 mod t;
 mod tables;
 mod text;
+mod types;
+mod widenings;
 mod worked;
