@@ -264,9 +264,11 @@ fn wrong_ways_to_refuse_a_dropped_parent_are_found() {
     }
 }
 
-/// The base of a call, and each of its edits with the slot that its path finds; none where 2 to 6
-/// refuse.
-fn edits_of(call: &UpdateCall) -> Option<(Tree, Vec<(Option<usize>, Edit)>)> {
+/// Edits, each with the slot that its path finds.
+type Edits = Vec<(Option<usize>, Edit)>;
+
+/// The base of a call, and its edits; none where 2 to 6 refuse.
+fn edits_of(call: &UpdateCall) -> Option<(Tree, Edits)> {
     let tree = judge::read_tree(call.records, call.pool, judge::BASE).ok()?;
     let names = Names::of(&tree);
     let edits = judge::read_edits(call.edits, call.request_pool).ok()?;
@@ -358,12 +360,15 @@ fn instead(
     is
 }
 
+/// A rule that is none, and that the edit of a slot breaks.
+type Wrong = fn(&UpdateCall, usize, &Edit) -> bool;
+
 /// The refusal of an edit where an accepted one breaks a rule that is none.
 fn refused_edit_if(
     call: &UpdateCall,
     r: &mut [u8],
     n: &mut [u8],
-    (number, wrong): (u32, fn(&UpdateCall, usize, &Edit) -> bool),
+    (number, wrong): (u32, Wrong),
 ) -> Changed {
     let (mut other_r, mut other_n) = (r.to_vec(), n.to_vec());
     let answer = judge::update(call, &mut other_r, &mut other_n);
@@ -1112,12 +1117,19 @@ fn wrong_ways_to_ask_for_the_version_are_found() {
     }
 }
 
-/// What accepted widenings leave, told otherwise: by each column's old code and its new one.
+/// A column that is widened.
+struct Widened {
+    id: i32,
+    old: u32,
+    new: u32,
+}
+
+/// The codes that accepted widenings leave, told otherwise: of all of them the one at a place.
 fn widened_by(
     call: &UpdateCall,
     r: &mut [u8],
     n: &mut [u8],
-    other: fn(&[(i32, u32, u32)], usize) -> u32,
+    other: fn(&[Widened], usize) -> u32,
 ) -> Changed {
     let answer = judge::update(call, r, n);
     if answer.refusal == 0 {
@@ -1125,13 +1137,13 @@ fn widened_by(
         let column = |(slot, edit): &(Option<usize>, Edit)| match edit.change {
             Change::Widen(new) => {
                 let row = &tree.rows[slot.expect("it was accepted")];
-                Some((row.id, row.type_code, new))
+                Some(Widened { id: row.id, old: row.type_code, new })
             }
             _ => None,
         };
-        let all: Vec<(i32, u32, u32)> = edits.iter().filter_map(column).collect();
-        for at in 0..all.len() {
-            put_code(answer, r, all[at].0, other(&all, at));
+        let all: Vec<Widened> = edits.iter().filter_map(column).collect();
+        for (at, widened) in all.iter().enumerate() {
+            put_code(answer, r, widened.id, other(&all, at));
         }
     }
     answer
@@ -1301,16 +1313,16 @@ fn widenings_that_are_wrongly_refused_or_made_are_found() {
                 false => judge::update(c, r, n),
             }
         }),
-        ("no code is written", |c, r, n| widened_by(c, r, n, |all, at| all[at].1)),
-        ("the code of the first is written", |c, r, n| widened_by(c, r, n, |all, _| all[0].2)),
+        ("no code is written", |c, r, n| widened_by(c, r, n, |all, at| all[at].old)),
+        ("the code of the first is written", |c, r, n| widened_by(c, r, n, |all, _| all[0].new)),
         ("the code of the last is written", |c, r, n| {
-            widened_by(c, r, n, |all, _| all[all.len() - 1].2)
+            widened_by(c, r, n, |all, _| all[all.len() - 1].new)
         }),
         ("a byte of the code is written", |c, r, n| {
-            widened_by(c, r, n, |all, at| all[at].1 & !255 | all[at].2 & 255)
+            widened_by(c, r, n, |all, at| all[at].old & !255 | all[at].new & 255)
         }),
         ("two bytes of the code are written", |c, r, n| {
-            widened_by(c, r, n, |all, at| all[at].2 & 65_535)
+            widened_by(c, r, n, |all, at| all[at].new & 65_535)
         }),
     ];
     for (what, updated) in wrong {
