@@ -38,6 +38,7 @@ fn of(operation: &str, count: usize) -> impl Iterator<Item = u64> {
     (turn as u64..).step_by(OPERATIONS.len()).take(count)
 }
 
+/// What the first 4,000 of an operation meet: enough that one in a hundred is told from chance.
 fn tally_of(operation: &str) -> Tally {
     let mut tally = Tally::default();
     for n in of(operation, 4_000) {
@@ -118,6 +119,7 @@ fn edits_are_common() {
         _ => false,
     });
     let with = with.count() as u64;
+    // a sixth rename and relax, a sixth widen, and some of the others do too
     assert!(with * 3 > cases && with * 2 < cases, "{with} of {cases}");
 }
 
