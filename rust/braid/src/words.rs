@@ -62,6 +62,9 @@ impl<'a> Given<'a> {
         match (refusal.number, refusal.list, &self.ask) {
             (2, ..) => limits::passed(self).join("; "),
             (9, ..) => self.identifier(place),
+            (25, _, Asked::Update { asked, .. }) => {
+                format!("this update names {}, and there are 2 and 3", asked.version)
+            }
             (18, 0, Asked::Renumber { from }) => {
                 format!("{} records from {from}", self.tree.records.len() / RECORD_BYTES)
             }
