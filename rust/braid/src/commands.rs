@@ -58,16 +58,7 @@ pub fn answer(ask: Ask) -> Result<Vec<u8>, Fault> {
             let edits = edits.collect::<Result<Vec<_>, _>>()?;
             let (dropped, added, edits) = (&dropped, &added, &edits);
             let asked = changes::Asked { last_id, version, dropped, added, edits };
-            let request = request(&identifiers, asked).map_err(overlong)?;
-            let ask = Asked::Update { asked, request: &request };
-            let given = Given { identifiers: &identifiers, ask, ..given };
-            // the library is asked whether the version is one, so it goes there as a number
-            let (request, mut room) = (RequestRef { version, ..request.lent() }, Room::boxed());
-            let answer = tree.lent().update_in(request, &mut room);
-            let Updated { tree: answer, last_id } = answer.map_err(|why| given.refused(why))?;
-            let lines = Changes::of(&tree, asked).map(|changes| changes.lines());
-            let said = format!("{note}{}last id {last_id}\n", lines.unwrap_or_default());
-            write(Updated { tree: answer.to_tree(), last_id }.into(), &out, said)
+            update(Given { identifiers: &identifiers, ..given }, asked, &out, note)
         }
     }
 }
@@ -270,6 +261,19 @@ fn edited(given: &Given, edit: arguments::Edit) -> Result<Edit, Fault> {
         arguments::Edit::Widen(column, code) => (column, Change::Widen(code)),
     };
     Ok(Edit { path: path(given, column)?, change })
+}
+
+fn update(given: Given, asked: changes::Asked, out: &Out, note: String) -> Result<Vec<u8>, Fault> {
+    let request = request(given.identifiers, asked).map_err(overlong)?;
+    // as a number, so that the library says whether there is such a version
+    let request = RequestRef { version: asked.version, ..request.lent() };
+    let given = Given { ask: Asked::Update { asked, request }, ..given };
+    let mut room = Room::boxed();
+    let answer = given.tree.lent().update_in(request, &mut room);
+    let Updated { tree, last_id } = answer.map_err(|why| given.refused(why))?;
+    let lines = Changes::of(given.tree, asked).map(|changes| changes.lines());
+    let said = format!("{note}{}last id {last_id}\n", lines.unwrap_or_default());
+    write(Stored { tree: tree.to_tree(), last_id: Some(last_id) }, out, said)
 }
 
 fn request(identifiers: &[FieldId], asked: changes::Asked) -> Result<Request, Overlong> {

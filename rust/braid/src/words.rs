@@ -5,7 +5,7 @@ use std::path::Path;
 
 use braidhurdle::layout::{MOST_LEVELS, RECORD_BYTES, Record};
 use braidhurdle::names::quoted;
-use braidhurdle::{Column, Field, FieldId, Kind, Refusal, Request, Tree};
+use braidhurdle::{Column, Field, FieldId, Kind, Refusal, RequestRef, Tree};
 
 use crate::arguments::Addition;
 use crate::changes::{self, Changes, receiver};
@@ -29,7 +29,7 @@ pub enum Asked<'a> {
     Ids { asked: usize },
     Prune { chosen: usize },
     Renumber { from: FieldId },
-    Update { asked: changes::Asked<'a>, request: &'a Request },
+    Update { asked: changes::Asked<'a>, request: RequestRef<'a> },
 }
 
 impl<'a> Given<'a> {
