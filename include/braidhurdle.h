@@ -22,13 +22,13 @@
  *   0-3 id, signed            9  kind: 0 primitive, 1 struct, 2 list, 3 map     12-13 direct children
  *   4-7 name offset           10 bit 0 required, bit 1 has an initial default   16-19 type code, 0 unless primitive
  *   8   name length           11 is 0                                          20-23 attribute number (14-15 are 0)
- * Type codes are the host's own numbers: the library keeps them, and looks at none but 5 and 6, which no identifier may have. In
- * all examples 1 is boolean, 2 int, 3 long, 4 date, 5 float, 6 double, 7 timestamp, 8 timestamp_ns and 9 string.
+ * Type codes are those of the types that BRAIDHURDLE_TYPES and BRAIDHURDLE_TYPE_DECIMAL have. Any other code is a number that the
+ * host knows: the library keeps it, and never widens such a column. From version 8 on: before, only 5 and 6 had a meaning.
  * A path entry is 8 bytes: offset (4), length (2), has-path (1), then 0 (1). has-path is 1; or 0, with offset and length 0, for
  * an addition at the root. A list of ids is 4 bytes an id.
  * An edit is 16 bytes, and changes the column that its path finds. Path and new name stand in the pool of the request:
- *   0-3 path offset           6  1 renames, 2 relaxes (braidhurdle_edit)        8-11 new name offset, 0 unless it renames
- *   4-5 path length           7  is 0                                          12   new name length, likewise (13-15 are 0)
+ *   0-3 path offset           6  1 renames, 2 relaxes, 3 widens                 8-11 new name offset, or new type code, or 0
+ *   4-5 path length           7  is 0                                          12   new name length, or 0 (13-15 are 0)
  *
  * Identifiers are the ids of the columns by which rows are told apart. Each is in the tree, a primitive, required, neither float
  * nor double, and every record above it is a required struct: so no element, key or value is one, nor what is inside of it. The
@@ -53,7 +53,7 @@
 #include <stdint.h>
 
 /* The version of this boundary. It changes with any name, argument, result or size here, and with a call answered otherwise. */
-#define BRAIDHURDLE_VERSION 7
+#define BRAIDHURDLE_VERSION 8
 /* The least output buffers, in bytes. */
 #define BRAIDHURDLE_RECORD_ROOM 24576
 #define BRAIDHURDLE_NAME_ROOM 32768
@@ -85,7 +85,9 @@
     X(21, AMBIGUOUS, "two columns match at the same level where case is forgotten") \
     X(22, PARENT_GONE, "the receiving struct, or a record above it, is dropped as a member of a struct or of the root") \
     X(23, NO_SURVIVING_COLUMN, "an edit finds no column that stays") \
-    X(24, EDIT_NOT_ALLOWED, "an edit that its column's role forbids, or a second rename of a column")
+    X(24, EDIT_NOT_ALLOWED, "an edit that its column's role forbids, or a second rename or widening of a column") \
+    X(25, UNKNOWN_VERSION, "the format version is unknown") \
+    X(26, STEP_NOT_ALLOWED, "a widening of what is no primitive, or by a step that the version does not allow")
 
 /* Every list that a refusal may speak of: X(number, name, what it is). Later versions may have more of them. */
 #define BRAIDHURDLE_LISTS(X) \
@@ -97,6 +99,18 @@
     X(5, IDENTIFIERS, "identifiers") \
     X(6, EDITS, "edits")
 
+/* Every type but decimals: X(type code, name, what the table specification calls it). Later versions may have more of them. */
+#define BRAIDHURDLE_TYPES(X) \
+    X(1, BOOLEAN, "boolean") \
+    X(2, INT, "int") \
+    X(3, LONG, "long") \
+    X(4, DATE, "date") \
+    X(5, FLOAT, "float") \
+    X(6, DOUBLE, "double") \
+    X(7, TIMESTAMP, "timestamp") \
+    X(8, TIMESTAMP_NS, "timestamp_ns") \
+    X(9, STRING, "string")
+
 /* The values of `refusal`: BRAIDHURDLE_ACCEPTED, BRAIDHURDLE_SMALL_BUFFER, .. */
 #define BRAIDHURDLE_REFUSAL(number, name, says) BRAIDHURDLE_##name = number,
 enum braidhurdle_refusal { BRAIDHURDLE_ACCEPTED = 0, BRAIDHURDLE_REFUSALS(BRAIDHURDLE_REFUSAL) };
@@ -105,8 +119,17 @@ enum braidhurdle_refusal { BRAIDHURDLE_ACCEPTED = 0, BRAIDHURDLE_REFUSALS(BRAIDH
 #define BRAIDHURDLE_LIST(number, name, what) BRAIDHURDLE_LIST_##name = number,
 enum braidhurdle_list { BRAIDHURDLE_LISTS(BRAIDHURDLE_LIST) };
 
-/* Byte 6 of an edit: a new name; or no longer required. Later versions may have more of them. */
-enum braidhurdle_edit { BRAIDHURDLE_RENAME = 1, BRAIDHURDLE_RELAX = 2 };
+/* Type codes: BRAIDHURDLE_TYPE_BOOLEAN, .. */
+#define BRAIDHURDLE_TYPE(code, name, word) BRAIDHURDLE_TYPE_##name = code,
+enum braidhurdle_type { BRAIDHURDLE_TYPES(BRAIDHURDLE_TYPE) };
+/* The type code of decimal(precision,scale): precision 1 to 38, scale 0 to precision. With other numbers it is no type's. */
+#define BRAIDHURDLE_TYPE_DECIMAL(precision, scale) (65536 + 256 * (uint32_t)(precision) + (uint32_t)(scale))
+
+/* Byte 6 of an edit: a new name; or no longer required; or a wider type. Later versions may have more of them. */
+enum braidhurdle_edit { BRAIDHURDLE_RENAME = 1, BRAIDHURDLE_RELAX = 2, BRAIDHURDLE_WIDEN = 3 };
+
+/* The format versions of a table, by whose steps an update widens. Later versions may have more of them. */
+enum braidhurdle_format { BRAIDHURDLE_FORMAT_2 = 2, BRAIDHURDLE_FORMAT_3 = 3 };
 
 #ifdef __cplusplus
 extern "C" {
@@ -142,9 +165,9 @@ struct braidhurdle_name {
     uint32_t offset, length;
 };
 
-/* Answers 7, the version of this boundary, which its name has too: an archive of another version has another name here. A program
+/* Answers 8, the version of this boundary, which its name has too: an archive of another version has another name here. A program
  * that refers to it therefore links with no archive whose functions are declared otherwise. */
-uint32_t braidhurdle_abi_7(void);
+uint32_t braidhurdle_abi_8(void);
 
 /* Drops, adds and edits columns. Deletions and additions are path entries into request_pool; the k-th root of added_records
  * belongs to the k-th addition, its names too stand in request_pool, and ids in it are ignored. Ids are handed out from last_id +
@@ -159,10 +182,18 @@ uint32_t braidhurdle_abi_7(void);
  * key or value, for a second rename of a column, and for a relaxing of a key, an optional one too; 13 for a dot in the new name.
  * Two columns can exchange their names; but a name that a rename frees is still taken for an addition (17). Two columns of one
  * name in the end are refused with 8, list 4, and a relaxed identifier, or one below what is relaxed, with 9. From version 7 on:
- * before, there was no argument `edits`, and without edits nothing is answered otherwise. */
+ * before, there was no argument `edits`, and without edits nothing is answered otherwise.
+ *
+ * A widening gives a primitive a wider type, in any role, by a step of the format version (braidhurdle_format). 2: int to long,
+ * float to double, a decimal to a higher precision with equal scale. 3: these, date to timestamp and date to timestamp_ns. Of each
+ * edit, list 6: 24 for a second widening of a column; then 26 where the column is no primitive, or the format version has no step
+ * from its type, as it was, to the new one: so none to the same type, and none from or to a code that no type has. A column may be
+ * renamed, relaxed and widened at once, and an identifier that is widened stays one. Every update names a format version: another
+ * than 2 and 3 is refused with 25, list 0, place 0, after 2 and before all else. From version 8 on: before, there was no argument
+ * `version`, and with 2 or 3 and without widenings nothing is answered otherwise. */
 struct braidhurdle_changed braidhurdle_update(
     const uint8_t *records, size_t records_len, const uint8_t *pool, size_t pool_len,
-    const uint8_t *identifiers, size_t identifiers_len, int32_t last_id,
+    const uint8_t *identifiers, size_t identifiers_len, int32_t last_id, uint32_t version,
     const uint8_t *deletions, size_t deletions_len, const uint8_t *additions, size_t additions_len,
     const uint8_t *added_records, size_t added_records_len, const uint8_t *edits, size_t edits_len,
     const uint8_t *request_pool, size_t request_pool_len,

@@ -5,7 +5,8 @@
  *     target/calls
  *
  * It prints each answer, and ends with another status than 0 if one is not what 01 says, or 02 where case is forgotten (1/13),
- * where many ids are looked up (2/13), of additions to what is dropped (3/13), of identifiers (4/13) and of edits (5/13). */
+ * where many ids are looked up (2/13), of additions to what is dropped (3/13), of identifiers (4/13), of edits (5/13) and of
+ * wider types (6/13). */
 #include <stdio.h>
 #include <string.h>
 
@@ -19,6 +20,7 @@
 #define ROOT WORD(0), 0, 0, 0, 0
 #define RENAME(offset, length, name, name_length) WORD(offset), length, 0, BRAIDHURDLE_RENAME, 0, WORD(name), name_length, 0, 0, 0
 #define RELAX(offset, length) WORD(offset), length, 0, BRAIDHURDLE_RELAX, 0, WORD(0), 0, 0, 0, 0
+#define WIDEN(offset, length, code) WORD(offset), length, 0, BRAIDHURDLE_WIDEN, 0, WORD(code), 0, 0, 0, 0
 
 enum { PRIMITIVE, STRUCT, LIST, MAP };
 enum { OPTIONAL, REQUIRED };
@@ -184,15 +186,15 @@ static void updates(void)
     fresh();
     memcpy(expected, t, sizeof t);
     expected[2 * RECORD_BYTES] = 11;
-    a = braidhurdle_update(T, NOTHING, 10, drop, sizeof drop, under_node, sizeof under_node, cost, sizeof cost, NOTHING,
+    a = braidhurdle_update(T, NOTHING, 10, BRAIDHURDLE_FORMAT_2, ARRAY(drop), ARRAY(under_node), ARRAY(cost), NOTHING,
                            request_pool, 14, ROOM);
     held("update: node.cost dropped and added again has id 11 (P4)", answered(a, expected, sizeof expected, names));
     held("update: the last id is 11", a.last_id == 11);
     fresh();
-    a = braidhurdle_update(T, NOTHING, 10, NOTHING, at_root_twice, sizeof at_root_twice, floor_twice, sizeof floor_twice, NOTHING,
+    a = braidhurdle_update(T, NOTHING, 10, BRAIDHURDLE_FORMAT_2, NOTHING, ARRAY(at_root_twice), ARRAY(floor_twice), NOTHING,
                            request_pool, 14, ROOM);
     held("update: floor twice is refused with 8 at list 4, place 11, and nothing is written (P7)", refused(a, 8, 4, 11));
-    a = braidhurdle_update(T, NOTHING, 10, drop_node, sizeof drop_node, under_node, sizeof under_node, cost, sizeof cost, NOTHING,
+    a = braidhurdle_update(T, NOTHING, 10, BRAIDHURDLE_FORMAT_2, ARRAY(drop_node), ARRAY(under_node), ARRAY(cost), NOTHING,
                            request_pool, 14, ROOM);
     held("update: cost under node, which is dropped, is refused with 22 at list 3, place 0",
          refused(a, BRAIDHURDLE_PARENT_GONE, BRAIDHURDLE_LIST_ADDITIONS, 0));
@@ -264,7 +266,7 @@ static void identifying(void)
     struct braidhurdle_changed a;
 
     memcpy(floats, keyed, sizeof keyed);
-    floats[RECORD_BYTES + 16] = 5;
+    floats[RECORD_BYTES + 16] = BRAIDHURDLE_TYPE_FLOAT;
     memcpy(within_optional, keyed, sizeof keyed);
     within_optional[10] = OPTIONAL;
 #define RENUMBERED(tree, ids) \
@@ -278,12 +280,12 @@ static void identifying(void)
     held("identifiers: so is a column below an optional struct", no_identifier(RENUMBERED(within_optional, both), 1));
     a = braidhurdle_renumber(T, key, sizeof key, 1, ROOM, identifiers, sizeof identifiers);
     held("identifiers: so is a map's key", no_identifier(a, 0));
-    a = braidhurdle_update(KEYED, optional, sizeof optional, 4, NOTHING, NOTHING, NOTHING, NOTHING, NOTHING, ROOM);
+    a = braidhurdle_update(KEYED, ARRAY(optional), 4, BRAIDHURDLE_FORMAT_2, NOTHING, NOTHING, NOTHING, NOTHING, NOTHING, ROOM);
     held("identifiers: an update asks that of the tree that it is given", no_identifier(a, 1));
-    a = braidhurdle_update(KEYED, both, sizeof both, 4, node, sizeof node, NOTHING, NOTHING, NOTHING, (const uint8_t *)"node", 4,
-                           ROOM);
+    a = braidhurdle_update(KEYED, ARRAY(both), 4, BRAIDHURDLE_FORMAT_2, ARRAY(node), NOTHING, NOTHING, NOTHING,
+                           (const uint8_t *)"node", 4, ROOM);
     held("identifiers: and of the tree that it would write", no_identifier(a, 1));
-    a = braidhurdle_update(KEYED, both, sizeof both, 4, NOTHING, NOTHING, NOTHING, NOTHING, NOTHING, ROOM);
+    a = braidhurdle_update(KEYED, ARRAY(both), 4, BRAIDHURDLE_FORMAT_2, NOTHING, NOTHING, NOTHING, NOTHING, NOTHING, ROOM);
     held("identifiers: required columns below required structs are accepted", answered(a, keyed, sizeof keyed, keyed_names));
 }
 
@@ -300,7 +302,7 @@ static void edits(void)
     struct braidhurdle_changed a;
 
 #define EDITED(identifiers, deletions, edits) \
-    braidhurdle_update(KEYED, identifiers, 4, deletions, NOTHING, NOTHING, edits, sizeof edits, \
+    braidhurdle_update(KEYED, identifiers, 4, BRAIDHURDLE_FORMAT_2, deletions, NOTHING, NOTHING, edits, sizeof edits, \
                        (const uint8_t *)request_names, sizeof request_names - 1, ROOM)
     fresh();
     memcpy(expected, keyed, sizeof keyed);
@@ -328,15 +330,68 @@ static void edits(void)
     held("edits: an identifier that is relaxed is refused with 9", no_identifier(a, 1));
 }
 
+static void set_type(uint8_t *tree, size_t slot, uint32_t code)
+{
+    const uint8_t word[] = {WORD(code)};
+    memcpy(tree + slot * RECORD_BYTES + 16, word, sizeof word);
+}
+
+/* Wider types (02, 6/13), by the steps of the format version that is named. */
+static void widenings(void)
+{
+    /* node at 0, node.serial too, node.cost at 11, site at 20 */
+    static const char request_names[] = "node.serialnode.costsite";
+    const uint32_t price = BRAIDHURDLE_TYPE_DECIMAL(9, 2), wide_price = BRAIDHURDLE_TYPE_DECIMAL(18, 2);
+    const uint8_t wider[] = {WIDEN(0, 11, BRAIDHURDLE_TYPE_LONG), WIDEN(11, 9, wide_price)};
+    const uint8_t to_timestamp[] = {WIDEN(20, 4, BRAIDHURDLE_TYPE_TIMESTAMP)}, structure[] = {WIDEN(0, 4, BRAIDHURDLE_TYPE_LONG)};
+    const uint8_t twice[] = {WIDEN(0, 11, BRAIDHURDLE_TYPE_LONG), WIDEN(0, 11, BRAIDHURDLE_TYPE_LONG)};
+    const uint8_t no_type[] = {WIDEN(0, 11, 77)}, serial[] = {WORD(2)};
+    uint8_t typed[sizeof keyed], expected[sizeof keyed];
+    struct braidhurdle_changed a;
+
+    memcpy(typed, keyed, sizeof keyed);
+    set_type(typed, 1, BRAIDHURDLE_TYPE_INT);
+    set_type(typed, 2, price);
+    set_type(typed, 3, BRAIDHURDLE_TYPE_DATE);
+#define WIDENED(version, edits) \
+    braidhurdle_update(ARRAY(typed), (const uint8_t *)keyed_names, sizeof keyed_names - 1, ARRAY(serial), 4, version, NOTHING, \
+                       NOTHING, NOTHING, edits, (const uint8_t *)request_names, sizeof request_names - 1, ROOM)
+    fresh();
+    memcpy(expected, typed, sizeof typed);
+    set_type(expected, 1, BRAIDHURDLE_TYPE_LONG);
+    set_type(expected, 2, wide_price);
+    a = WIDENED(BRAIDHURDLE_FORMAT_2, ARRAY(wider));
+    held("widenings: an int is long and a decimal has more digits, ids and all else as they were; the first still identifies",
+         answered(a, ARRAY(expected), keyed_names) && a.last_id == 4);
+    fresh();
+    a = WIDENED(BRAIDHURDLE_FORMAT_2, ARRAY(to_timestamp));
+    held("widenings: format version 2 refuses date to timestamp with 26",
+         refused(a, BRAIDHURDLE_STEP_NOT_ALLOWED, BRAIDHURDLE_LIST_EDITS, 0));
+    a = WIDENED(BRAIDHURDLE_FORMAT_3, ARRAY(structure));
+    held("widenings: a struct is refused with 26", refused(a, BRAIDHURDLE_STEP_NOT_ALLOWED, BRAIDHURDLE_LIST_EDITS, 0));
+    a = WIDENED(BRAIDHURDLE_FORMAT_3, ARRAY(no_type));
+    held("widenings: so is a code that no type has", refused(a, BRAIDHURDLE_STEP_NOT_ALLOWED, BRAIDHURDLE_LIST_EDITS, 0));
+    a = WIDENED(BRAIDHURDLE_FORMAT_3, ARRAY(twice));
+    held("widenings: a second one of a column is refused with 24",
+         refused(a, BRAIDHURDLE_EDIT_NOT_ALLOWED, BRAIDHURDLE_LIST_EDITS, 1));
+    a = WIDENED(4, NOTHING);
+    held("widenings: format version 4 is refused with 25, though nothing is widened",
+         refused(a, BRAIDHURDLE_UNKNOWN_VERSION, BRAIDHURDLE_LIST_BASE, 0));
+    memcpy(expected, typed, sizeof typed);
+    set_type(expected, 3, BRAIDHURDLE_TYPE_TIMESTAMP);
+    a = WIDENED(BRAIDHURDLE_FORMAT_3, ARRAY(to_timestamp));
+    held("widenings: format version 3 has date to timestamp", answered(a, ARRAY(expected), keyed_names));
+}
+
 /* A list of length 0 may be null; so may a buffer, which is then below its size. */
 static void nulls(void)
 {
     struct braidhurdle_changed a;
 
     fresh();
-    a = braidhurdle_update(NOTHING, NOTHING, NOTHING, 10, NOTHING, NOTHING, NOTHING, NOTHING, NOTHING, ROOM);
+    a = braidhurdle_update(NOTHING, NOTHING, NOTHING, 10, BRAIDHURDLE_FORMAT_2, NOTHING, NOTHING, NOTHING, NOTHING, NOTHING, ROOM);
     held("null: an update of nothing by nothing gives nothing", answered(a, t, 0, "") && a.last_id == 10);
-    a = braidhurdle_update(T, NOTHING, 10, NOTHING, NOTHING, NOTHING, NOTHING, NOTHING, ROOM);
+    a = braidhurdle_update(T, NOTHING, 10, BRAIDHURDLE_FORMAT_2, NOTHING, NOTHING, NOTHING, NOTHING, NOTHING, ROOM);
     held("null: T updated by nothing is T", answered(a, t, sizeof t, names) && a.last_id == 10);
     fresh();
     held("null: nothing pruned", answered(braidhurdle_prune(NOTHING, NOTHING, NOTHING, 1, ROOM), t, 0, ""));
@@ -349,8 +404,9 @@ static void nulls(void)
     held("null: no column of that id", nothing(braidhurdle_find_id(NOTHING, NOTHING, 1)));
     held("null: no ids", searched(braidhurdle_find_ids(T, NOTHING, NOTHING), 0, 0));
     held("null: no column above it", nothing(braidhurdle_find_parent(NOTHING, NOTHING, 1)));
+    a = braidhurdle_update(T, NOTHING, 10, BRAIDHURDLE_FORMAT_2, NOTHING, NOTHING, NOTHING, NOTHING, NOTHING, NOTHING, NOTHING);
     held("null: no room is refused with 1",
-         refused(braidhurdle_update(T, NOTHING, 10, NOTHING, NOTHING, NOTHING, NOTHING, NOTHING, NOTHING, NOTHING), 1, 0, 0) &&
+         refused(a, 1, 0, 0) &&
              refused(braidhurdle_prune(T, NOTHING, 0, NOTHING, NOTHING), 1, 0, 0) &&
              refused(braidhurdle_renumber(T, NOTHING, 1, NOTHING, NOTHING, NOTHING), 1, 0, 0) &&
              searched(braidhurdle_find_ids(T, t, 4, NOTHING), 1, 0));
@@ -358,7 +414,7 @@ static void nulls(void)
 
 int main(void)
 {
-    held("abi_7: the version is the header's", braidhurdle_abi_7() == BRAIDHURDLE_VERSION);
+    held("abi_8: the version is the header's", braidhurdle_abi_8() == BRAIDHURDLE_VERSION);
     look_ups();
     look_ups_without_case();
     look_ups_of_many_ids();
@@ -368,6 +424,7 @@ int main(void)
     renumberings();
     identifying();
     edits();
+    widenings();
     nulls();
     return failed;
 }

@@ -16,7 +16,6 @@
 
 #include "braidhurdle.h"
 
-enum { INT = 2, STRING = 9 }; /* type codes, as in all examples */
 enum { RECORD_BYTES = 24, ENTRY_BYTES = 8, EDIT_BYTES = 16, ENTRIES = 64, PATHS = 4096, PATH = 1024 };
 
 /* A tree in memory, and the last id. There is room for one byte more than a tree may have, so that the library sees a file that
@@ -108,6 +107,11 @@ static void relax(struct request *q, const char *path)
     edit(q, path, BRAIDHURDLE_RELAX);
 }
 
+static void widen(struct request *q, const char *path, uint32_t type_code)
+{
+    put32(edit(q, path, BRAIDHURDLE_WIDEN) + 8, type_code);
+}
+
 /* ---- refusals */
 
 static const char *meaning(uint32_t refusal)
@@ -128,6 +132,8 @@ static void asked(const struct request *q, const char *what, uint32_t offset, in
 
 static void tell(const struct request *q, struct braidhurdle_changed a)
 {
+    static const char *const does[] = {
+        [BRAIDHURDLE_RENAME] = "rename", [BRAIDHURDLE_RELAX] = "relax", [BRAIDHURDLE_WIDEN] = "widen"};
     /* a place in a list of the request is one of its entries; in a tree it is a slot */
     const uint8_t *dropped = q->deletions + a.place * ENTRY_BYTES, *added = q->added + a.place * RECORD_BYTES;
     const uint8_t *edited = q->edits + a.place * EDIT_BYTES;
@@ -137,7 +143,7 @@ static void tell(const struct request *q, struct braidhurdle_changed a)
     else if (a.list == BRAIDHURDLE_LIST_ADDITIONS)
         asked(q, "add", get32(added + 4), added[8]);
     else if (a.list == BRAIDHURDLE_LIST_EDITS)
-        asked(q, edited[6] == BRAIDHURDLE_RENAME ? "rename" : "relax", get32(edited), edited[4] | edited[5] << 8);
+        asked(q, does[edited[6]], get32(edited), edited[4] | edited[5] << 8);
     /* what can be mended is told apart by the number */
     if (a.refusal == BRAIDHURDLE_NO_SUCH_COLUMN)
         fputs("  leave it out: the tree has no such column, or no longer\n", stderr);
@@ -145,6 +151,8 @@ static void tell(const struct request *q, struct braidhurdle_changed a)
         fputs("  drop the column of that name in the same request, or choose another name\n", stderr);
     else if (a.refusal == BRAIDHURDLE_NO_SURVIVING_COLUMN)
         fputs("  name a column as the tree has it now, and one that the request does not drop\n", stderr);
+    else if (a.refusal == BRAIDHURDLE_STEP_NOT_ALLOWED)
+        fputs("  leave its type, or add a column of the other type: the table's format version has no such step\n", stderr);
 }
 
 /* ---- files */
@@ -215,13 +223,15 @@ static int store(const char *stem, const struct tree *t)
 
 /* ---- the library */
 
-/* The tree after a request goes to another one: what is written must share no byte with what is read. */
+/* The tree after a request goes to another one: what is written must share no byte with what is read. The tables of these nodes
+ * are of format version 2. */
 static uint32_t update(const struct tree *from, const struct request *q, struct tree *to)
 {
     struct braidhurdle_changed a = braidhurdle_update(
         from->records, from->records_len, from->names, from->names_len, identifiers, sizeof identifiers, from->last_id,
-        q->deletions, q->dropped * ENTRY_BYTES, q->additions, q->adds * ENTRY_BYTES, q->added, q->adds * RECORD_BYTES,
-        q->edits, q->edited * EDIT_BYTES, q->pool, q->pool_len, to->records, sizeof to->records, to->names, sizeof to->names);
+        BRAIDHURDLE_FORMAT_2, q->deletions, q->dropped * ENTRY_BYTES, q->additions, q->adds * ENTRY_BYTES, q->added,
+        q->adds * RECORD_BYTES, q->edits, q->edited * EDIT_BYTES, q->pool, q->pool_len, to->records, sizeof to->records,
+        to->names, sizeof to->names);
     if (a.refusal != BRAIDHURDLE_ACCEPTED) {
         tell(q, a);
         return a.refusal;
@@ -235,7 +245,7 @@ static uint32_t update(const struct tree *from, const struct request *q, struct 
 int main(int argc, char **argv)
 {
     static struct tree now, next;
-    static struct request board_5, board_6, board_7;
+    static struct request board_5, board_6, board_7, board_8;
     static const char duration[] = "visits.duration";
 
     if (argc != 3) {
@@ -244,12 +254,14 @@ int main(int argc, char **argv)
     }
     if (!load(argv[1], &now)) return 3;
 
-    /* The next board tells no fitter, but how long a visit took; and its country. It says failures, and may have no battery. */
+    /* The next board tells no fitter, but how long a visit took; and its country. It says failures, may have no battery, and
+     * counts more alarms than an int holds. */
     drop(&board_5, "visits.fitter");
-    add(&board_5, "visits", "duration", INT);
-    add(&board_5, NULL, "country", STRING);
+    add(&board_5, "visits", "duration", BRAIDHURDLE_TYPE_INT);
+    add(&board_5, NULL, "country", BRAIDHURDLE_TYPE_STRING);
     rename_column(&board_5, "faults", "failures");
     relax(&board_5, "node.battery");
+    widen(&board_5, "alarms.count", BRAIDHURDLE_TYPE_LONG);
     if (update(&now, &board_5, &next) != BRAIDHURDLE_ACCEPTED) return 2;
     if (!store(argv[2], &next)) return 3;
     printf("%s: last id %ld, was %ld\n", argv[2], (long)next.last_id, (long)now.last_id);
@@ -262,9 +274,12 @@ int main(int argc, char **argv)
     if (f.refusal != BRAIDHURDLE_ACCEPTED || !f.found || f.id <= before) return 2;
     printf("%s is column %ld, today at slot %u\n", duration, (long)f.id, (unsigned)f.slot);
 
-    /* A column can't be dropped twice, and no column is named faults any more. Each refusal is told, and nothing has changed. */
+    /* A column can't be dropped twice, no column is named faults any more, and a date becomes a timestamp by format version 3
+     * alone. Each refusal is told, and nothing has changed. */
     drop(&board_6, "visits.fitter");
     if (update(&now, &board_6, &next) != BRAIDHURDLE_NO_SUCH_COLUMN) return 2;
     relax(&board_7, "faults");
-    return update(&now, &board_7, &next) == BRAIDHURDLE_NO_SURVIVING_COLUMN ? 0 : 2;
+    if (update(&now, &board_7, &next) != BRAIDHURDLE_NO_SURVIVING_COLUMN) return 2;
+    widen(&board_8, "visits.day", BRAIDHURDLE_TYPE_TIMESTAMP);
+    return update(&now, &board_8, &next) == BRAIDHURDLE_STEP_NOT_ALLOWED ? 0 : 2;
 }

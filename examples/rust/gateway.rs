@@ -5,24 +5,22 @@ use std::error::Error;
 use std::{env, fs, process};
 
 use braidhurdle::files::{Over, Stored};
-use braidhurdle::{Field, FieldId, Mode, RefusalKind, Request, Tree, Updated};
-
-/// Type codes are the host's own, here those of all examples; the library looks at none but 5 and
-/// 6, which no identifier may have.
-const INT: u32 = 2;
-const DATE: u32 = 4;
+use braidhurdle::{Field, FieldId, Mode, RefusalKind, Request, Tree, Type, Updated, Version};
 
 fn main() -> Result<(), Box<dyn Error>> {
     let (tree, last_id) = first()?;
     print("as it was built", &tree)?;
 
-    // The next revision reports a fault with each visit, has no floor, and calls a button a switch:
-    // that is the same column, and so it has the same id.
+    // The next revision reports a fault with each visit, has no floor, calls a button a switch, and
+    // tells the time of a visit, not only its day. What is renamed or widened is the same column,
+    // and so it has the same id. Only format version 3 makes a date a timestamp.
     let request = Request::new(last_id)
+        .version(Version::V3)
         .identifiers(&[FieldId(1)])
         .drop("floor")?
-        .add_under("visits", Field::primitive("fault", INT))?
-        .rename("button", "switch")?;
+        .add_under("visits", Field::primitive("fault", Type::Int))?
+        .rename("button", "switch")?
+        .widen("visits.day", Type::Timestamp)?;
     let updated = tree.update(&request)?;
     print("after the update", &updated.tree)?;
 
@@ -77,11 +75,13 @@ fn stored_and_read(updated: Updated) -> Result<(Tree, FieldId), Box<dyn Error>> 
 
 /// A first schema, with ids of our own, and its last id.
 fn first() -> Result<(Tree, FieldId), Box<dyn Error>> {
-    let day = Field::primitive("day", DATE).id(FieldId(5));
+    let day = Field::primitive("day", Type::Date).id(FieldId(5));
     let visit = Field::structure("element", [day]).id(FieldId(4));
     let tree = Tree::build(&[
-        Field::primitive("button", INT).id(FieldId(1)).required(),
-        Field::primitive("floor", INT).id(FieldId(2)),
+        Field::primitive("button", Type::Int)
+            .id(FieldId(1))
+            .required(),
+        Field::primitive("floor", Type::Int).id(FieldId(2)),
         Field::list("visits", visit).id(FieldId(3)),
     ])?;
     Ok((tree, FieldId(5)))
@@ -90,13 +90,7 @@ fn first() -> Result<(Tree, FieldId), Box<dyn Error>> {
 fn print(what: &str, tree: &Tree) -> Result<(), Box<dyn Error>> {
     println!("{what}:");
     for column in tree.columns()? {
-        let name = String::from_utf8_lossy(column.name);
-        println!(
-            "{}{} {name}: {}",
-            "  ".repeat(column.level),
-            column.id,
-            column.kind
-        );
+        println!("{}{column}", "  ".repeat(column.level));
     }
     Ok(())
 }

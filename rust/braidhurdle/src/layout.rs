@@ -27,10 +27,10 @@ pub const RECORD_ROOM: usize = 24_576;
 /// Name bytes that an output buffer must hold.
 pub const NAME_ROOM: usize = 32_768;
 
-/// The type code of a float. The library looks at this code and at [`DOUBLE`], and at no other:
-/// an identifier has neither.
+/// The type code of a float, [`Type::Float`](crate::Type::Float). An identifier has neither this
+/// code nor [`DOUBLE`].
 pub const FLOAT: u32 = 5;
-/// The type code of a double.
+/// The type code of a double, [`Type::Double`](crate::Type::Double).
 pub const DOUBLE: u32 = 6;
 
 /// What a column is.
@@ -174,30 +174,24 @@ pub(crate) fn entry(offset: u32, length: u16, has_path: bool) -> [u8; ENTRY_BYTE
 pub const RENAME: u8 = 1;
 /// Byte 6 of an edit: no longer required.
 pub const RELAX: u8 = 2;
-
 /// Byte 6 of an edit: a wider type.
 pub const WIDEN: u8 = 3;
 
 /// What an edit does.
 pub(crate) enum Edit {
-    /// The offset and length of the new name.
-    Rename {
-        offset: u32,
-        length: u8,
-    },
+    /// Gives the new name of this offset and length.
+    Rename(u32, u8),
     Relax,
-    /// The new type code.
-    Widen {
-        code: u32,
-    },
+    /// Gives this type code.
+    Widen(u32),
 }
 
 /// An edit's 16 bytes, with the offset and length of its path.
 pub(crate) fn edit((offset, length): (u32, u16), what: Edit) -> [u8; EDIT_BYTES] {
     let (number, word, byte) = match what {
-        Edit::Rename { offset, length } => (RENAME, offset, length),
+        Edit::Rename(offset, length) => (RENAME, offset, length),
         Edit::Relax => (RELAX, 0, 0),
-        Edit::Widen { code } => (WIDEN, code, 0),
+        Edit::Widen(code) => (WIDEN, code, 0),
     };
     let mut b = [0; EDIT_BYTES];
     b[..ENTRY_BYTES].copy_from_slice(&entry(offset, length, true));

@@ -12,15 +12,13 @@
 //! # Change a schema
 //!
 //! ```
-//! use braidhurdle::{Field, FieldId, Request, Tree, Updated};
+//! use braidhurdle::{Field, FieldId, Request, Tree, Type, Updated};
 //!
-//! // A schema of two columns; the second has one inside. The type codes are your own, but for 5
-//! // and 6, which no identifier may have; in all examples 1 is boolean, 2 int, 3 long, 4 date,
-//! // 5 float, 6 double, 7 timestamp, 8 timestamp_ns and 9 string.
-//! let day = Field::primitive("day", 4).id(FieldId(3));
+//! // A schema of two columns; the second has one inside.
+//! let day = Field::primitive("day", Type::Date).id(FieldId(3));
 //! let element = Field::structure("element", [day]).id(FieldId(4));
 //! let tree = Tree::build(&[
-//!     Field::primitive("button", 2).id(FieldId(1)).required(),
+//!     Field::primitive("button", Type::Int).id(FieldId(1)).required(),
 //!     Field::list("visits", element).id(FieldId(2)),
 //! ])?;
 //!
@@ -28,9 +26,10 @@
 //! // the tree is not enough, since that column may have been dropped.
 //! let request = Request::new(FieldId(4))
 //!     .drop("visits.day")?
-//!     .add_under("visits", Field::primitive("day", 9))?
-//!     .add(Field::primitive("floor", 2))?
+//!     .add_under("visits", Field::primitive("day", Type::String))?
+//!     .add(Field::primitive("floor", Type::Int))?
 //!     .rename("button", "switch")?
+//!     .widen("button", Type::Long)?
 //!     .identifiers(&[FieldId(1)]);
 //! let Updated { tree, last_id } = tree.update(&request)?;
 //! assert_eq!(last_id, FieldId(6));
@@ -38,7 +37,7 @@
 //! // The new `day` is another column than the old one.
 //! assert_eq!(tree.find_name("visits.day")?.map(|(id, _)| id), Some(FieldId(5)));
 //! assert_eq!(tree.find_id(FieldId(3))?, None);
-//! // A renamed column is the same one.
+//! // A renamed and widened column is the same one.
 //! assert_eq!(tree.find_name("switch")?.map(|(id, _)| id), Some(FieldId(1)));
 //! # Ok::<(), Box<dyn std::error::Error>>(())
 //! ```
@@ -51,15 +50,15 @@
 //!
 //! ```
 //! # use braidhurdle::{Field, FieldId};
-//! use braidhurdle::{Mode, Refusal, RefusalKind, Tree};
+//! use braidhurdle::{Mode, Refusal, RefusalKind, Tree, Type};
 //!
-//! let day = Field::primitive("day", 4).id(FieldId(2));
+//! let day = Field::primitive("day", Type::Date).id(FieldId(2));
 //! let mut tree = Tree::build(&[Field::structure("visit", [day]).id(FieldId(1))])?;
 //!
 //! // For people, a tree is its picture. Programs read it column by column.
-//! assert_eq!(tree.to_string(), "1 visit: struct\n  2 day: primitive 4\n");
-//! let codes: Vec<u32> = tree.columns()?.map(|column| column.type_code).collect();
-//! assert_eq!(codes, [0, 4]);
+//! assert_eq!(tree.to_string(), "1 visit: struct\n  2 day: date\n");
+//! let types = tree.columns()?.map(|column| Type::of_code(column.type_code));
+//! assert!(types.eq([None, Some(Type::Date)]));
 //! let day = tree.column_by_name("visit.day")?.ok_or("no such column")?;
 //! assert_eq!((day.id, day.name_str()), (FieldId(2), Some("day")));
 //! // What people type may have another case. What may be either of two columns is refused.

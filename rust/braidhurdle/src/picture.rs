@@ -3,7 +3,7 @@
 use core::fmt;
 
 use crate::names::shown;
-use crate::{Column, Kind, Tree, TreeRef};
+use crate::{Column, Kind, Tree, TreeRef, Type};
 
 impl fmt::Display for Tree {
     /// The picture, as [`TreeRef`] has it.
@@ -27,13 +27,16 @@ impl fmt::Display for TreeRef<'_> {
 }
 
 impl fmt::Display for Column<'_> {
-    /// Its line of the picture, without what stands before and behind: id, name and kind, the type
-    /// code of a primitive, and what is set of required, default and attribute.
+    /// Its line of the picture, without what stands before and behind: id, name and kind, and what
+    /// is set of required, default and attribute. A primitive's kind is its type, or `primitive`
+    /// with its type code where no type has that.
     fn fmt(&self, f: &mut fmt::Formatter<'_>) -> fmt::Result {
-        write!(f, "{} {}: {}", self.id, shown(self.name), self.kind)?;
-        if self.kind == Kind::Primitive {
-            write!(f, " {}", self.type_code)?;
-        }
+        write!(f, "{} {}: ", self.id, shown(self.name))?;
+        match (self.kind, Type::of_code(self.type_code)) {
+            (Kind::Primitive, Some(of)) => write!(f, "{of}"),
+            (Kind::Primitive, None) => write!(f, "{} {}", self.kind, self.type_code),
+            _ => write!(f, "{}", self.kind),
+        }?;
         if self.required {
             f.write_str(" required")?;
         }

@@ -152,7 +152,7 @@ impl Request {
     /// let tree = Tree::build(&[a, b])?;
     /// let request = Request::new(FieldId(2)).rename("a", "b")?.rename("b", "a")?;
     /// let Updated { tree, last_id } = tree.update(&request)?;
-    /// assert_eq!(tree.to_string(), "1 b: primitive 2\n2 a: primitive 2\n");
+    /// assert_eq!(tree.to_string(), "1 b: int\n2 a: int\n");
     ///
     /// // All paths are looked up in the tree as it was: there is no column `c` yet.
     /// let request = Request::new(last_id).rename("a", "c")?.relax("c")?;
@@ -172,7 +172,7 @@ impl Request {
         let name = name.as_ref();
         let length = u8::try_from(name.len()).map_err(|_| Overlong::Name(name.len()))?;
         let path = pooled(path.as_ref(), &mut self.pool)?;
-        self.edits.extend(edit(path, Edit::Rename { offset: end(&self.pool)?, length }));
+        self.edits.extend(edit(path, Edit::Rename(end(&self.pool)?, length)));
         self.pool.extend_from_slice(name);
         Ok(self)
     }
@@ -190,9 +190,9 @@ impl Request {
         Ok(self)
     }
 
-    /// Also gives a column a wider type, by a step of the request's version ([`Type::steps`]). It
-    /// is a primitive of the tree as it was, one that stays, in any role; its id is as it was. Each
-    /// column is widened once at most.
+    /// Also gives a column a wider type, by a step of the request's format version:
+    /// [`Type::steps`](crate::Type::steps) has them. It is a primitive of the tree as it was, one
+    /// that stays, in any role; its id is as it was. Each column is widened once at most.
     ///
     /// ```
     /// use braidhurdle::{Field, FieldId, RefusalKind, Request, Tree, Type, Updated, Version};
@@ -211,18 +211,16 @@ impl Request {
     /// # Ok::<(), Box<dyn std::error::Error>>(())
     /// ```
     ///
-    /// [`Type::steps`]: crate::Type::steps
-    ///
     /// # Errors
     ///
     /// What the layout can't hold.
     pub fn widen(mut self, path: impl AsRef<[u8]>, to: impl TypeCode) -> Result<Request, Overlong> {
         let path = pooled(path.as_ref(), &mut self.pool)?;
-        self.edits.extend(edit(path, Edit::Widen { code: to.type_code() }));
+        self.edits.extend(edit(path, Edit::Widen(to.type_code())));
         Ok(self)
     }
 
-    /// The same request by the steps of this format version. Where none is named it is version 2.
+    /// The same request by the steps of this format version. Without it they are those of 2.
     #[must_use]
     pub fn version(self, version: Version) -> Request {
         Request { version, ..self }

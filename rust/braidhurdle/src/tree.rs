@@ -73,7 +73,7 @@ impl Tree {
     ///
     /// # Errors
     ///
-    /// Refusals 2 to 19 and 22 to 26.
+    /// Refusals 2 to 19, 22 to 24 and 26.
     pub fn update(&self, request: &Request) -> Result<Updated, Refusal> {
         let mut room = Room::boxed();
         let Updated { tree, last_id } = self.lent().update_in(request.lent(), &mut room)?;

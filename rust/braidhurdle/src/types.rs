@@ -105,8 +105,7 @@ macro_rules! types {
         /// assert_eq!((Type::of_code(8), Type::of_code(10)), (Some(Type::TimestampNs), None));
         ///
         /// // For people a type is its name, which reads back.
-        /// assert_eq!((Type::TimestampNs.to_string(), PRICE.to_string()),
-        ///     ("timestamp_ns".into(), "decimal(9,2)".into()));
+        /// assert_eq!(format!("{} {PRICE}", Type::TimestampNs), "timestamp_ns decimal(9,2)");
         /// assert_eq!("decimal(9, 2)".parse(), Ok(PRICE));
         /// let wrong = "integer".parse::<Type>().unwrap_err();
         /// assert!(wrong.to_string().starts_with("no type has this name: there are boolean, int,"));

@@ -53,6 +53,7 @@ fn no_bytes_are_without_an_answer() {
         let [identifiers, deletions, additions, added_records, edits, pool] = &parts;
         let request = RequestRef {
             last_id: FieldId(random.any_id()),
+            version: *random.pick(&[2, 3, 2, 3, 0, 4, u32::MAX]),
             identifiers,
             deletions,
             additions,

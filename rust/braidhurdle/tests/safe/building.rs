@@ -1,6 +1,6 @@
 //! Builders write the layout's bytes, or say what it can't hold.
 
-use braidhurdle::{Field, FieldId, Overlong, Refusal, Request, Slot, Tree};
+use braidhurdle::{Field, FieldId, Overlong, Refusal, Request, Slot, Tree, Type};
 
 use crate::t::{primitive, t};
 
@@ -49,8 +49,10 @@ fn a_request_is_built_byte_for_byte() -> Result<(), Overlong> {
         .add(Field::structure("s", [Field::primitive("m", 5)]))?
         .rename("node.button", "push")?
         .relax("parts")?
+        .widen("day", 0x0001_0902)?
+        .widen("day", Type::Long)?
         .identifiers(&[FieldId(1), FieldId(-1)]);
-    assert_eq!(request.pool, b"node.costnodecostsmnode.buttonpushparts");
+    assert_eq!(request.pool, b"node.costnodecostsmnode.buttonpushpartsdayday");
     assert_eq!(request.deletions, [0, 0, 0, 0, 9, 0, 1, 0]);
     assert_eq!(request.additions, [9, 0, 0, 0, 4, 0, 1, 0, 0, 0, 0, 0, 0, 0, 0, 0]);
     assert_eq!(request.identifiers, [1, 0, 0, 0, 255, 255, 255, 255]);
@@ -62,7 +64,9 @@ fn a_request_is_built_byte_for_byte() -> Result<(), Overlong> {
     assert_eq!(request.added_records, records.concat());
     let rename = [19, 0, 0, 0, 11, 0, 1, 0, 30, 0, 0, 0, 4, 0, 0, 0];
     let relax = [34, 0, 0, 0, 5, 0, 2, 0, 0, 0, 0, 0, 0, 0, 0, 0];
-    assert_eq!(request.edits, [rename, relax].concat());
+    let decimal = [39, 0, 0, 0, 3, 0, 3, 0, 2, 9, 1, 0, 0, 0, 0, 0];
+    let long = [42, 0, 0, 0, 3, 0, 3, 0, 3, 0, 0, 0, 0, 0, 0, 0];
+    assert_eq!(request.edits, [rename, relax, decimal, long].concat());
     Ok(())
 }
 
@@ -106,6 +110,7 @@ fn a_path_of_65_535_bytes_fits_and_one_more_is_told() {
     let path = vec![b'p'; 65_536];
     assert_eq!(Request::new(FieldId(10)).rename(&path, "x"), Err(Overlong::Path(65_536)));
     assert_eq!(Request::new(FieldId(10)).relax(&path), Err(Overlong::Path(65_536)));
+    assert_eq!(Request::new(FieldId(10)).widen(&path, Type::Long), Err(Overlong::Path(65_536)));
 }
 
 #[test]

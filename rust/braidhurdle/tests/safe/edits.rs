@@ -97,7 +97,7 @@ fn edits_stand_beside_deletions_additions_and_identifiers() -> Tested {
     let Updated { tree, last_id } = keyed().update(&request)?;
     assert_eq!(
         tree.to_string(),
-        "1 board: struct required\n  2 serial: primitive 0 required\n  5 cost: primitive 3\n\
+        "1 board: struct required\n  2 serial: primitive 0 required\n  5 cost: long\n\
          4 site: primitive 0\n"
     );
     assert_eq!(last_id, FieldId(5));

@@ -3,7 +3,6 @@
 mod any_bytes;
 mod building;
 mod edits;
-mod examples;
 mod files;
 mod find_ids;
 mod folded;
@@ -17,4 +16,5 @@ mod t;
 mod tables;
 mod text;
 mod types;
+mod widenings;
 mod worked;

@@ -1,7 +1,7 @@
 //! A tree as people see it.
 
 use braidhurdle::names::{quoted, shown};
-use braidhurdle::{Field, FieldId, Slot, Tree};
+use braidhurdle::{Field, FieldId, Slot, Tree, Type};
 
 use crate::t::t;
 
@@ -25,9 +25,23 @@ fn a_refused_tree_is_displayed_as_its_refusal() {
 fn a_column_is_displayed_with_all_that_is_set() -> Result<(), Box<dyn std::error::Error>> {
     let column = Field::primitive("the day", 4).id(FieldId(-1)).required().default().attribute(7);
     let tree = Tree::build(&[column])?;
-    let line = "-1 \"the day\": primitive 4 required default attribute 7";
+    let line = "-1 \"the day\": date required default attribute 7";
     assert_eq!(tree.column(Slot(0))?.expect("it is there").to_string(), line);
     assert_eq!(tree.to_string(), format!("{line}\n"));
+    Ok(())
+}
+
+#[test]
+fn a_code_is_displayed_as_its_type_or_as_it_is() -> Result<(), Box<dyn std::error::Error>> {
+    let price = Type::decimal(9, 2).expect("a decimal").code();
+    let shown = [(0, "primitive 0"), (2, "int"), (8, "timestamp_ns"), (10, "primitive 10")];
+    let decimals = [(price, "decimal(9,2)"), (65_536 + 256 * 9 + 10, "primitive 67850")];
+    for (code, word) in shown.into_iter().chain(decimals) {
+        assert_eq!(
+            Tree::build(&[Field::primitive("a", code)])?.to_string(),
+            format!("0 a: {word}\n")
+        );
+    }
     Ok(())
 }
 

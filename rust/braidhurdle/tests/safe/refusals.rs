@@ -2,7 +2,10 @@
 
 use crate::t::{ids, keyed, primitive, roots, t};
 use braidhurdle::layout::{DOUBLE, FLOAT, MOST_IDENTIFIERS, MOST_SELECTED};
-use braidhurdle::{Field, FieldId, Mode, Refusal, RefusalKind, RefusalList, Request, Tree, c};
+use braidhurdle::{
+    Field, FieldId, Mode, Refusal, RefusalKind, RefusalList, Request, RequestRef, Room, Tree, Type,
+    c,
+};
 
 const SCOPE: &str = include_str!("../../../../docs/01-scope.md");
 const REQUESTS: &str = include_str!("../../../../docs/02-change-requests.md");
@@ -302,6 +305,20 @@ fn refusal_24_is_met_by_a_role_or_a_second_rename() -> Result<(), braidhurdle::O
     for relaxed in ["visits.element", "parts.value", "node"] {
         assert!(t().update(&request().relax(relaxed)?.relax(relaxed)?).is_ok(), "{relaxed}");
     }
+    Ok(())
+}
+
+#[test]
+fn refusals_24_to_26_are_met_by_widenings_and_their_version() -> Result<(), braidhurdle::Overlong> {
+    let tree = Tree::build(&[Field::primitive("a", Type::Int).id(FieldId(1))])?;
+    let long = request().widen("a", Type::Long)?;
+    assert_eq!(tree.update(&long.clone().widen("a", Type::Long)?), Err(refused(24, 6, 1)));
+    assert_eq!(tree.update(&request().widen("a", Type::Double)?), Err(refused(26, 6, 0)));
+    assert_eq!(update_refusal(request().relax("node")?.widen("node", 3)?), refused(26, 6, 1));
+    // an owned request names no version but 2 and 3; a lent one may name any
+    let (nothing, mut room) = (request(), Room::boxed());
+    let lent = RequestRef { version: 4, ..nothing.lent() };
+    assert_eq!(tree.lent().update_in(lent, &mut room).err(), Some(refused(25, 0, 0)));
     Ok(())
 }
 

@@ -1,9 +1,10 @@
-//! Refusals and lists have one table, that of the definitions. The enums and the header have the
-//! same numbers, the same words, and one name for each.
+//! Refusals, lists and types have one table, that of the definitions. The enums and the header have
+//! the same numbers, the same words, and one name for each.
 
-use braidhurdle::{RefusalKind, RefusalList};
+use braidhurdle::{RefusalKind, RefusalList, Type};
 
 const DEFINITIONS: &str = include_str!("../../../../crates/paper/specs/Refusals.antt");
+const TYPES: &str = include_str!("../../../../crates/paper/specs/Promotions.antt");
 const HEADER: &str = include_str!("../../../../include/braidhurdle.h");
 
 /// A number, the name it has in the header, and its words.
@@ -27,13 +28,18 @@ fn without_request(words: &str) -> String {
 }
 
 fn defined_lists() -> Vec<(u32, String)> {
-    let mut lines = DEFINITIONS.lines();
-    let lists = lines.find_map(|line| line.strip_prefix("-- Lists: ")).expect("the lists");
-    let row = |list: &str| {
-        let (number, words) = list.split_once(' ').expect("a number and words");
+    in_one_line(DEFINITIONS, "0 base")
+}
+
+/// The numbers and words of a line, from the first one on.
+fn in_one_line(definitions: &'static str, first: &str) -> Vec<(u32, String)> {
+    let from_first = |line: &'static str| line.find(first).map(|at| &line[at..]);
+    let line = definitions.lines().find_map(from_first).expect("a line");
+    let row = |one: &str| {
+        let (number, words) = one.split_once(' ').expect("a number and words");
         (number.parse().expect("a number"), words.into())
     };
-    lists.trim_end_matches('.').split(", ").map(row).collect()
+    line.trim_end_matches('.').split(", ").map(row).collect()
 }
 
 /// The rows of a table of the header, by the macro that has it.
@@ -85,6 +91,13 @@ fn the_lists_of_definitions_enum_and_header_are_the_same() {
         (list.number(), header_name(&format!("{list:?}")), list.to_string())
     };
     same(RefusalList::ALL.iter().map(row).collect(), "BRAIDHURDLE_LISTS", defined_lists());
+}
+
+#[test]
+fn the_types_of_definitions_enum_and_header_are_the_same() {
+    let all = (0..65_536).filter_map(Type::of_code);
+    let row = |of: Type| (of.code(), header_name(&format!("{of:?}")), of.to_string());
+    same(all.map(row).collect(), "BRAIDHURDLE_TYPES", in_one_line(TYPES, "1 boolean"));
 }
 
 #[test]

@@ -35,6 +35,7 @@ fn safe(case: &Case, room: &mut Room) -> Option<Result<Answer, Refusal>> {
             let call = case.update_call()?;
             let request = RequestRef {
                 last_id: FieldId(call.last_id),
+                version: call.version,
                 identifiers: call.identifiers,
                 deletions: call.deletions,
                 additions: call.additions,

@@ -2,7 +2,7 @@
 
 use std::collections::BTreeSet;
 
-use braidhurdle::{NoType, NoVersion, Type, Version};
+use braidhurdle::{Field, FieldId, NoType, NoVersion, Refusal, Request, Room, Tree, Type, Version};
 
 /// All types, by code: nine, and the decimals. No code above theirs has one.
 fn all() -> Vec<Type> {
@@ -116,4 +116,30 @@ fn each_version_has_its_steps() {
     assert_eq!(steps(Version::V2), expected);
     expected.extend(["timestamp", "timestamp_ns"].map(|to| ("date".into(), to.into())));
     assert_eq!(steps(Version::V3), expected);
+}
+
+/// What the library answers for every pair of codes: those of all types, and some that no type has.
+#[test]
+fn the_library_has_the_same_steps() -> Result<(), Box<dyn std::error::Error>> {
+    let outside = [0, 10, 65_536, 65_536 + 256 * 39 + 2, 65_536 + 256 * 2 + 3, u32::MAX];
+    let codes: Vec<u32> = all().into_iter().map(Type::code).chain(outside).collect();
+    let mut room = Room::boxed();
+    for version in [Version::V2, Version::V3] {
+        for &from in &codes {
+            let tree = Tree::build(&[Field::primitive("a", from)])?;
+            let steps = Type::of_code(from).into_iter().flat_map(|from| from.steps(version));
+            let steps: BTreeSet<u32> = steps.map(Type::code).collect();
+            for &to in &codes {
+                let request = Request::new(FieldId(0)).version(version).widen("a", to)?;
+                let answer = tree.lent().update_in(request.lent(), &mut room);
+                let code = answer.map(|updated| updated.tree.records[16..20].to_vec());
+                let expected = match steps.contains(&to) {
+                    true => Ok(to.to_le_bytes().to_vec()),
+                    false => Err(Refusal { number: 26, list: 6, place: 0 }),
+                };
+                assert_eq!(code, expected, "{from} to {to} in version {version}");
+            }
+        }
+    }
+    Ok(())
 }
