@@ -668,8 +668,8 @@ fn a_second_widening_is_told_with_the_first() {
             24,
             2,
             &format!(
-                "widening of \"price\" to {named}: id 1 slot 0 price: edit 0 widens it to long, and \
-                 a column is widened once"
+                "widening of \"price\" to {named}: id 1 slot 0 price: edit 0 widens it to long, \
+                 and a column is widened once"
             ),
         );
     }
@@ -678,8 +678,8 @@ fn a_second_widening_is_told_with_the_first() {
         "--rename price=p --widen m.key:long --widen l.element:long --widen m.key:3",
         24,
         3,
-        "widening of \"m.key\" to long: id 12 slot 11 m.key: edit 1 widens it to long, and a column \
-         is widened once",
+        "widening of \"m.key\" to long: id 12 slot 11 m.key: edit 1 widens it to long, and a \
+         column is widened once",
     );
 }
 
