@@ -146,10 +146,10 @@ impl Request {
     /// most, without a dot. Two can exchange their names:
     ///
     /// ```
-    /// use braidhurdle::{Field, FieldId, RefusalKind, Request, Tree, Updated};
+    /// use braidhurdle::{Field, FieldId, RefusalKind, Request, Tree, Type, Updated};
     ///
-    /// let [a, b] = [("a", 1), ("b", 2)].map(|(name, id)| Field::primitive(name, 2).id(FieldId(id)));
-    /// let tree = Tree::build(&[a, b])?;
+    /// let column = |id, name| Field::primitive(name, Type::Int).id(FieldId(id));
+    /// let tree = Tree::build(&[column(1, "a"), column(2, "b")])?;
     /// let request = Request::new(FieldId(2)).rename("a", "b")?.rename("b", "a")?;
     /// let Updated { tree, last_id } = tree.update(&request)?;
     /// assert_eq!(tree.to_string(), "1 b: int\n2 a: int\n");

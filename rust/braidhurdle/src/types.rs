@@ -108,7 +108,7 @@ macro_rules! types {
         /// assert_eq!(format!("{} {PRICE}", Type::TimestampNs), "timestamp_ns decimal(9,2)");
         /// assert_eq!("decimal(9, 2)".parse(), Ok(PRICE));
         /// let wrong = "integer".parse::<Type>().unwrap_err();
-        /// assert!(wrong.to_string().starts_with("no type has this name: there are boolean, int,"));
+        /// assert!(wrong.to_string().starts_with("no type has this name: there are boolean,"));
         /// ```
         #[derive(Clone, Copy, Debug, PartialEq, Eq, PartialOrd, Ord, Hash)]
         #[non_exhaustive]
