@@ -289,8 +289,12 @@ fn update() -> Command {
         .arg(path("IN", "The tree to update: IN.rec, IN.names and IN.last"))
         .arg(an_id(option("last-id", "ID", "The last id consumed so far, else that of IN.last")))
         .arg(
-            option("format-version", "N", "The format version whose steps --widen goes by, else 2")
-                .value_parser(value_parser!(u32)),
+            option(
+                "format-version",
+                "N",
+                "The format version by whose steps types are widened, else 2",
+            )
+            .value_parser(value_parser!(u32)),
         )
         .arg(some(many("identifiers", "ID|PATH,..", "Identifiers, which no drop may find")))
         .arg(bytes(many("drop", "PATH", "Drops the column of this name, with all inside it")))

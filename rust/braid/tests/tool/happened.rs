@@ -52,7 +52,7 @@ fn a_column_inside_a_dropped_one_goes_with_it() {
 #[test]
 fn a_tree_is_told_column_by_column() {
     let folder = Folder::with_t();
-    folder.piped("make - --out s", b"1 s: struct\n  2 a: primitive 2\n3 t: primitive 2\n").answer();
+    folder.piped("make - --out s", b"1 s: struct\n  2 a: int\n3 t: int\n").answer();
     let said = folder.braid("update T --add-tree s --under visits --out U").answer();
     let lines = "added 11 visits.element.s\nadded 12 visits.element.s.a\n\
                  added 13 visits.element.t\nlast id 13\n";
@@ -64,7 +64,7 @@ fn a_tree_is_told_column_by_column() {
 #[test]
 fn what_is_added_to_a_dropped_column_is_refused() {
     let folder = Folder::with_t();
-    folder.piped("make - --out s", b"1 s: struct\n  2 a: primitive 2\n3 t: primitive 2\n").answer();
+    folder.piped("make - --out s", b"1 s: struct\n  2 a: int\n3 t: int\n").answer();
     let words = "the receiving struct, or a record above it, is dropped as a member of a struct or \
                  of the root";
     let goes =
@@ -195,6 +195,11 @@ last id 14
             assert_eq!(said, format!("widened 3 day from date to {to}\nlast id 14\n"));
         }
     }
+    folder.draw("N", "-3 c: int\n");
+    let said = folder.braid("update N --widen-id -3:long --out M").answer();
+    assert_eq!(said, "widened -3 c from int to long\nlast id -3\n");
+    let said = folder.braid("update N --widen-id 3:long --out L").complaint(1);
+    assert_eq!(said, "no column has id 3\n");
 }
 
 /// Without a version it is 2, and what needs no step is the same in both.

@@ -280,24 +280,24 @@ fn no_identifier(picture: &str, identifiers: &str, place: usize, words: &str) {
 #[test]
 fn an_identifier_is_told_with_the_condition_that_it_breaks() {
     let a = "id 1 slot 0 a";
-    no_identifier("1 a: primitive 2 required\n", "1,-3", 1, "id -3: no column has it");
-    no_identifier("1 a: primitive 2\n", "a", 0, &format!("{a}: it is optional"));
-    no_identifier("1 a: primitive 2 default\n", "a", 0, &format!("{a}: it is optional"));
+    no_identifier("1 a: int required\n", "1,-3", 1, "id -3: no column has it");
+    no_identifier("1 a: int\n", "a", 0, &format!("{a}: it is optional"));
+    no_identifier("1 a: int default\n", "a", 0, &format!("{a}: it is optional"));
     let float = "it is a float, type code 5";
-    no_identifier("1 a: primitive 5 required\n", "1", 0, &format!("{a}: {float}"));
+    no_identifier("1 a: float required\n", "1", 0, &format!("{a}: {float}"));
     let double = "it is a double, type code 6";
-    no_identifier("1 a: primitive 6 required\n", "1", 0, &format!("{a}: {double}"));
+    no_identifier("1 a: double required\n", "1", 0, &format!("{a}: {double}"));
     let primitive = "and no primitive";
     no_identifier("1 a: struct required\n", "1", 0, &format!("{a}: it is a struct, {primitive}"));
-    let list = "1 a: list required\n  2 element: primitive 2 required\n";
+    let list = "1 a: list required\n  2 element: int required\n";
     no_identifier(list, "a", 0, &format!("{a}: it is a list, {primitive}"));
     let element = "id 2 slot 1 a.element";
     no_identifier(list, "2", 0, &format!("{element}: {a} above it is a list"));
-    let map = "1 a: map required\n  2 key: primitive 2 required\n  3 value: primitive 2 required\n";
+    let map = "1 a: map required\n  2 key: int required\n  3 value: int required\n";
     no_identifier(map, "1", 0, &format!("{a}: it is a map, {primitive}"));
     no_identifier(map, "a.key", 0, &format!("id 2 slot 1 a.key: {a} above it is a map"));
     no_identifier(map, "a.value", 0, &format!("id 3 slot 2 a.value: {a} above it is a map"));
-    let within = "1 a: struct\n  2 b: primitive 2 required\n";
+    let within = "1 a: struct\n  2 b: int required\n";
     no_identifier(
         within,
         "a.b",
@@ -315,7 +315,7 @@ fn fifteen_above(other: usize, kind: &str) -> String {
         picture += &format!("{}{} {name}: {kind_of}\n", "  ".repeat(level), level + 1);
         name = if kind_of.starts_with("list") { "element" } else { "n" };
     }
-    picture + &format!("{}16 {name}: primitive 2 required\n", "  ".repeat(15))
+    picture + &format!("{}16 {name}: int required\n", "  ".repeat(15))
 }
 
 #[test]
@@ -345,7 +345,7 @@ fn the_record_above_that_is_the_reason_is_told_however_far_it_is() {
 fn all_conditions_that_an_identifier_breaks_are_told() {
     no_identifier(
         "1 o: struct\n  2 l: list\n    3 element: struct\n      4 r: struct required\n        \
-         5 a: primitive 6\n",
+         5 a: double\n",
         "o.l.r.a",
         0,
         "id 5 slot 4 o.l.element.r.a: it is optional; it is a double, type code 6; id 3 slot 2 \
@@ -353,7 +353,7 @@ fn all_conditions_that_an_identifier_breaks_are_told() {
          0 o above it is an optional struct",
     );
     no_identifier(
-        "1 m: map\n  2 key: struct\n    3 s: struct\n  4 value: primitive 2\n",
+        "1 m: map\n  2 key: struct\n    3 s: struct\n  4 value: int\n",
         "3",
         0,
         "id 3 slot 2 m.key.s: it is a struct, and no primitive; it is optional; id 2 slot 1 m.key \
@@ -364,7 +364,7 @@ fn all_conditions_that_an_identifier_breaks_are_told() {
 /// Whichever condition it breaks.
 #[test]
 fn the_first_identifier_that_breaks_a_condition_is_told() {
-    let picture = "1 a: primitive 2 required\n2 b: primitive 2\n3 c: primitive 5 required\n";
+    let picture = "1 a: int required\n2 b: int\n3 c: float required\n";
     for (identifiers, place, words) in [
         ("1,1,9,2,3", 2, "id 9: no column has it"),
         ("1,3,9,2", 1, "id 3 slot 2 c: it is a float, type code 5"),
@@ -396,7 +396,7 @@ fn an_identifier_that_goes_is_told_with_the_deletion_that_takes_it() {
              code 5"
         )),
     );
-    folder.draw("more", "1 s: list\n  2 element: primitive 2 required\n");
+    folder.draw("more", "1 s: list\n  2 element: int required\n");
     let by_force = by_force.replace("--last-id 1", "--last-id 0");
     let element = "id 2 slot 2 s.element";
     refused(
