@@ -76,7 +76,7 @@ fn main() -> ExitCode {
         editings(editing(), iceberg);
     }
     if wanted("widenings") {
-        println!("\nwidenings: {without}, beside renames and relaxings of the same columns");
+        println!("\nwidenings, and other edits of the same primitives: {without}");
         editings(widening(), iceberg);
     }
     if wanted("searches") {
