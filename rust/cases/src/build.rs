@@ -1,8 +1,8 @@
 //! Trees and requests made by hand.
 
 use judge::{
-    Change, EDIT_BYTES, Edit, ID_BYTES, LIST, MAP, Node, OUT_NAMES, OUT_RECORDS, PRIMITIVE,
-    RECORD_BYTES, RELAX, RENAME, STRUCT,
+    Change, DECIMAL, EDIT_BYTES, Edit, ID_BYTES, LIST, MAP, Node, OUT_NAMES, OUT_RECORDS,
+    PRIMITIVE, RECORD_BYTES, RELAX, RENAME, STRUCT, WIDEN,
 };
 
 use crate::case::{Ask, Case};
@@ -143,7 +143,7 @@ pub fn update_of(
     update_by(packed(base), identifiers, last_id, bytes)
 }
 
-/// An update with buffers of the least size.
+/// An update by version 2, with buffers of the least size.
 pub fn update_by(
     (records, pool): (Vec<u8>, Vec<u8>),
     identifiers: &[i32],
@@ -153,6 +153,7 @@ pub fn update_by(
     let ask = Ask::Update {
         identifiers: id_bytes(identifiers),
         last_id,
+        version: 2,
         deletions,
         additions,
         added_records,
@@ -174,12 +175,32 @@ pub fn relax(path: &str) -> Edit {
     Edit { path: path.into(), change: Change::Relax }
 }
 
-/// The bytes of an edit: where its path and its new name stand, and what it does.
-fn edit_entry(path: (usize, usize), what: u8, name: (usize, usize)) -> [u8; EDIT_BYTES] {
+/// An edit that gives a column another type.
+pub fn widen(path: &str, code: u32) -> Edit {
+    Edit { path: path.into(), change: Change::Widen(code) }
+}
+
+/// The same update by the steps of another version.
+pub fn by_version(version: u32, mut case: Case) -> Case {
+    let Ask::Update { version: named, .. } = &mut case.ask else {
+        panic!("only an update names a version")
+    };
+    *named = version;
+    case
+}
+
+/// The code of a decimal.
+pub fn decimal(precision: u32, scale: u32) -> u32 {
+    DECIMAL + 256 * precision + scale
+}
+
+/// The bytes of an edit: where its path stands, what it does, where its new name starts or its type
+/// code, and the new name's length.
+fn edit_entry(path: (usize, usize), what: u8, word: u32, length: usize) -> [u8; EDIT_BYTES] {
     let mut e = [0; EDIT_BYTES];
     e[..8].copy_from_slice(&entry(path.0, path.1, what));
-    e[8..12].copy_from_slice(&(name.0 as u32).to_le_bytes());
-    e[12] = u8::try_from(name.1).expect("a name has at most 255 bytes");
+    e[8..12].copy_from_slice(&word.to_le_bytes());
+    e[12] = u8::try_from(length).expect("a name has at most 255 bytes");
     e
 }
 
@@ -191,9 +212,11 @@ pub fn edited(mut case: Case, more: &[Edit]) -> Case {
     for Edit { path, change } in more {
         let path = (at_the_end(request_pool, path), path.len());
         edits.extend(match change {
-            Change::Relax => edit_entry(path, RELAX, (0, 0)),
+            Change::Relax => edit_entry(path, RELAX, 0, 0),
+            Change::Widen(code) => edit_entry(path, WIDEN, *code, 0),
             Change::Rename(name) => {
-                edit_entry(path, RENAME, (at_the_end(request_pool, name), name.len()))
+                let start = at_the_end(request_pool, name);
+                edit_entry(path, RENAME, start as u32, name.len())
             }
         });
     }

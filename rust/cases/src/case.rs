@@ -17,6 +17,7 @@ impl Case {
             Ask::Update {
                 identifiers,
                 last_id,
+                version,
                 deletions,
                 additions,
                 added_records,
@@ -29,6 +30,7 @@ impl Case {
                 pool: &self.pool,
                 identifiers,
                 last_id: *last_id,
+                version: *version,
                 deletions,
                 additions,
                 added_records,
@@ -46,6 +48,7 @@ pub enum Ask {
     Update {
         identifiers: Vec<u8>,
         last_id: i32,
+        version: u32,
         deletions: Vec<u8>,
         additions: Vec<u8>,
         added_records: Vec<u8>,

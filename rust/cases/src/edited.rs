@@ -1,14 +1,18 @@
-//! The shapes of edits (02, 5/13), of accepted updates and of refused ones.
+//! The shapes of edits (02, 5/13), of accepted updates and of refused ones. Those of widenings stand
+//! by themselves.
 
 use judge::{
     Change, DEFAULT, EDIT_BYTES, Edit, LIST, MAP, MOST_EDITS, NAME_SUM, Names, RELAX, RENAME,
-    REQUIRED, Refusal, Tree, read_edits, read_paths, read_tree,
+    REQUIRED, Refusal, Tree, WIDEN, read_edits, read_paths, read_tree,
 };
 
 use crate::broken::base_breaks_9;
 use crate::case::{Answer, Ask, Case, answer};
 use crate::shapes::{ids_of, name_sum};
 use crate::trees::{held, path_up, receiver};
+use crate::widened::{
+    float_shapes, no_step_shapes, widen_shapes, widened_pair_shapes, widening_byte_shapes,
+};
 
 /// They start with the operation's word, as all shapes do.
 pub static SHAPES_OF_EDITS: &[&str] = &[
@@ -61,10 +65,10 @@ pub static SHAPES_OF_EDITS: &[&str] = &[
     "update: 24 for a second rename",
     "update: 24 for a second rename to the same name",
     "update: 24, and a dot in the name",
-    "update: 23, 24 or 13 of the only edit",
-    "update: 23, 24 or 13 of the first of several edits",
-    "update: 23, 24 or 13 of an edit between others",
-    "update: 23, 24 or 13 of the last of several edits",
+    "update: 23, 24, 13 or 26 of the only edit",
+    "update: 23, 24, 13 or 26 of the first of several edits",
+    "update: 23, 24, 13 or 26 of an edit between others",
+    "update: 23, 24, 13 or 26 of the last of several edits",
     "update: 8 for a rename onto a sibling",
     "update: 8 for a rename onto an added column",
     "update: 9 for an identifier that is relaxed",
@@ -73,18 +77,19 @@ pub static SHAPES_OF_EDITS: &[&str] = &[
 ];
 
 /// What a request with edits speaks of. Its base and its lists passed 3 to 6.
-struct Request {
-    tree: Tree,
-    edits: Vec<Edit>,
+pub struct Request {
+    pub tree: Tree,
+    pub version: u32,
+    pub edits: Vec<Edit>,
     /// The slot that each edit finds.
-    found: Vec<Option<usize>>,
-    dropped: Vec<usize>,
+    pub found: Vec<Option<usize>>,
+    pub dropped: Vec<usize>,
     /// Each added column's receiving struct, none for the root, and its name.
     added: Vec<(Option<usize>, Vec<u8>)>,
 }
 
 impl Request {
-    fn of(case: &Case) -> Option<Request> {
+    pub fn of(case: &Case) -> Option<Request> {
         let call = case.update_call()?;
         let tree = read_tree(call.records, call.pool, judge::BASE).ok()?;
         let names = Names::of(&tree);
@@ -100,7 +105,7 @@ impl Request {
             |path: &Option<Vec<u8>>| path.as_ref().and_then(find).and_then(|s| receiver(&tree, s));
         let own = |root: &usize| new.rows[*root].name.clone();
         let added = under.iter().map(to).zip(new.roots.iter().map(own)).collect();
-        Some(Request { edits, found, dropped, added, tree })
+        Some(Request { version: call.version, edits, found, dropped, added, tree })
     }
 
     /// Is the record dropped as a member, or does it stand beneath one that is?
@@ -110,9 +115,18 @@ impl Request {
     }
 
     /// The edits that find a column, with its slot.
-    fn each(&self) -> impl Iterator<Item = (usize, &Change)> {
+    pub fn each(&self) -> impl Iterator<Item = (usize, &Change)> {
         let edits = self.found.iter().zip(&self.edits);
         edits.filter_map(|(slot, edit)| Some(((*slot)?, &edit.change)))
+    }
+
+    /// Calls for each two edits of one column, in their order.
+    pub fn pairs(&self, call: &mut impl FnMut(&Change, &Change)) {
+        let each: Vec<(usize, &Change)> = self.each().collect();
+        for (at, (slot, one)) in each.iter().enumerate() {
+            let later = each[at + 1..].iter().filter(|(other, _)| other == slot);
+            later.for_each(|(_, other)| call(one, other));
+        }
     }
 
     /// The name that a column has afterwards.
@@ -131,7 +145,7 @@ impl Request {
         }
     }
 
-    fn is_child(&self, slot: usize, kind: u8, at: usize) -> bool {
+    pub fn is_child(&self, slot: usize, kind: u8, at: usize) -> bool {
         let above = self.tree.rows[slot].parent.map(|above| &self.tree.rows[above]);
         above.is_some_and(|above| above.kind == kind && above.children[at] == slot)
     }
@@ -174,9 +188,18 @@ pub fn edit_shapes(
                 relax_shapes(&request, slot, met);
                 met("update: a dropped element or value relaxed", stays(&slot));
             }
+            Change::Widen(code) => {
+                widen_shapes(&request, slot, *code, met);
+                met("update: a dropped element, key or value widened", stays(&slot));
+                met("update: widened beneath a dropped element, key or value", beneath);
+                met("update: widened beside a deletion and an addition", both);
+                met("update: widened by a short name", tree.full_name(slot) != edit.path);
+                met("update: an identifier widened", ids.contains(&tree.rows[slot].id));
+            }
         }
     }
     pair_shapes(&request, met);
+    widened_pair_shapes(&request, met);
 }
 
 fn rename_shapes(
@@ -217,15 +240,12 @@ fn relax_shapes(request: &Request, slot: usize, met: &mut impl FnMut(&'static st
 
 /// Two edits of one column.
 fn pair_shapes(request: &Request, met: &mut impl FnMut(&'static str, bool)) {
-    let each: Vec<(usize, bool)> =
-        request.each().map(|(slot, change)| (slot, *change == Change::Relax)).collect();
-    for (at, (slot, relaxes)) in each.iter().enumerate() {
-        for (_, then) in each[at + 1..].iter().filter(|(other, _)| other == slot) {
-            met("update: renamed, then relaxed", !relaxes && *then);
-            met("update: relaxed, then renamed", *relaxes && !then);
-            met("update: relaxed twice", *relaxes && *then);
-        }
-    }
+    request.pairs(&mut |one, other| {
+        use Change::{Relax, Rename};
+        met("update: renamed, then relaxed", matches!((one, other), (Rename(_), Relax)));
+        met("update: relaxed, then renamed", matches!((one, other), (Relax, Rename(_))));
+        met("update: relaxed twice", matches!((one, other), (Relax, Relax)));
+    });
 }
 
 /// The shapes of a refused update with edits.
@@ -246,7 +266,8 @@ pub fn edit_refused_shapes(
         (3 | 4, judge::EDITS) => byte_shapes(case, refusal, met),
         (_, judge::EDITS) => decided_shapes(case, refusal, met),
         (8, judge::REBUILT) => meeting_shapes(case, met),
-        (9, _) if !base_breaks_9(case) => identifier_shapes(case, refusal, met),
+        (9, _) if base_breaks_9(case) => float_shapes(case, refusal, met),
+        (9, _) => identifier_shapes(case, refusal, met),
         (19, _) => {
             let mut without = case.clone();
             if let Ask::Update { edits, .. } = &mut without.ask {
@@ -263,8 +284,11 @@ pub fn edit_refused_shapes(
 fn byte_shapes(case: &Case, refusal: Refusal, met: &mut impl FnMut(&'static str, bool)) {
     let Ask::Update { edits, request_pool, .. } = &case.ask else { return };
     let edit = &edits[refusal.place as usize * EDIT_BYTES..][..EDIT_BYTES];
+    if edit[6] == WIDEN {
+        widening_byte_shapes(edit, refusal.number, met);
+    }
     if refusal.number == 3 {
-        met("update: 3 for what an edit does", edit[6] != RENAME && edit[6] != RELAX);
+        met("update: 3 for what an edit does", ![RENAME, RELAX, WIDEN].contains(&edit[6]));
         met("update: 3 for byte 7 of an edit", edit[7] != 0);
         let named = edit[6] == RELAX && edit[8..13] != [0; 5];
         met("update: 3 for a new name of one that relaxes", named);
@@ -280,15 +304,18 @@ fn byte_shapes(case: &Case, refusal: Refusal, met: &mut impl FnMut(&'static str,
     met("update: 4 for a new name", !path && past(word(8), edit[12].into()));
 }
 
-/// Of 23, 24 and 13.
+/// Of 23, 24, 13 and 26.
 fn decided_shapes(case: &Case, refusal: Refusal, met: &mut impl FnMut(&'static str, bool)) {
     let request = Request::of(case).expect("23 comes after 4");
     let (place, count) = (refusal.place as usize, request.edits.len());
-    met("update: 23, 24 or 13 of the only edit", count == 1);
-    met("update: 23, 24 or 13 of the first of several edits", count > 1 && place == 0);
-    met("update: 23, 24 or 13 of an edit between others", 0 < place && place + 1 < count);
-    met("update: 23, 24 or 13 of the last of several edits", count > 1 && place + 1 == count);
+    met("update: 23, 24, 13 or 26 of the only edit", count == 1);
+    met("update: 23, 24, 13 or 26 of the first of several edits", count > 1 && place == 0);
+    met("update: 23, 24, 13 or 26 of an edit between others", 0 < place && place + 1 < count);
+    met("update: 23, 24, 13 or 26 of the last of several edits", count > 1 && place + 1 == count);
     let Edit { path, change } = &request.edits[place];
+    if let Change::Widen(code) = change {
+        no_step_shapes(&request, refusal, *code, met);
+    }
     let slot = match (refusal.number, request.found[place]) {
         (23, None) => {
             met("update: 23 for a path that finds nothing", true);
@@ -340,6 +367,7 @@ fn forbidden_shapes(
             met("update: 24 for a second rename to the same name", second && same);
             met("update: 24, and a dot in the name", name.contains(&b'.'));
         }
+        Change::Widen(_) => {}
     }
 }
 

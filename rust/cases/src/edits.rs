@@ -1,9 +1,9 @@
 //! Updates with edits (02, 5/13): renames and relaxings that pass, and such as break each rule,
-//! beside deletions and additions.
+//! beside deletions and additions. Widenings stand by themselves.
 
 use judge::{
-    Change, EDIT_BYTES, Edit, LIST, MAP, MOST_ADDITIONS, MOST_DELETIONS, MOST_EDITS, NAME_SUM,
-    Names, Node, POOL_BYTES, REQUIRED, Tree, read_paths, read_tree,
+    Change, EDIT_BYTES, Edit, INT, LIST, LONG, MAP, MOST_ADDITIONS, MOST_DELETIONS, MOST_EDITS,
+    NAME_SUM, Names, Node, POOL_BYTES, PRIMITIVE, REQUIRED, Tree, read_paths, read_tree,
 };
 
 use crate::build::{Addition, edited, packed, prim, relax, rename, request, update_by};
@@ -12,41 +12,60 @@ use crate::damage::damage;
 use crate::generate::{added, deletions, last_id};
 use crate::random::Random;
 use crate::shapes::ids_of;
-use crate::trees::{Shape, held, identifiers, lay, name, path_up, size, sized, tree};
+use crate::trees::{Shape, each, held, identifiers, lay, name, path_up, size, sized, tree};
 
-/// An update with edits. Mostly its deletions and additions pass.
+/// An update with edits.
 pub fn editing(random: &mut Random, shape: Shape) -> Case {
+    let case = changing(random, shape, |_, _, _| ());
+    let most = most_edits(random, shape);
+    with_edits(random, case, most, false)
+}
+
+/// How many edits an update has at most.
+pub fn most_edits(random: &mut Random, shape: Shape) -> usize {
+    if shape.records > 5 && random.chance(1, 30) { MOST_EDITS } else { 4 }
+}
+
+/// An update without edits, whose deletions and additions mostly pass. Its columns are typed: those
+/// of the base, of which some are identifiers, and those that are added.
+pub fn changing(
+    random: &mut Random,
+    shape: Shape,
+    typed: impl Fn(&mut Random, &mut [Node], &[i32]),
+) -> Case {
     let mut base = tree(random, shape);
     let ids = identifiers(random, &mut base);
+    typed(random, &mut base, &ids);
     let rows = Tree::of(&base);
     let (mut gone, mut new) = (vec![], vec![]);
     if random.chance(5, 6) {
         gone = deletions(random, &rows, &ids, true, if shape.records > 5 { 3 } else { 1 });
         new = added(random, &rows, true, 2);
+        new.iter_mut().for_each(|a| typed(random, std::slice::from_mut(&mut a.column), &[]));
     }
     let last_id = last_id(random, &rows, new.iter().map(|a| size(&a.column)).sum());
-    let case = update_by(lay(random, &base), &ids, last_id, request(&gone, &new));
-    let most = if shape.records > 5 && random.chance(1, 30) { MOST_EDITS } else { 4 };
-    with_edits(random, case, most)
+    update_by(lay(random, &base), &ids, last_id, request(&gone, &new))
 }
 
-/// An update with edits of its base, if that can be read.
-pub fn with_edits(random: &mut Random, case: Case, most: usize) -> Case {
+/// An update with edits of its base, if that can be read. Most of them widen, if any may.
+pub fn with_edits(random: &mut Random, case: Case, most: usize, widens: bool) -> Case {
     let Some(about) = About::of(&case) else { return case };
-    let edits = about.edits(random, most);
+    let edits = about.edits(random, most, widens);
     edited(case, &edits)
 }
 
-/// What edits can speak of: the base, its identifiers, what is dropped, the names of what is added.
-struct About {
-    rows: Tree,
-    identifiers: Vec<i32>,
-    dropped: Vec<usize>,
-    added: Vec<Vec<u8>>,
+/// What edits can speak of: the base, its identifiers, what is dropped, the names of what is added,
+/// and the version.
+pub struct About {
+    pub rows: Tree,
+    pub identifiers: Vec<i32>,
+    pub dropped: Vec<usize>,
+    pub added: Vec<Vec<u8>>,
+    pub version: u32,
 }
 
 impl About {
-    fn of(case: &Case) -> Option<About> {
+    pub fn of(case: &Case) -> Option<About> {
         let call = case.update_call()?;
         let rows = read_tree(call.records, call.pool, judge::BASE).ok()?;
         let paths = read_paths(call.deletions, call.request_pool, judge::DELETIONS).ok()?;
@@ -54,15 +73,16 @@ impl About {
         let dropped = paths.iter().flatten().filter_map(|path| names.find(path)).collect();
         let added = read_tree(call.added_records, call.request_pool, judge::ADDED).ok()?;
         let added = added.roots.iter().map(|root| added.rows[*root].name.clone()).collect();
-        Some(About { rows, identifiers: ids_of(call.identifiers), dropped, added })
+        let (identifiers, version) = (ids_of(call.identifiers), call.version);
+        Some(About { rows, identifiers, dropped, added, version })
     }
 
-    fn goes(&self, slot: usize) -> bool {
+    pub fn goes(&self, slot: usize) -> bool {
         let is = |slot: &usize| !held(&self.rows, *slot) && self.dropped.contains(slot);
         path_up(&self.rows, slot).iter().any(is)
     }
 
-    fn is_key(&self, slot: usize) -> bool {
+    pub fn is_key(&self, slot: usize) -> bool {
         let above = self.rows.rows[slot].parent.map(|above| &self.rows.rows[above]);
         above.is_some_and(|above| above.kind == MAP && above.children[0] == slot)
     }
@@ -74,29 +94,32 @@ impl About {
         }
     }
 
-    fn path(&self, random: &mut Random, slot: usize) -> Vec<u8> {
+    pub fn path(&self, random: &mut Random, slot: usize) -> Vec<u8> {
         // another column may have that name too
         if random.chance(1, 3) { self.rows.short_name(slot) } else { self.rows.full_name(slot) }
     }
 
     /// Some slot of these, if there is one.
-    fn some(&self, random: &mut Random, is: impl Fn(usize) -> bool) -> Option<usize> {
+    pub fn some(&self, random: &mut Random, is: impl Fn(usize) -> bool) -> Option<usize> {
         let fit: Vec<usize> = (0..self.rows.rows.len()).filter(|slot| is(*slot)).collect();
         if fit.is_empty() { None } else { Some(*random.pick(&fit)) }
     }
 
-    fn edits(&self, random: &mut Random, most: usize) -> Vec<Edit> {
-        // most requests get far
-        let tame = random.chance(3, 5);
+    fn edits(&self, random: &mut Random, most: usize, widens: bool) -> Vec<Edit> {
+        // most requests get far; of those that widen there are more ways not to
+        let tame = random.chance(if widens { 2 } else { 3 }, 5);
         let count = if most > 4 { most - random.below(2) } else { 1 + random.below(most) };
-        // the slots that are renamed
         let mut edits: Vec<Edit> = vec![];
-        let mut renamed = vec![];
+        // the slots that are renamed, and those that are widened
+        let (mut renamed, mut widened) = (vec![], vec![]);
         while edits.len() < count {
             let wrong = !tame && random.chance(1, 2);
-            let more = match wrong {
-                true => self.wrong(random, &edits),
-                false => self.right(random, &mut renamed),
+            let widen = widens && random.chance(3, 4);
+            let more = match (wrong, widen) {
+                (true, false) => self.wrong(random, &edits),
+                (false, false) => self.right(random, &mut renamed),
+                (true, true) => self.no_step(random),
+                (false, true) => self.step(random, &mut renamed, &mut widened),
             };
             edits.extend(more.unwrap_or_else(|| vec![self.any(random)]));
         }
@@ -199,7 +222,7 @@ impl About {
         Some((slot, *random.pick(&others)))
     }
 
-    fn is_identifier(&self, slot: usize) -> bool {
+    pub fn is_identifier(&self, slot: usize) -> bool {
         self.identifiers.contains(&self.rows.rows[slot].id)
     }
 
@@ -234,7 +257,7 @@ impl About {
             5 | 6 => {
                 let new = |edit: &Edit| match &edit.change {
                     Change::Rename(name) => Some(name.clone()),
-                    Change::Relax => None,
+                    Change::Relax | Change::Widen(_) => None,
                 };
                 vec![Edit { path: before.iter().find_map(new)?, change }]
             }
@@ -265,7 +288,7 @@ impl About {
 }
 
 /// A name that the base mostly has not.
-fn fresh(random: &mut Random) -> Vec<u8> {
+pub fn fresh(random: &mut Random) -> Vec<u8> {
     format!("other{}", random.below(40)).into_bytes()
 }
 
@@ -321,8 +344,11 @@ pub fn edge(random: &mut Random) -> Case {
             case
         }
         2 => name_sum(random, past),
-        3 => pool(random, past),
-        _ => full(random),
+        3 => {
+            let last = if random.chance(1, 2) { rename("a", "c") } else { relax("b") };
+            pool(past, last)
+        }
+        _ => full(random, false),
     }
 }
 
@@ -341,20 +367,27 @@ fn name_sum(random: &mut Random, past: usize) -> Case {
 }
 
 /// A request pool of 32,768 bytes or one more, of which an edit has the last.
-fn pool(random: &mut Random, past: usize) -> Case {
-    let mut case = update_by(packed(&[prim(1, "a"), prim(2, "b")]), &[], 5, request(&[], &[]));
-    let last = if random.chance(1, 2) { rename("a", "c") } else { relax("b") };
+pub fn pool(past: usize, last: Edit) -> Case {
+    let mut base = [prim(1, "a"), prim(2, "b")];
+    base.iter_mut().for_each(|column| column.type_code = INT);
+    let mut case = update_by(packed(&base), &[], 5, request(&[], &[]));
     if let Ask::Update { request_pool, .. } = &mut case.ask {
-        let bytes = if last.change == Change::Relax { 1 } else { 2 };
-        request_pool.resize(POOL_BYTES + past - bytes, b'z');
+        let name = if let Change::Rename(name) = &last.change { name.len() } else { 0 };
+        request_pool.resize(POOL_BYTES + past - last.path.len() - name, b'z');
     }
     edited(case, &[last])
 }
 
-/// 64 deletions, 64 additions and 64 edits of a large tree.
-fn full(random: &mut Random) -> Case {
+/// 64 deletions, 64 additions and 64 edits of a large tree. What is a primitive is widened, if it
+/// may.
+pub fn full(random: &mut Random, widens: bool) -> Case {
     let records = 901 + random.below(60);
-    let base = sized(random, records, 8);
+    let mut base = sized(random, records, 8);
+    if widens {
+        each(&mut base, &mut |node| {
+            node.type_code = if node.kind == PRIMITIVE { INT } else { 0 };
+        });
+    }
     let rows = Tree::of(&base);
     let roots = &rows.roots;
     // what is dropped stands in one half of the roots, what is edited in the other
@@ -371,6 +404,7 @@ fn full(random: &mut Random) -> Case {
         .map(|slot| Edit {
             path: rows.full_name(slot),
             change: match random.chance(1, 2) {
+                _ if widens && rows.rows[slot].kind == PRIMITIVE => Change::Widen(LONG),
                 true => Change::Relax,
                 false => Change::Rename(format!("edited{slot}").into_bytes()),
             },

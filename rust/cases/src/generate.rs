@@ -6,7 +6,7 @@ use judge::{
     DEFAULT, LEVELS, LIST, MAP, MOST_DELETIONS, MOST_RECORDS, MOST_SELECTED, Node, REQUIRED, Tree,
 };
 
-use crate::build::{Addition, ask_of, prune_by, renumber_by, request, update_by};
+use crate::build::{Addition, ask_of, by_version, prune_by, renumber_by, request, update_by};
 use crate::case::{Ask, Case};
 use crate::damage::damage;
 use crate::dropped::dropped_parent;
@@ -17,6 +17,7 @@ use crate::identifiers::{give_floats, renumbering, updating};
 use crate::ids::{many_ids, turn_ids};
 use crate::random::Random;
 use crate::trees::{Shape, column, identifiers, lay, name, parents, size, tree};
+use crate::widenings::{self, version, widening};
 
 /// The operations' words, in the order in which cases of a seed take turns: 01's, then 02's.
 pub const OPERATIONS: [&str; 9] =
@@ -27,12 +28,15 @@ pub const OPERATIONS: [&str; 9] =
 const FIRST: u64 = 7;
 
 /// Sets the row of updates that add beneath what they drop apart from the others; so for cases of
-/// identifiers, for the types of columns, for updates with edits, and for edits beside the rest.
+/// identifiers, for the types of columns, for updates with edits, for edits beside the rest, for
+/// updates that widen, and for the versions of the others.
 const DROPPED_PARENT: u64 = 3 << 40;
 const IDENTIFIERS: u64 = 4 << 40;
 const TYPES: u64 = 5 << 40;
 const EDITS: u64 = 6 << 40;
 const EDITS_BESIDE: u64 = 7 << 40;
+const WIDENINGS: u64 = 8 << 40;
+const VERSIONS: u64 = 9 << 40;
 
 /// How large the trees are.
 #[derive(Clone, Copy, Debug, PartialEq, Eq)]
@@ -120,6 +124,25 @@ impl Generator {
         (case, Origin::Whole)
     }
 
+    /// The n-th update that widens, from a row of its own.
+    pub fn widenings(&self, n: u64) -> Case {
+        self.widened(n).0
+    }
+
+    fn widened(&self, n: u64) -> (Case, Origin) {
+        let mut random = Random::nth(self.seed ^ WIDENINGS, n);
+        if self.sizes == Sizes::Usual && random.chance(1, 25) {
+            return (widenings::edge(&mut random), Origin::Edge);
+        }
+        let shape = self.shape(&mut random);
+        let mut case = widening(&mut random, shape);
+        if random.chance(1, 8) {
+            damage_edit(&mut random, &mut case);
+            return (case, Origin::Damaged);
+        }
+        (case, Origin::Whole)
+    }
+
     fn shape(&self, random: &mut Random) -> Shape {
         let records = match self.sizes {
             Sizes::Small => 5,
@@ -134,23 +157,33 @@ impl Generator {
     pub fn made(&self, n: u64) -> (Case, Origin) {
         let turns = OPERATIONS.len() as u64;
         let (round, turn) = (n / turns, n % turns);
-        let operation = OPERATIONS[turn as usize];
         // the recorded list has them apart, so that its other cases stay
-        let usual = self.sizes == Sizes::Usual;
+        if self.sizes == Sizes::Small {
+            return self.taking_turns(round, turn);
+        }
+        let operation = OPERATIONS[turn as usize];
+        let versioned =
+            |case: Case| by_version(version(&mut Random::nth(self.seed ^ VERSIONS, n), 60), case);
         let identified = ["update", "renumber"].contains(&operation) && round % 6 == 2;
-        let (mut case, origin) = match (usual, operation, round % 6) {
-            (true, "update", 1) => return self.edited(round),
-            (true, "update", 5) => (self.dropped_parent(round), Origin::Whole),
-            (true, ..) if identified => self.identified(operation, round),
+        let (mut case, origin) = match (operation, round % 6) {
+            ("update", 1) => {
+                let (case, origin) = self.edited(round);
+                return (versioned(case), origin);
+            }
+            ("update", 4) => return self.widened(round),
+            ("update", 5) => (self.dropped_parent(round), Origin::Whole),
+            _ if identified => self.identified(operation, round),
             _ => self.taking_turns(round, turn),
         };
-        if usual && !identified {
+        if !identified {
             give_floats(&mut Random::nth(self.seed ^ TYPES, n), &mut case);
         }
-        if usual && operation == "update" && origin != Origin::Edge {
+        if operation == "update" {
+            case = versioned(case);
             let mut random = Random::nth(self.seed ^ EDITS_BESIDE, n);
-            if random.chance(1, 12) {
-                case = with_edits(&mut random, case, 2);
+            if origin != Origin::Edge && random.chance(1, 12) {
+                let widens = random.chance(1, 3);
+                case = with_edits(&mut random, case, 2, widens);
             }
         }
         (case, origin)
@@ -163,13 +196,14 @@ impl Generator {
             false => Random::nth(self.seed ^ turn << 32, round),
         };
         // of an update's cases fewer take turns
-        let often = if operation == "update" { 30 } else { 40 };
-        if self.sizes == Sizes::Usual && random.chance(1, often) {
+        let usual = self.sizes == Sizes::Usual;
+        let few = usual && operation == "update";
+        if usual && random.chance(1, if few { 25 } else { 40 }) {
             return (edge(&mut random, operation), Origin::Edge);
         }
         let shape = self.shape(&mut random);
         let mut case = plain(&mut random, operation, shape);
-        if random.chance(1, 6) {
+        if random.chance(1, if few { 4 } else { 6 }) {
             damage(&mut random, &mut case);
             return (case, Origin::Damaged);
         }

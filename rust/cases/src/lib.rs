@@ -20,11 +20,14 @@ mod shapes;
 mod shrink;
 mod tally;
 mod trees;
+mod widened;
+mod widenings;
 
 pub use broken::{Broken, Of, base_breaks_9, broken, broken_in};
 pub use build::{
-    Addition, additions, ask_of, edited, ids_by, list_of, map_of, packed, prim, prune_by, relax,
-    rename, renumber_by, request, strukt, the_tree, update_by, update_of,
+    Addition, additions, ask_of, by_version, decimal, edited, ids_by, list_of, map_of, packed,
+    prim, prune_by, relax, rename, renumber_by, request, strukt, the_tree, update_by, update_of,
+    widen,
 };
 pub use case::{Answer, Ask, ByJudge, Case, Numbers, Operations, Outcome, answer, outcome, shown};
 pub use damage::lists;

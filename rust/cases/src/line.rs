@@ -4,7 +4,7 @@
 //! OP JUDGE RECORDS POOL inputs.. = answer..
 //!
 //! update   IDENTIFIERS LAST_ID DELETIONS ADDITIONS ADDED_RECORDS REQUEST_POOL OUT_RECORDS OUT_NAMES
-//!          and EDITS, where there are any
+//!          and EDITS, where there are any or a version follows, and VERSION, where it is not 2
 //! prune    SELECTED FULL OUT_RECORDS OUT_NAMES
 //! renumber IDENTIFIERS START OUT_RECORDS OUT_NAMES OUT_IDENTIFIERS
 //! name     NAME
@@ -54,6 +54,9 @@ pub struct Recorded {
     pub answer: Answer,
 }
 
+/// The version that a line does not name.
+const USUAL_VERSION: u32 = 2;
+
 fn hex(bytes: &[u8]) -> String {
     if bytes.is_empty() {
         return "-".into();
@@ -96,6 +99,7 @@ fn ask_words(ask: &Ask) -> Vec<String> {
         Ask::Update {
             identifiers,
             last_id,
+            version,
             deletions,
             additions,
             added_records,
@@ -114,9 +118,12 @@ fn ask_words(ask: &Ask) -> Vec<String> {
                 out_records.to_string(),
                 out_names.to_string(),
             ];
-            // last, so that a line from before 02's 5/13 is read as it was
-            if !edits.is_empty() {
+            // last, so that a line from before 02's 5/13 or 6/13 is read as it was
+            if !edits.is_empty() || *version != USUAL_VERSION {
                 words.push(hex(edits));
+            }
+            if *version != USUAL_VERSION {
+                words.push(version.to_string());
             }
             words
         }
@@ -178,14 +185,23 @@ impl Words<'_> {
     fn size(&mut self) -> Result<usize, String> {
         Ok(self.number()? as usize)
     }
-    /// The bytes of a word that is left out where there are none.
-    fn more_bytes(&mut self) -> Result<Vec<u8>, String> {
-        if self.0.clone().next() == Some("=") {
-            return Ok(vec![]);
+    /// Do the inputs end here?
+    fn at_the_sign(&self) -> bool {
+        self.0.clone().next() == Some("=")
+    }
+    /// The edits and the version, which are left out where they say nothing.
+    fn edits_and_version(&mut self) -> Result<(Vec<u8>, u32), String> {
+        if self.at_the_sign() {
+            return Ok((vec![], USUAL_VERSION));
         }
-        match self.bytes()? {
-            none if none.is_empty() => Err("edits that are none".into()),
-            bytes => Ok(bytes),
+        let edits = self.bytes()?;
+        match self.at_the_sign() {
+            true if edits.is_empty() => Err("edits that are none".into()),
+            true => Ok((edits, USUAL_VERSION)),
+            false => match self.number()? {
+                USUAL_VERSION => Err("a version that is the usual one".into()),
+                version => Ok((edits, version)),
+            },
         }
     }
 }
@@ -213,17 +229,25 @@ pub fn read_line(line: &str) -> Result<Recorded, String> {
 
 fn read_ask(operation: &str, words: &mut Words) -> Result<Ask, String> {
     Ok(match operation {
-        "update" => Ask::Update {
-            identifiers: words.bytes()?,
-            last_id: words.id()?,
-            deletions: words.bytes()?,
-            additions: words.bytes()?,
-            added_records: words.bytes()?,
-            request_pool: words.bytes()?,
-            out_records: words.size()?,
-            out_names: words.size()?,
-            edits: words.more_bytes()?,
-        },
+        "update" => {
+            let (identifiers, last_id) = (words.bytes()?, words.id()?);
+            let (deletions, additions) = (words.bytes()?, words.bytes()?);
+            let (added_records, request_pool) = (words.bytes()?, words.bytes()?);
+            let (out_records, out_names) = (words.size()?, words.size()?);
+            let (edits, version) = words.edits_and_version()?;
+            Ask::Update {
+                identifiers,
+                last_id,
+                version,
+                deletions,
+                additions,
+                added_records,
+                edits,
+                request_pool,
+                out_records,
+                out_names,
+            }
+        }
         "prune" => Ask::Prune {
             selected: words.bytes()?,
             full: words.number()?,

@@ -10,15 +10,19 @@ use crate::broken::{SHAPES_OF_9, nine_shapes};
 use crate::case::{Answer, Ask, Case};
 use crate::edited::{SHAPES_OF_EDITS, edit_refused_shapes, edit_shapes};
 use crate::trees::{held, path_up, receiver};
+use crate::widened::{SHAPES_OF_WIDENINGS, version_shapes};
 
-/// Every shape: those of 9 and those of edits are last.
+/// Every shape: those of 9, of edits and of widenings are last.
 pub fn all_shapes() -> impl Iterator<Item = &'static str> {
-    SHAPES.iter().chain(SHAPES_OF_9.as_flattened()).chain(SHAPES_OF_EDITS).copied()
+    let more = SHAPES_OF_9.as_flattened().iter().chain(SHAPES_OF_EDITS).chain(SHAPES_OF_WIDENINGS);
+    SHAPES.iter().chain(more).copied()
 }
 
 /// The shapes. Those of a tree can come up in every operation, the others in the one named.
 const SHAPES: &[&str] = &[
     "update: accepted",
+    "update: by version 2",
+    "update: by version 3",
     "update: a member dropped",
     "update: a column added at the root",
     "update: a column added under a struct",
@@ -287,6 +291,7 @@ fn refused_shapes(case: &Case, refusal: Refusal, met: &mut impl FnMut(&'static s
             met("update: 5 for counts past the end of the additions tree", past(added_records));
         }
         (_, 9, _) => nine_shapes(case, met),
+        (_, 25, _) => version_shapes(case, met),
         (Ask::Update { .. }, 16 | 17 | 22, _) => {
             let tree = read_tree(&case.records, &case.pool, 0).expect("16 comes after 6");
             addition_refused_shapes(case, &tree, refusal, met);
@@ -408,7 +413,14 @@ fn update_shapes(
     met: &mut impl FnMut(&'static str, bool),
 ) {
     let Ask::Update {
-        identifiers, last_id, deletions, additions, added_records, request_pool, ..
+        identifiers,
+        last_id,
+        version,
+        deletions,
+        additions,
+        added_records,
+        request_pool,
+        ..
     } = &case.ask
     else {
         return;
@@ -416,6 +428,8 @@ fn update_shapes(
     let Answer::Updated { records, names, last_id: consumed } = answer else { return };
     let (before, after) = (ids_in(&case.records), ids_in(records));
     met("update: accepted", true);
+    met("update: by version 2", *version == 2);
+    met("update: by version 3", *version == 3);
     met("update: with identifiers", !identifiers.is_empty());
     let deepest = deepest(tree, identifiers) == LEVELS;
     met("update: an identifier 15 levels beneath a root", deepest);

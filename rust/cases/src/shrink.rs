@@ -125,7 +125,13 @@ fn smaller_asks(ask: &Ask) -> Vec<Ask> {
     };
     match ask {
         Ask::Update {
-            identifiers: i, deletions: d, added_records, edits: e, request_pool, ..
+            identifiers: i,
+            version: named,
+            deletions: d,
+            added_records,
+            edits: e,
+            request_pool,
+            ..
         } => {
             each(i, ID_BYTES, &|ask, less| {
                 if let Ask::Update { identifiers, .. } = ask {
@@ -147,6 +153,13 @@ fn smaller_asks(ask: &Ask) -> Vec<Ask> {
                     *request_pool = less;
                 }
             });
+            if *named != 2 {
+                let mut ask = ask.clone();
+                if let Ask::Update { version, .. } = &mut ask {
+                    *version = 2;
+                }
+                smaller.push(ask);
+            }
             for less in fewer_records(added_records).into_iter().chain(cleared(added_records)) {
                 let mut ask = ask.clone();
                 if let Ask::Update { added_records, .. } = &mut ask {

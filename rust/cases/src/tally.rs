@@ -69,11 +69,11 @@ fn possible(operation: &str) -> Vec<(u32, u32)> {
     let mut possible = base(&[2, 3, 4, 5, 6, 7, 8]);
     match operation {
         "update" => {
-            possible.extend(base(&[1]));
+            possible.extend(base(&[1, 25]));
             possible.extend([3, 4, 5, 6].map(|n| (n, ADDED)));
             possible.extend([3, 4, 11, 12].map(|n| (n, DELETIONS)));
             possible.extend([3, 4, 10, 13, 14, 15, 16, 17, 18, 22].map(|n| (n, ADDITIONS)));
-            possible.extend([3, 4, 13, 23, 24].map(|n| (n, EDITS)));
+            possible.extend([3, 4, 13, 23, 24, 26].map(|n| (n, EDITS)));
             possible.extend([7, 8, 19].map(|n| (n, REBUILT)));
             possible.push((9, IDENTIFIERS));
         }

@@ -10,6 +10,7 @@ fn any_case(random: &mut Random) -> Case {
         0 => Ask::Update {
             identifiers: random.noise(ID_BYTES),
             last_id: random.any_id(),
+            version: *random.pick(&[0, 2, 3, u32::MAX]),
             deletions: random.noise(ENTRY_BYTES),
             additions: random.noise(ENTRY_BYTES),
             added_records: random.noise(RECORD_BYTES),

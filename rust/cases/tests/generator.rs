@@ -40,7 +40,7 @@ fn of(operation: &str, count: usize) -> impl Iterator<Item = u64> {
 
 fn tally_of(operation: &str) -> Tally {
     let mut tally = Tally::default();
-    for n in of(operation, 2_000) {
+    for n in of(operation, 4_000) {
         let (case, origin) = usual().made(n);
         assert_eq!(case.ask.word(), operation);
         tally.count(&case, origin, &answer(&case));
@@ -108,17 +108,89 @@ fn edits_are_common() {
         (200, "update: 8 for a rename onto a sibling"),
         (500, "update: 23 beneath a dropped member"),
         (500, "update: 24 for a second rename"),
-        (200, "update: 23, 24 or 13 of the last of several edits"),
+        (200, "update: 23, 24, 13 or 26 of the last of several edits"),
     ] {
         let times = tally.shapes[shape].sum();
         assert!(times * often > cases, "{shape}: {times} of {cases}");
     }
-    let with = of("update", 2_000).filter(|n| match &usual().case(*n).ask {
+    let with = of("update", 4_000).filter(|n| match &usual().case(*n).ask {
         Ask::Update { edits, .. } => !edits.is_empty(),
         _ => false,
     });
     let with = with.count() as u64;
-    assert!(with * 5 > cases && with * 3 < cases, "{with} of {cases}");
+    assert!(with * 3 > cases && with * 2 < cases, "{with} of {cases}");
+}
+
+/// Widenings that pass, and those that break a rule, by either version; and what 25 refuses.
+#[test]
+fn widenings_and_versions_are_common() {
+    let tally = tally_of("update");
+    let cases = tally.cases.sum();
+    for (often, shape) in [
+        (20, "update: by version 2"),
+        (20, "update: by version 3"),
+        (80, "update: int widened to long by version 2"),
+        (80, "update: int widened to long by version 3"),
+        (120, "update: float widened to double by version 2"),
+        (120, "update: a decimal widened by version 3"),
+        (400, "update: date widened to timestamp"),
+        (400, "update: an element widened"),
+        (400, "update: a key widened"),
+        (400, "update: a value widened"),
+        (400, "update: widened beside a deletion and an addition"),
+        (200, "update: 24 for a second widening"),
+        (400, "update: 24 for a second widening that is no step"),
+        (600, "update: 23 of a widening for what goes"),
+        (500, "update: 26 for the code that it has"),
+        (200, "update: 26 for another type of the table"),
+        (300, "update: 26 of an element, key or value"),
+        (200, "update: 25 without edits"),
+        (200, "update: 25 with edits"),
+        (200, "update: 25, and a deletion, an addition or an edit is refused"),
+    ] {
+        let times = tally.shapes[shape].sum();
+        assert!(times * often > cases, "{shape}: {times} of {cases}");
+    }
+    for (often, refusal) in [(80, (25, judge::BASE)), (60, (26, judge::EDITS))] {
+        let times = tally.refusals[&refusal].sum();
+        assert!(times * often > cases, "{refusal:?}: {times} of {cases}");
+    }
+}
+
+/// Where widenings are accepted it does not matter which comes first, and each column that is
+/// widened has its new code, by a step of the version; all else is as it is without them.
+#[test]
+fn widenings_change_type_codes_alone() {
+    let mut shown = 0;
+    for n in 0..6_000 {
+        let case = usual().widenings(n);
+        let Answer::Updated { records, .. } = answer(&case) else { continue };
+        let mut other = case.clone();
+        let Ask::Update { edits, version, .. } = &mut other.ask else { continue };
+        let version = *version;
+        *edits = edits.chunks(16).rev().flatten().copied().collect();
+        assert_eq!(answer(&other), answer(&case), "case {n}");
+        let Ask::Update { edits, .. } = &mut other.ask else { continue };
+        let widenings = edits.chunks(16).filter(|edit| edit[6] == judge::WIDEN).count();
+        *edits = edits.chunks(16).filter(|e| e[6] != judge::WIDEN).flatten().copied().collect();
+        let Answer::Updated { records: plain, .. } = answer(&other) else {
+            panic!("case {n}: it is accepted without them too")
+        };
+        assert_eq!(records.len(), plain.len(), "case {n}");
+        let mut widened = 0;
+        for (one, other) in records.chunks(24).zip(plain.chunks(24)) {
+            let rest = |r: &[u8]| [&r[..16], &r[20..]].concat();
+            let code = |r: &[u8]| u32::from_le_bytes([r[16], r[17], r[18], r[19]]);
+            assert_eq!(rest(one), rest(other), "case {n}");
+            if code(one) != code(other) {
+                assert!(judge::is_step(version, code(other), code(one)), "case {n}");
+                widened += 1;
+            }
+        }
+        assert_eq!(widened, widenings, "case {n}");
+        shown += usize::from(widened > 0);
+    }
+    assert!(shown > 1_000, "{shown} cases");
 }
 
 /// Where edits are accepted it does not matter which comes first, and each column that is edited

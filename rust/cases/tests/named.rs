@@ -1,6 +1,6 @@
 //! The named cases, and the format that they are recorded in.
 
-use cases::{Judge, Recorded, answer, named, read_line, write_line};
+use cases::{Judge, Recorded, answer, by_version, named, read_line, write_line};
 use judge::LAST_REFUSAL;
 
 #[test]
@@ -31,6 +31,8 @@ fn a_damaged_line_is_told() {
         "id both - - 7 = nothing",
         "update both - - - 0 - - - - 0 0 = refused 1 0 0",
         "update both - - - 0 - - - - 0 0 00 = refused 1 0 0",
+        "update both - - - 0 - - - - 0 0 00 3 = refused 1 0 0",
+        "update both - - - 0 - - - - 0 0 - 4294967295 = refused 1 0 0",
     ] {
         assert!(read_line(line).is_ok());
     }
@@ -48,7 +50,11 @@ fn a_damaged_line_is_told() {
         "ids both - - - 0 = ok -",
         "folder both - - 7 = nothing",
         "update both - - - 0 - - - - 0 0 - = refused 1 0 0",
-        "update both - - - 0 - - - - 0 0 00 00 = refused 1 0 0",
+        "update both - - - 0 - - - - 0 0 00 - = refused 1 0 0",
+        "update both - - - 0 - - - - 0 0 00 2 = refused 1 0 0",
+        "update both - - - 0 - - - - 0 0 - 2 = refused 1 0 0",
+        "update both - - - 0 - - - - 0 0 3 = refused 1 0 0",
+        "update both - - - 0 - - - - 0 0 00 3 3 = refused 1 0 0",
         "id both 0 - 7 = nothing",
         "id both 0G - 7 = nothing",
         "id both AB - 7 = nothing",
@@ -60,6 +66,22 @@ fn a_damaged_line_is_told() {
     }
 }
 
+/// What 25 comes before is told where the version is known.
+#[test]
+fn what_stands_behind_25_is_told_by_another_version() {
+    let mut met = 0;
+    for one in named() {
+        let Some(fault) = one.title.strip_prefix("25 before ") else { continue };
+        let number = fault.split(' ').next().expect("a number");
+        for version in [2, 3] {
+            let refusal = answer(&by_version(version, one.case.clone())).refusal();
+            assert_eq!(refusal.map(|r| r.number.to_string()).as_deref(), Some(number), "{fault}");
+        }
+        met += 1;
+    }
+    assert!(met > 30, "{met}");
+}
+
 /// What 01 and 02 tell by number stands in the list by name.
 #[test]
 fn the_named_cases_hold_every_refusal_and_all_worked_examples() {
@@ -69,7 +91,7 @@ fn the_named_cases_hold_every_refusal_and_all_worked_examples() {
         assert!(titles.iter().any(|title| title.starts_with(&start)), "{start}");
     }
     // 25 and 36 are points that no input can show; 36 has a case all the same
-    let of_02 = (145..=148).chain(161..=164).chain(168..=171).chain(181..=189);
+    let of_02 = (145..=148).chain(161..=164).chain(168..=171).chain(181..=189).chain(197..=203);
     for reading in (1..=67).filter(|n| *n != 25).chain(of_02) {
         let start = format!("reading {reading}:");
         assert!(titles.iter().any(|title| title.starts_with(&start)), "{start}");

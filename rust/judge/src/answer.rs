@@ -16,7 +16,7 @@ pub const IDENTIFIERS: u32 = 5;
 pub const EDITS: u32 = 6;
 
 /// The last number of a refusal.
-pub const LAST_REFUSAL: u32 = 24;
+pub const LAST_REFUSAL: u32 = 26;
 
 /// Why a request is turned down: its number, the list, and the place in it.
 #[derive(Clone, Copy, Debug, PartialEq, Eq, PartialOrd, Ord)]

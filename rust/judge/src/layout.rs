@@ -30,11 +30,29 @@ pub const DEFAULT: u8 = 2;
 pub const RENAME: u8 = 1;
 /// What an edit does: 2.
 pub const RELAX: u8 = 2;
+/// What an edit does: 3.
+pub const WIDEN: u8 = 3;
 
+/// Type code 1; the table is that of 02, 6/13.
+pub const BOOLEAN: u32 = 1;
+/// Type code 2.
+pub const INT: u32 = 2;
+/// Type code 3.
+pub const LONG: u32 = 3;
+/// Type code 4.
+pub const DATE: u32 = 4;
 /// Type code 5.
 pub const FLOAT: u32 = 5;
 /// Type code 6.
 pub const DOUBLE: u32 = 6;
+/// Type code 7.
+pub const TIMESTAMP: u32 = 7;
+/// Type code 8.
+pub const TIMESTAMP_NS: u32 = 8;
+/// Type code 9.
+pub const STRING: u32 = 9;
+/// What a decimal's code has beside 256 x precision + scale.
+pub const DECIMAL: u32 = 65_536;
 
 /// The 24 bytes of a record, as they stand.
 #[derive(Clone, Copy, Debug)]
@@ -67,7 +85,8 @@ pub struct EditEntry {
     pub length: u16,
     pub what: u8,
     pub byte_7: u8,
-    pub name_offset: u32,
+    /// Where a new name starts, or a type code.
+    pub word_8: u32,
     pub name_length: u8,
     pub bytes_13: [u8; 3],
 }
@@ -116,7 +135,7 @@ pub fn edit_entries(bytes: &[u8]) -> Vec<EditEntry> {
             length: half(b, 4),
             what: b[6],
             byte_7: b[7],
-            name_offset: word(b, 8),
+            word_8: word(b, 8),
             name_length: b[12],
             bytes_13: [b[13], b[14], b[15]],
         })

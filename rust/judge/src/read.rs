@@ -2,8 +2,8 @@
 
 use crate::answer::{DELETIONS, EDITS, Refusal, refuse};
 use crate::layout::{
-    EditEntry, Entry, LIST, MAP, PRIMITIVE, RELAX, RENAME, Record, STRUCT, edit_entries, entries,
-    part, records, within,
+    EditEntry, Entry, LIST, MAP, PRIMITIVE, RELAX, RENAME, Record, STRUCT, WIDEN, edit_entries,
+    entries, part, records, within,
 };
 use crate::limits::LEVELS;
 use crate::tree::{Row, Tree};
@@ -30,7 +30,7 @@ pub fn read_paths(bytes: &[u8], pool: &[u8], list: u32) -> Result<Vec<Option<Vec
     Ok(entries.iter().map(path).collect())
 }
 
-/// What an edit asks for (02, 5/13).
+/// What an edit asks for (02, 5/13 and 6/13).
 #[derive(Clone, Debug, PartialEq, Eq)]
 pub struct Edit {
     pub path: Vec<u8>,
@@ -44,6 +44,8 @@ pub enum Change {
     Rename(Vec<u8>),
     /// No longer required.
     Relax,
+    /// Another type, by its code.
+    Widen(u32),
 }
 
 /// The edits of a list that passed 2, or its first refusal of 3 and 4.
@@ -52,8 +54,9 @@ pub fn read_edits(bytes: &[u8], pool: &[u8]) -> Result<Vec<Edit>, Refusal> {
     refusal_3_of_edits(&entries)?;
     refusal_4_of_edits(&entries, pool)?;
     let change = |e: &EditEntry| match e.what {
-        RENAME => Change::Rename(part(e.name_offset, e.name_length.into(), pool)),
-        _ => Change::Relax,
+        RENAME => Change::Rename(part(e.word_8, e.name_length.into(), pool)),
+        RELAX => Change::Relax,
+        _ => Change::Widen(e.word_8),
     };
     let edit =
         |e: &EditEntry| Edit { path: part(e.offset, e.length.into(), pool), change: change(e) };
@@ -89,12 +92,14 @@ fn refusal_3_of_entries(entries: &[Entry], list: u32) -> Result<(), Refusal> {
     refuse(3, list, entries.iter().position(broken))
 }
 
-/// refusal 3 for edits: one that relaxes has no new name.
+/// refusal 3 for edits: one that relaxes has no new name, and one that widens has a type code in the
+/// place of its offset.
 fn refusal_3_of_edits(entries: &[EditEntry]) -> Result<(), Refusal> {
     let broken = |e: &EditEntry| {
         let what = match e.what {
             RENAME => true,
-            RELAX => e.name_offset == 0 && e.name_length == 0,
+            RELAX => e.word_8 == 0 && e.name_length == 0,
+            WIDEN => e.name_length == 0,
             _ => false,
         };
         !what || e.byte_7 != 0 || e.bytes_13 != [0; 3]
@@ -114,12 +119,11 @@ fn refusal_4_of_entries(entries: &[Entry], pool: &[u8], list: u32) -> Result<(),
     refuse(4, list, entries.iter().position(outside))
 }
 
-/// refusal 4 for edits: the path, or the new name. One that relaxes has no new name, which is a
-/// part of every pool.
+/// refusal 4 for edits: the path, or the new name of one that renames.
 fn refusal_4_of_edits(entries: &[EditEntry], pool: &[u8]) -> Result<(), Refusal> {
     let outside = |e: &EditEntry| {
         let path = within(e.offset, e.length.into(), pool);
-        let name = within(e.name_offset, e.name_length.into(), pool);
+        let name = e.what != RENAME || within(e.word_8, e.name_length.into(), pool);
         !path || !name
     };
     refuse(4, EDITS, entries.iter().position(outside))

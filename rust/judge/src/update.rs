@@ -1,13 +1,14 @@
-//! Deleting, adding and editing columns: refusal 10 to refusal 19, and refusal 22 to refusal 24.
+//! Deleting, adding and editing columns: refusal 10 to refusal 19, and refusal 22 to refusal 26.
 
 use std::collections::{HashMap, HashSet};
 
 use crate::answer::{ADDED, ADDITIONS, BASE, Changed, DELETIONS, EDITS, REBUILT, Refusal, refuse};
 use crate::index::{Names, refusal_7, refusal_8, refusal_9};
-use crate::layout::{DEFAULT, LIST, MAP, REQUIRED, STRUCT, ids};
+use crate::layout::{DEFAULT, LIST, MAP, PRIMITIVE, REQUIRED, STRUCT, ids};
 use crate::limits::{
     LEVELS, Lent, MOST_RECORDS, NAME_SUM, OUT_NAMES, OUT_RECORDS, refusal_1, refusal_2,
 };
+use crate::promotions::{VERSIONS, is_step};
 use crate::read::{Change, Edit, read_edits, read_paths, read_tree};
 use crate::tree::{Node, Tree};
 use crate::write::write;
@@ -20,6 +21,8 @@ pub struct UpdateCall<'a> {
     pub pool: &'a [u8],
     pub identifiers: &'a [u8],
     pub last_id: i32,
+    /// The format version whose steps widen types (02, 6/13).
+    pub version: u32,
     pub deletions: &'a [u8],
     pub additions: &'a [u8],
     pub added_records: &'a [u8],
@@ -71,6 +74,7 @@ impl<'a> UpdateCall<'a> {
             pool,
             identifiers,
             last_id: _,
+            version: _,
             deletions,
             additions,
             added_records,
@@ -89,6 +93,7 @@ impl<'a> UpdateCall<'a> {
             pool,
             identifiers,
             last_id: self.last_id,
+            version: self.version,
             deletions,
             additions,
             added_records,
@@ -97,11 +102,12 @@ impl<'a> UpdateCall<'a> {
         }
     }
 
-    /// The order of 01 and 02: 2 for everything; base 3 to 6; additions tree 3 to 6; deletion
+    /// The order of 01 and 02: 2 for everything; 25; base 3 to 6; additions tree 3 to 6; deletion
     /// entries 3, 4; addition entries 3, 4; edits 3, 4; base 7 to 9; 10; deletions one at a time;
     /// additions one at a time; edits one at a time; 19; rebuilt tree 7 to 9.
     fn updated(&self, beneath: Beneath) -> Result<(Tree, i32), Refusal> {
         self.limits()?;
+        refusal_25(self.version)?;
         let base = read_tree(self.records, self.pool, BASE)?;
         let added = read_tree(self.added_records, self.request_pool, ADDED)?;
         let deletions = read_paths(self.deletions, self.request_pool, DELETIONS)?;
@@ -114,10 +120,18 @@ impl<'a> UpdateCall<'a> {
         refusal_10(added.roots.len(), additions.len())?;
         let names = Names::of(&base);
         let dropped = dropped(&base, &names, &identifiers, &deletions)?;
-        let last_id = self.last_id;
-        let (placed, renamed, relaxed) = (vec![], HashMap::new(), HashSet::new());
-        let mut plan =
-            Plan { beneath, base: &base, names, dropped, last_id, placed, renamed, relaxed };
+        let mut plan = Plan {
+            beneath,
+            version: self.version,
+            base: &base,
+            names,
+            dropped,
+            last_id: self.last_id,
+            placed: vec![],
+            renamed: HashMap::new(),
+            relaxed: HashSet::new(),
+            widened: HashMap::new(),
+        };
         for (place, (path, column)) in additions.iter().zip(added.nodes()).enumerate() {
             plan.add(place, path.as_deref(), column)?;
         }
@@ -144,6 +158,11 @@ impl<'a> UpdateCall<'a> {
             Lent::Pool(self.request_pool),
         ])
     }
+}
+
+/// refusal 25: the request names a version that is not known (02, 6/13).
+fn refusal_25(version: u32) -> Result<(), Refusal> {
+    refuse(25, BASE, (!VERSIONS.contains(&version)).then_some(0))
 }
 
 /// refusal 10: the roots of the additions tree differ from the additions in number.
@@ -226,6 +245,7 @@ fn refusal_19(tree: &Tree) -> Result<(), Refusal> {
 /// What will stand in the rebuilt tree.
 struct Plan<'a> {
     beneath: Beneath,
+    version: u32,
     base: &'a Tree,
     names: Names,
     dropped: HashSet<i32>,
@@ -237,6 +257,8 @@ struct Plan<'a> {
     renamed: HashMap<usize, Vec<u8>>,
     /// The slots of base columns that are relaxed.
     relaxed: HashSet<usize>,
+    /// The new type codes of base columns, by their slots.
+    widened: HashMap<usize, u32>,
 }
 
 impl Plan<'_> {
@@ -262,7 +284,7 @@ impl Plan<'_> {
         Ok(())
     }
 
-    /// One edit: 23, 24 and 13 in this order, then what it changes.
+    /// One edit: 23, 24, 13 and 26 in this order, then what it changes.
     fn edit(&mut self, place: usize, edit: &Edit) -> Result<(), Refusal> {
         let slot = self.refusal_23(&edit.path, place)?;
         self.refusal_24(slot, &edit.change, place)?;
@@ -273,6 +295,10 @@ impl Plan<'_> {
             }
             Change::Relax => {
                 self.relaxed.insert(slot);
+            }
+            Change::Widen(code) => {
+                self.refusal_26(slot, *code, place)?;
+                self.widened.insert(slot, *code);
             }
         }
         Ok(())
@@ -310,7 +336,7 @@ impl Plan<'_> {
     }
 
     /// refusal 24: a forbidden role: a rename of an element, key or value, a relaxing of a key; or
-    /// a second rename of the same column.
+    /// a second rename of the same column, or a second widening. Any role is widened.
     fn refusal_24(&self, slot: usize, change: &Change, place: usize) -> Result<(), Refusal> {
         let key = |above: usize| {
             let row = &self.base.rows[above];
@@ -319,8 +345,17 @@ impl Plan<'_> {
         let forbidden = match change {
             Change::Rename(_) => !self.is_member(slot) || self.renamed.contains_key(&slot),
             Change::Relax => self.above(slot).is_some_and(key),
+            Change::Widen(_) => self.widened.contains_key(&slot),
         };
         refuse(24, EDITS, forbidden.then_some(place))
+    }
+
+    /// refusal 26: the version has no step from the column's type in the base to the new one, or the
+    /// column is no primitive.
+    fn refusal_26(&self, slot: usize, code: u32, place: usize) -> Result<(), Refusal> {
+        let row = &self.base.rows[slot];
+        let step = row.kind == PRIMITIVE && is_step(self.version, row.type_code, code);
+        refuse(26, EDITS, (!step).then_some(place))
     }
 
     /// refusal 17: the name is taken. At the root if look-up finds it undeleted. Under a
@@ -366,6 +401,9 @@ impl Plan<'_> {
         }
         if self.relaxed.contains(&slot) {
             record.flags &= !REQUIRED;
+        }
+        if let Some(code) = self.widened.get(&slot) {
+            record.type_code = *code;
         }
         record
     }

@@ -395,13 +395,6 @@ fn with_byte(edits: &[Edit], at: usize, byte: usize, value: u8) -> Case {
     but(editing(&two(), edits), |case| edits_of(case)[at * EDIT_BYTES + byte] = value)
 }
 
-fn edits_of(case: &mut Case) -> &mut Vec<u8> {
-    match &mut case.ask {
-        Ask::Update { edits, .. } => edits,
-        _ => panic!("the case is no update"),
-    }
-}
-
 /// 3 and 4 of an edit.
 fn bytes(all: &mut Cases) {
     let both = [rename("a", "c"), relax("b")];
@@ -419,7 +412,12 @@ fn bytes(all: &mut Cases) {
             (15, 1),
             (15, 128),
         ] {
-            all.put(title, with_byte(&both, at, byte, value), refused(3, 6, at as u32));
+            // a relaxing has no name, so it is a widening to 0 since 6/13; a rename's name is too much
+            let (title, number) = match (at, byte, value) {
+                (1, 6, 3) => ("6/13: 3 is no broken byte but widens", 26),
+                _ => (title, 3),
+            };
+            all.put(title, with_byte(&both, at, byte, value), refused(number, 6, at as u32));
         }
     }
     for byte in 8..13 {

@@ -22,11 +22,6 @@ pub fn keyed() -> Vec<Node> {
     vec![required(node), required(p(2, "site"))]
 }
 
-fn of_type(code: u32, mut column: Node) -> Node {
-    column.type_code = code;
-    column
-}
-
 /// A required list, and a required map, whose insides are required too.
 fn key_list(element: Node) -> Node {
     required(l(31, "l", required(element)))

@@ -9,6 +9,7 @@ mod identifiers;
 mod ids;
 mod limits;
 mod readings;
+mod widenings;
 mod worked;
 
 use judge::{DEFAULT, NO_SLOT, Node, REQUIRED, Refusal, read_tree};
@@ -37,6 +38,8 @@ pub enum Expected {
     Last(Vec<i32>, i32),
     /// Accepted, with these ids, names and flags in slot order.
     Columns(Vec<(i32, String, u8)>),
+    /// Accepted, with these ids, names, flags and type codes in slot order.
+    Typed(Vec<(i32, String, u8, u32)>),
     /// Accepted, with so many records.
     Count(usize),
     /// Id and slot.
@@ -69,6 +72,14 @@ impl Expected {
                 let want = want.iter().map(|(id, name, flags)| (*id, name.clone().into(), *flags));
                 tree.rows.iter().map(shown).eq(want)
             }
+            (Expected::Typed(want), Answer::Updated { records, names, .. }) => {
+                let tree = read_tree(records, names, judge::REBUILT).expect("an answer is read");
+                let shown = |row: &judge::Row| {
+                    let name = String::from_utf8_lossy(&row.name).into_owned();
+                    (row.id, name, row.flags, row.type_code)
+                };
+                tree.rows.iter().map(shown).eq(want.iter().cloned())
+            }
             (Expected::Count(want), answer) => {
                 answer.records().map(|records| records.len() / 24) == Some(*want)
             }
@@ -87,7 +98,7 @@ impl Expected {
 
 /// Every named case: the worked tree, the readings, the limits, faults two at a time, what
 /// iceberg's own code decided, the look-up that forgets case, that of many ids, additions beneath
-/// what is dropped, the columns that can be identifiers, and edits.
+/// what is dropped, the columns that can be identifiers, edits, and widenings.
 pub fn named() -> Vec<Named> {
     let mut all = Cases(vec![]);
     worked::put(&mut all);
@@ -100,6 +111,7 @@ pub fn named() -> Vec<Named> {
     dropped::put(&mut all);
     identifiers::put(&mut all);
     edits::put(&mut all);
+    widenings::put(&mut all);
     all.0
 }
 
@@ -150,6 +162,11 @@ fn required(mut node: Node) -> Node {
 fn with_default(mut node: Node) -> Node {
     node.flags |= DEFAULT;
     node
+}
+
+fn of_type(code: u32, mut column: Node) -> Node {
+    column.type_code = code;
+    column
 }
 
 /// An update without identifiers.
@@ -205,6 +222,13 @@ fn request_of(case: &mut Case) -> [&mut Vec<u8>; 4] {
         Ask::Update { deletions, additions, added_records, request_pool, .. } => {
             [deletions, additions, added_records, request_pool]
         }
+        _ => panic!("the case is no update"),
+    }
+}
+
+fn edits_of(case: &mut Case) -> &mut Vec<u8> {
+    match &mut case.ask {
+        Ask::Update { edits, .. } => edits,
         _ => panic!("the case is no update"),
     }
 }
