@@ -1,5 +1,5 @@
-//! The shapes of edits (02, 5/13), of accepted updates and of refused ones. Those of widenings stand
-//! by themselves.
+//! The shapes of edits (02, 5/13), of accepted updates and of refused ones. Those of widenings
+//! stand by themselves.
 
 use judge::{
     Change, DEFAULT, EDIT_BYTES, Edit, LIST, MAP, MOST_EDITS, NAME_SUM, Names, RELAX, RENAME,

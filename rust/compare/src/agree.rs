@@ -4,7 +4,8 @@ use std::collections::BTreeSet;
 
 use cases::{Answer, Ask, Case, Numbers, Outcome, base_breaks_9, shown};
 use judge::{
-    EDIT_BYTES, ENTRY_BYTES, ID_BYTES, Names, OUT_NAMES, OUT_RECORDS, RECORD_BYTES, Refusal, Unwrap,
+    EDIT_BYTES, ENTRY_BYTES, ID_BYTES, Names, OUT_NAMES, OUT_RECORDS, RECORD_BYTES, Refusal,
+    Unwrap, WIDEN,
 };
 use oracle::Verdict;
 
@@ -36,11 +37,12 @@ const ONLY_LETTERS: &str = "only 26 letters fold";
 const AMBIGUOUS: &str = "ambiguity is refused";
 const DROPPED_PARENT: &str = "no additions to a dropped parent";
 const EDITED: &str = "renaming and relaxing";
-const REFUSED_EDIT: &str = "24 and 13 of an edit";
+const WIDENED: &str = "widening types";
+const REFUSED_EDIT: &str = "24, 13 and 26 of an edit, and 25";
 const BYTES: &str = "1 to 6 and 10 speak of bytes that the crate never sees";
 
 /// Every agreement that is none of the same answer: all that a run may meet.
-pub const LISTED: [Agreement; 13] = [
+pub const LISTED: [Agreement; 14] = [
     Fact,
     Departure(ELEMENT_KEY_VALUE),
     Departure(PAST_LARGEST),
@@ -52,6 +54,7 @@ pub const LISTED: [Agreement; 13] = [
     Departure(AMBIGUOUS),
     Departure(DROPPED_PARENT),
     Departure(EDITED),
+    Departure(WIDENED),
     Outside(REFUSED_EDIT),
     Outside(BYTES),
 ];
@@ -89,6 +92,7 @@ pub fn not_the_crates(case: &Case, paper: &Answer) -> Option<Agreement> {
         6 => Some(Departure(ELEMENT_KEY_VALUE)),
         19 => Some(Departure(LIMITS)),
         1..=5 | 10 => Some(Outside(BYTES)),
+        25 => Some(Outside(REFUSED_EDIT)),
         _ => None,
     }
 }
@@ -128,13 +132,21 @@ pub fn agreement(case: &Case, paper: &Answer, said: &Verdict) -> Agreement {
     }
     match paper.refusal() {
         Some(refusal) if refusal.number == 22 => return dropped_parent(case, said),
-        Some(refusal) if refusal.list == judge::EDITS => return refused_edit(refusal, said),
+        Some(refusal) if refusal.list == judge::EDITS => return refused_edit(case, refusal, said),
         _ => {}
     }
     match judged(case, paper, said) {
-        Same | Fact if of_an_edited_tree(case, paper) => Departure(EDITED),
+        Same | Fact if of_an_edited_tree(case, paper) => edits(case),
         other => other,
     }
+}
+
+/// The crate has no edits, whatever they do.
+fn edits(case: &Case) -> Agreement {
+    let widens = |edit: &[u8]| edit[6] == WIDEN;
+    let call = case.update_call().expect("only an update has edits");
+    let any = call.edits.chunks_exact(EDIT_BYTES).any(widens);
+    Departure(if any { WIDENED } else { EDITED })
 }
 
 fn judged(case: &Case, paper: &Answer, said: &Verdict) -> Agreement {
@@ -162,11 +174,11 @@ fn of_an_edited_tree(case: &Case, paper: &Answer) -> bool {
 
 /// The crate has taken the deletions and additions. Whether a column survives is told by its own
 /// look-up and its own rebuilding, up to the edit that is refused; what else forbids an edit is not.
-fn refused_edit(refusal: Refusal, said: &Verdict) -> Agreement {
+fn refused_edit(case: &Case, refusal: Refusal, said: &Verdict) -> Agreement {
     match said {
         Verdict::Unfit("a name that is not UTF-8") => Departure(NOT_UTF8),
         Verdict::Refused { number: 23, place, .. } if refusal.number == 23 => {
-            if *place == Some(refusal.place) { Departure(EDITED) } else { Differ }
+            if *place == Some(refusal.place) { edits(case) } else { Differ }
         }
         _ if refusal.number == 23 => Differ,
         Verdict::Refused { number: 23, place: Some(place), .. } => {
@@ -187,9 +199,10 @@ fn refused_edit(refusal: Refusal, said: &Verdict) -> Agreement {
 /// refusal is met. So its word is held to that answer, whatever it is.
 fn dropped_parent(case: &Case, said: &Verdict) -> Agreement {
     match agreement(case, &before_22(case), said) {
-        Same | Fact | Departure(PAST_LARGEST | LIMITS | EDITED) | Outside(REFUSED_EDIT) => {
-            Departure(DROPPED_PARENT)
-        }
+        Same
+        | Fact
+        | Departure(PAST_LARGEST | LIMITS | EDITED | WIDENED)
+        | Outside(REFUSED_EDIT) => Departure(DROPPED_PARENT),
         other => other,
     }
 }

@@ -23,6 +23,9 @@ const IDENTIFIERS: u64 = 48;
 /// Random updates with edits.
 const EDITS: u64 = 72;
 
+/// Random updates that widen.
+const WIDENINGS: u64 = 96;
+
 /// Where the list stands in the repository.
 pub fn recorded_path() -> PathBuf {
     PathBuf::from(env!("CARGO_MANIFEST_DIR")).join("../../crates/recorded/data/recorded.txt")
@@ -51,6 +54,8 @@ pub fn recorded_list(iceberg: Iceberg) -> String {
     }
     lines.push(format!("# 5/13: edits, random, seed {SEED}"));
     lines.extend((0..EDITS).map(|n| entry(generator.edits(n), iceberg)));
+    lines.push(format!("# 6/13: widenings, random, seed {SEED}"));
+    lines.extend((0..WIDENINGS).map(|n| entry(generator.widenings(n), iceberg)));
     header(&lines) + &lines.join("\n") + "\n"
 }
 
@@ -81,7 +86,7 @@ fn header(lines: &[String]) -> String {
 # OP JUDGE RECORDS POOL inputs.. = answer..
 #
 # update   JUDGE RECORDS POOL IDENTIFIERS LAST_ID DELETIONS ADDITIONS ADDED_RECORDS REQUEST_POOL OUT_RECORDS OUT_NAMES = ok RECORDS NAMES LAST_ID
-#          with EDITS behind OUT_NAMES where there are any
+#          with EDITS behind OUT_NAMES where there are any or a VERSION, and VERSION behind them where it is not 2
 # prune    JUDGE RECORDS POOL SELECTED FULL OUT_RECORDS OUT_NAMES = ok RECORDS NAMES
 # renumber JUDGE RECORDS POOL IDENTIFIERS START OUT_RECORDS OUT_NAMES OUT_IDENTIFIERS = ok RECORDS NAMES IDENTIFIERS
 # name     JUDGE RECORDS POOL NAME = found ID SLOT, or nothing

@@ -2,11 +2,11 @@
 //! named cases have the rest: both judges give the answers there.
 
 use cases::{
-    Answer, Ask, Case, Expected, Named, answer, edited, list_of, map_of, named, packed, prim,
-    relax, rename, strukt, the_tree, update_of,
+    Answer, Ask, Case, Expected, Named, answer, by_version, decimal, edited, list_of, map_of,
+    named, packed, prim, relax, rename, strukt, the_tree, update_of, widen,
 };
 use compare::iceberg;
-use judge::{Node, REQUIRED};
+use judge::{DATE, DOUBLE, FLOAT, INT, LONG, Node, REQUIRED, STRING, TIMESTAMP, TIMESTAMP_NS};
 use oracle::{Iceberg, Verdict};
 
 fn case(base: &[Node], ask: Ask) -> Case {
@@ -156,7 +156,7 @@ fn the_builder_takes_other_identifiers() {
         assert_eq!(iceberg.verdict(&case), Verdict::Answer(answer(&case)), "{id}");
     };
     taken(&[deep], 16);
-    for code in [0, 4, 7, 10, 65_541, u32::MAX] {
+    for code in [0, INT, LONG, DATE, TIMESTAMP, 10, 65_541, decimal(9, 2), u32::MAX] {
         taken(&[of_type(code, required(prim(1, "a")))], 1);
     }
 }
@@ -193,7 +193,9 @@ fn an_identifiers_id_given_again_is_asked_by_the_builder() {
 #[test]
 fn every_type_code_comes_back() {
     let Some(iceberg) = iceberg() else { return };
-    let codes = (0..10).chain([255, 256, 65_541, 1 << 24, u32::MAX]);
+    let digits = [(1, 0), (1, 1), (9, 2), (38, 0), (38, 38), (39, 0), (0, 0), (2, 3), (255, 255)];
+    let decimals = digits.map(|(precision, scale)| decimal(precision, scale));
+    let codes = (0..11).chain([255, 256, 65_541, 1 << 17, 1 << 24, u32::MAX]).chain(decimals);
     let base: Vec<Node> =
         codes.enumerate().map(|(k, c)| of_type(c, prim(k as i32, &format!("{k}")))).collect();
     let case = renumbering(&base, &[], 1);
@@ -249,6 +251,50 @@ fn the_builder_is_given_the_edited_tree() {
         let case = asked(edit);
         assert_eq!(iceberg.verdict(&case), Verdict::Answer(answer(&case)));
     }
+}
+
+/// 02, 6/13: the crate has no change of a type, and its builder is asked for the wider one.
+#[test]
+fn the_builder_is_given_the_widened_tree() {
+    let Some(iceberg) = iceberg() else { return };
+    let asked = |code: u32, to: u32, ids: &[i32]| {
+        let base = [required(of_type(code, prim(1, "a")))];
+        by_version(3, edited(update_of(&base, ids, 1, &[], &[]), &[widen("a", to)]))
+    };
+    let decimals = (decimal(9, 2), decimal(38, 2));
+    for (old, new) in [(INT, LONG), (DATE, TIMESTAMP), (DATE, TIMESTAMP_NS), decimals] {
+        for ids in [&[][..], &[1]] {
+            let case = asked(old, new, ids);
+            assert_eq!(iceberg.verdict(&case), Verdict::Answer(answer(&case)), "{old} to {new}");
+        }
+    }
+    // a float is no identifier before, and a double none after
+    let case = asked(FLOAT, DOUBLE, &[]);
+    assert_eq!(iceberg.verdict(&case), Verdict::Answer(answer(&case)));
+    let case = asked(FLOAT, DOUBLE, &[1]);
+    let Verdict::Refused { number: 9, text, base: true, .. } = iceberg.verdict(&case) else {
+        panic!("the builder refuses a float")
+    };
+    assert!(text.contains("cannot be a float or double type"), "{text}");
+    assert!(Expected::Refused(9, 5, 0).met_by(&answer(&case)));
+    let gone = edited(update_of(&[prim(1, "a")], &[], 1, &["a"], &[]), &[widen("a", LONG)]);
+    assert_eq!(number(iceberg, &gone), 23);
+}
+
+/// Which steps there are is 02's alone: the builder takes any type in a column's place.
+#[test]
+fn the_crate_has_no_table_of_steps_and_no_version() {
+    let Some(iceberg) = iceberg() else { return };
+    for (old, new) in [(LONG, INT), (INT, STRING), (decimal(9, 2), decimal(10, 3)), (INT, INT)] {
+        let base = [of_type(old, prim(1, "a"))];
+        let case = edited(update_of(&base, &[], 1, &[], &[]), &[widen("a", new)]);
+        assert_eq!(number(iceberg, &case), 0, "{old} to {new}");
+        assert!(Expected::Refused(26, 6, 0).met_by(&answer(&case)), "{old} to {new}");
+    }
+    let plain = update_of(&the_tree(), &[], 10, &[], &[]);
+    let verdicts = [2, 3, 4].map(|version| iceberg.verdict(&by_version(version, plain.clone())));
+    assert_eq!(verdicts[0], verdicts[1]);
+    assert_eq!(verdicts[1], verdicts[2]);
 }
 
 /// P6: without the rename the crate's own update turns the rebuilt tree down.

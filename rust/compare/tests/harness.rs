@@ -6,8 +6,9 @@ use cases::{
 };
 use compare::{Run, iceberg, replay};
 use judge::{
-    Change, Changed, EDIT_BYTES, Edit, Found, ID_BYTES, NO_SLOT, Names, RECORD_BYTES, RELAX,
-    REQUIRED, Row, Searched, Tree, UpdateCall,
+    Change, Changed, DATE, DOUBLE, EDIT_BYTES, Edit, FLOAT, Found, ID_BYTES, INT, LONG, NO_SLOT,
+    Names, PRIMITIVE, RECORD_BYTES, RELAX, REQUIRED, Row, STRING, Searched, TIMESTAMP,
+    TIMESTAMP_NS, Tree, UpdateCall, VERSIONS, WIDEN, decimal, is_step,
 };
 use port::{Guarded, beside_paper};
 
@@ -263,9 +264,11 @@ fn wrong_ways_to_refuse_a_dropped_parent_are_found() {
     }
 }
 
-/// The base of a call, and each of its edits with the slot that its path finds; none where 2 to 6
-/// refuse.
-fn edits_of(call: &UpdateCall) -> Option<(Tree, Vec<(Option<usize>, Edit)>)> {
+/// Edits, each with the slot that its path finds.
+type Edits = Vec<(Option<usize>, Edit)>;
+
+/// The base of a call, and its edits; none where 2 to 6 refuse.
+fn edits_of(call: &UpdateCall) -> Option<(Tree, Edits)> {
     let tree = judge::read_tree(call.records, call.pool, judge::BASE).ok()?;
     let names = Names::of(&tree);
     let edits = judge::read_edits(call.edits, call.request_pool).ok()?;
@@ -281,13 +284,29 @@ fn edit_at(call: &UpdateCall, place: usize) -> (Option<Row>, Edit) {
     (slot.map(|slot| tree.rows[slot].clone()), edit)
 }
 
+fn renames(edit: &Edit) -> bool {
+    matches!(edit.change, Change::Rename(_))
+}
+
+fn widens(edit: &Edit) -> bool {
+    matches!(edit.change, Change::Widen(_))
+}
+
+/// The place of an earlier edit of the same column that does this.
+fn done_before(call: &UpdateCall, place: usize, does: fn(&Edit) -> bool) -> Option<usize> {
+    let (_, edits) = edits_of(call)?;
+    let is = |(slot, edit): &(Option<usize>, Edit)| *slot == edits[place].0 && does(edit);
+    edits[..place].iter().position(is)
+}
+
 /// The place of an earlier edit that renames the same column.
 fn renamed_before(call: &UpdateCall, place: usize) -> Option<usize> {
-    let (_, edits) = edits_of(call)?;
-    let renames = |(slot, edit): &(Option<usize>, Edit)| {
-        *slot == edits[place].0 && edit.change != Change::Relax
-    };
-    edits[..place].iter().position(renames)
+    done_before(call, place, renames)
+}
+
+/// The place of an earlier edit that widens the column that this one widens.
+fn widened_before(call: &UpdateCall, place: usize) -> Option<usize> {
+    widens(&edit_at(call, place).1).then(|| done_before(call, place, widens)).flatten()
 }
 
 fn is_key(call: &UpdateCall, slot: usize) -> bool {
@@ -341,12 +360,15 @@ fn instead(
     is
 }
 
+/// A rule that is none, and that the edit of a slot breaks.
+type Wrong = fn(&UpdateCall, usize, &Edit) -> bool;
+
 /// The refusal of an edit where an accepted one breaks a rule that is none.
 fn refused_edit_if(
     call: &UpdateCall,
     r: &mut [u8],
     n: &mut [u8],
-    (number, wrong): (u32, fn(&UpdateCall, usize, &Edit) -> bool),
+    (number, wrong): (u32, Wrong),
 ) -> Changed {
     let (mut other_r, mut other_n) = (r.to_vec(), n.to_vec());
     let answer = judge::update(call, &mut other_r, &mut other_n);
@@ -388,6 +410,7 @@ fn edited_first(call: &UpdateCall) -> Option<(Vec<u8>, Vec<u8>)> {
         let record = &mut records[slot? * RECORD_BYTES..];
         match edit.change {
             Change::Relax => record[10] &= !REQUIRED,
+            Change::Widen(code) => record[16..20].copy_from_slice(&code.to_le_bytes()),
             Change::Rename(name) => {
                 record[4..8].copy_from_slice(&(pool.len() as u32).to_le_bytes());
                 record[8] = name.len() as u8;
@@ -532,9 +555,7 @@ fn edits_that_are_wrongly_let_through_are_found() {
         }),
         ("a rename of an element, key or value is passed over", |c, r, n| {
             passing(c, r, n, |c, no, at| {
-                no == 24
-                    && edit_at(c, at).1.change != Change::Relax
-                    && renamed_before(c, at).is_none()
+                no == 24 && renames(&edit_at(c, at).1) && renamed_before(c, at).is_none()
             })
         }),
         ("a dot is passed over", |c, r, n| passing(c, r, n, |_, no, _| no == 13)),
@@ -622,8 +643,7 @@ fn edits_that_are_wrongly_read_or_refused_are_found() {
                 n,
                 (24, |c, slot, edit| {
                     let id = &c.records[slot * RECORD_BYTES..][..4];
-                    edit.change != Change::Relax
-                        && c.identifiers.chunks_exact(4).any(|one| one == id)
+                    renames(edit) && c.identifiers.chunks_exact(4).any(|one| one == id)
                 }),
             )
         }),
@@ -756,7 +776,11 @@ fn edits_that_are_wrongly_made_or_in_another_order_are_found() {
             instead(c, &all, (r, n), rule)
         }),
         ("13 comes before 23 and 24", |c, r, n| match judge::update(c, r, n) {
-            answer if answer.refusal > 22 && has_dot(&edit_at(c, answer.place as usize).1) => {
+            answer
+                if of_an_edit(answer)
+                    && answer.refusal > 22
+                    && has_dot(&edit_at(c, answer.place as usize).1) =>
+            {
                 Changed { refusal: 13, ..answer }
             }
             answer => answer,
@@ -768,6 +792,616 @@ fn edits_that_are_wrongly_made_or_in_another_order_are_found() {
         ("the place is the first edit", |c, r, n| match judge::update(c, r, n) {
             answer if of_an_edit(answer) => Changed { place: 0, ..answer },
             answer => answer,
+        }),
+    ];
+    for (what, updated) in wrong {
+        assert!(failures(Altered { updated, ..right() }) > 0, "{what}");
+    }
+}
+
+/// The code of the column that an edit finds, if it is a primitive, and the code that it is to get.
+fn codes_at(call: &UpdateCall, place: usize) -> Option<(u32, u32)> {
+    match edit_at(call, place) {
+        (Some(row), Edit { change: Change::Widen(code), .. }) if row.kind == PRIMITIVE => {
+            Some((row.type_code, code))
+        }
+        _ => None,
+    }
+}
+
+/// Is an edit a widening that no step allows?
+fn is_no_step(call: &UpdateCall, place: usize) -> bool {
+    let step = |(old, new)| is_step(call.version, old, new);
+    widens(&edit_at(call, place).1) && !codes_at(call, place).is_some_and(step)
+}
+
+/// Writes a type code into the record of an id, as far as an answer goes.
+fn put_code(answer: Changed, r: &mut [u8], id: i32, code: u32) {
+    let is = |record: &&mut [u8]| record[..4] == id.to_le_bytes();
+    let records = r.chunks_exact_mut(RECORD_BYTES).take(answer.records as usize);
+    records.filter(is).for_each(|record| record[16..20].copy_from_slice(&code.to_le_bytes()));
+}
+
+/// A wrong table: does a version allow that an old code becomes a new one?
+type Table = fn(u32, u32, u32) -> bool;
+
+/// An update by a wrong table. The judge is asked for a step that it has where the table allows
+/// more, and the code put in its place; and for none where the table allows less.
+fn by_table(call: &UpdateCall, r: &mut [u8], n: &mut [u8], allowed: Table) -> Changed {
+    let Some((tree, found)) = edits_of(call) else { return judge::update(call, r, n) };
+    let (mut records, mut edits) = (call.records.to_vec(), call.edits.to_vec());
+    let (mut seen, mut given) = (vec![], vec![]);
+    for (bytes, (slot, edit)) in edits.chunks_exact_mut(EDIT_BYTES).zip(found) {
+        let (Some(slot), Change::Widen(new)) = (slot, edit.change) else { continue };
+        let row = &tree.rows[slot];
+        // a second one is 24, whatever its codes
+        if row.kind != PRIMITIVE || seen.contains(&slot) {
+            continue;
+        }
+        seen.push(slot);
+        let old = row.type_code;
+        match (allowed(call.version, old, new), is_step(call.version, old, new)) {
+            (true, false) => {
+                // 9 asks of the base whether it is a float
+                let float = old == FLOAT || old == DOUBLE;
+                let [from, to] = if float { [FLOAT, DOUBLE] } else { [INT, LONG] };
+                records[slot * RECORD_BYTES + 16..][..4].copy_from_slice(&from.to_le_bytes());
+                bytes[8..12].copy_from_slice(&to.to_le_bytes());
+                given.push((row.id, new));
+            }
+            (false, true) => bytes[8..12].fill(0),
+            _ => {}
+        }
+    }
+    let answer = judge::update(&UpdateCall { records: &records, edits: &edits, ..*call }, r, n);
+    if answer.refusal == 0 {
+        given.into_iter().for_each(|(id, code)| put_code(answer, r, id, code));
+    }
+    answer
+}
+
+/// 02, 6/13: the table of steps, and the rule for decimals.
+#[test]
+fn wrong_tables_of_steps_are_found() {
+    // what captures a table is no plain function, so each table makes one of its own
+    macro_rules! found {
+        ($($what:literal, $table:expr;)*) => {$(
+            let updated: Updated = |call, r, n| by_table(call, r, n, $table);
+            assert!(failures(Altered { updated, ..right() }) > 0, "{}", $what);
+        )*};
+    }
+    let updated: Updated = |call, r, n| by_table(call, r, n, is_step);
+    assert_eq!(failures(Altered { updated, ..right() }), 0, "the right table");
+    found!(
+        "int to long is turned round", |v, old, new| match (old, new) {
+            (INT, LONG) | (LONG, INT) => is_step(v, new, old),
+            _ => is_step(v, old, new),
+        };
+        "float to double is turned round", |v, old, new| match (old, new) {
+            (FLOAT, DOUBLE) | (DOUBLE, FLOAT) => is_step(v, new, old),
+            _ => is_step(v, old, new),
+        };
+        "date to timestamp is turned round", |v, old, new| match (old, new) {
+            (DATE, TIMESTAMP) | (TIMESTAMP, DATE) => is_step(v, new, old),
+            _ => is_step(v, old, new),
+        };
+        "date to timestamp_ns is turned round", |v, old, new| match (old, new) {
+            (DATE, TIMESTAMP_NS) | (TIMESTAMP_NS, DATE) => is_step(v, new, old),
+            _ => is_step(v, old, new),
+        };
+        "decimals are turned round", |v, old, new| match decimal(old) {
+            Some(_) => is_step(v, new, old),
+            None => is_step(v, old, new),
+        };
+        "steps lead back too", |v, old, new| is_step(v, old, new) || is_step(v, new, old);
+        "no int in version 2", |v, old, new| is_step(v, old, new) && (v, old) != (2, INT);
+        "no float in version 2", |v, old, new| is_step(v, old, new) && (v, old) != (2, FLOAT);
+        "no int in version 3", |v, old, new| is_step(v, old, new) && (v, old) != (3, INT);
+        "no float in version 3", |v, old, new| is_step(v, old, new) && (v, old) != (3, FLOAT);
+        "no decimal in version 2", |v, old, new| {
+            is_step(v, old, new) && (v == 3 || decimal(old).is_none())
+        };
+        "no decimal in version 3", |v, old, new| {
+            is_step(v, old, new) && (v == 2 || decimal(old).is_none())
+        };
+        "no timestamp", |v, old, new| is_step(v, old, new) && new != TIMESTAMP;
+        "no timestamp_ns", |v, old, new| is_step(v, old, new) && new != TIMESTAMP_NS;
+        "version 3's steps in version 2", |_, old, new| is_step(3, old, new);
+        "version 3's first step in version 2", |v, old, new| {
+            is_step(v, old, new) || is_step(3, old, new) && new == TIMESTAMP
+        };
+        "version 3's second step in version 2", |v, old, new| {
+            is_step(v, old, new) || is_step(3, old, new) && new == TIMESTAMP_NS
+        };
+        "version 2's steps are missing in 3", |v, old, new| {
+            is_step(v, old, new) && (v == 2 || !is_step(2, old, new))
+        };
+        "version 3 has those of 2 alone", |_, old, new| is_step(2, old, new);
+        "the versions are exchanged", |v, old, new| is_step(v ^ 1, old, new);
+        "to the same code", |v, old, new| old == new || is_step(v, old, new);
+        "an int to the same code", |v, old, new| (old, new) == (INT, INT) || is_step(v, old, new);
+        "a decimal to the same code", |v, old, new| {
+            old == new && decimal(old).is_some() || is_step(v, old, new)
+        };
+        "to any higher code", |_, old, new| old < new;
+        "to any higher code of the table", |v, old, new| {
+            is_step(v, old, new) || old > 0 && old < new && new <= STRING
+        };
+        "int to double", |v, old, new| (old, new) == (INT, DOUBLE) || is_step(v, old, new);
+        "long to double", |v, old, new| (old, new) == (LONG, DOUBLE) || is_step(v, old, new);
+        "int to date", |v, old, new| (old, new) == (INT, DATE) || is_step(v, old, new);
+        "timestamp to timestamp_ns", |v, old, new| {
+            (old, new) == (TIMESTAMP, TIMESTAMP_NS) || is_step(v, old, new)
+        };
+        "anything to string", |v, old, new| new == STRING || is_step(v, old, new);
+        "int to a decimal", |v, old, new| {
+            old == INT && decimal(new).is_some() || is_step(v, old, new)
+        };
+        "from a code outside the table", |v, old, new| {
+            (old == 0 || old > STRING && decimal(old).is_none()) || is_step(v, old, new)
+        };
+        "to a code outside the table", |v, old, new| {
+            (new == 0 || new > STRING && decimal(new).is_none()) || is_step(v, old, new)
+        };
+        "the lowest byte of a code", |v, old, new| {
+            let low = |code: u32| if code < 65_536 { code & 255 } else { code };
+            is_step(v, low(old), low(new))
+        };
+        "24 bits of a code", |v, old, new| is_step(v, old << 8 >> 8, new << 8 >> 8);
+        "31 bits of a code", |v, old, new| is_step(v, old << 1 >> 1, new << 1 >> 1);
+        "17 bits of a code", |v, old, new| is_step(v, old % 131_072, new % 131_072);
+    );
+}
+
+/// What a code would be as a decimal, whether there is such a one.
+fn digits(code: u32) -> Option<(u32, u32)> {
+    (65_536..131_072).contains(&code).then(|| (code / 256 - 256, code % 256))
+}
+
+/// A wrong rule for decimals, by precision and scale.
+fn by_digits(old: u32, new: u32, rule: fn(u32, u32, u32, u32) -> bool) -> bool {
+    match (digits(old), digits(new)) {
+        (Some((p, s)), Some((q, t))) => rule(p, s, q, t),
+        _ => false,
+    }
+}
+
+#[test]
+fn wrong_rules_for_decimals_are_found() {
+    macro_rules! found {
+        ($($what:literal, $rule:expr;)*) => {$(
+            let updated: Updated = |call, r, n| {
+                by_table(call, r, n, |v, old, new| match decimal(old).or(digits(old)) {
+                    Some(_) => by_digits(old, new, $rule),
+                    None => is_step(v, old, new),
+                })
+            };
+            assert!(failures(Altered { updated, ..right() }) > 0, "{}", $what);
+        )*};
+    }
+    fn known(precision: u32, scale: u32) -> bool {
+        (1..=38).contains(&precision) && scale <= precision
+    }
+    found!(
+        "a higher scale", |p, s, q, t| known(p, s) && known(q, t) && p < q && s <= t;
+        "a lower scale", |p, s, q, t| known(p, s) && known(q, t) && p < q && s >= t;
+        "any scale", |p, s, q, t| known(p, s) && known(q, t) && p < q;
+        "a higher scale of an equal precision", |p, s, q, t| {
+            known(p, s) && known(q, t) && (p < q && s == t || p == q && s < t)
+        };
+        "an equal precision", |p, s, q, t| known(p, s) && known(q, t) && p <= q && s == t;
+        "a lower precision", |p, s, q, t| known(p, s) && known(q, t) && p != q && s == t;
+        "digits before the point that do not fall", |p, s, q, t| {
+            known(p, s) && known(q, t) && q + s > p + t
+        };
+        "one digit more", |p, s, q, t| known(p, s) && known(q, t) && p + 1 == q && s == t;
+        "38 alone", |p, s, q, t| known(p, s) && q == 38 && p < q && s == t;
+        "never 38", |p, s, q, t| known(p, s) && known(q, t) && q < 38 && p < q && s == t;
+        "never from 1", |p, s, q, t| known(p, s) && known(q, t) && p > 1 && p < q && s == t;
+        "never of scale 0", |p, s, q, t| known(p, s) && known(q, t) && s > 0 && p < q && s == t;
+        "never of a scale that is the precision", |p, s, q, t| {
+            known(p, s) && known(q, t) && s < p && p < q && s == t
+        };
+        "the new precision is not asked", |p, s, q, t| known(p, s) && p < q && s == t;
+        "the new precision may be 39", |p, s, q, t| known(p, s) && q < 40 && p < q && s == t;
+        "the old code is not asked", |p, s, q, t| known(q, t) && p < q && s == t;
+        "the old precision may be 0", |p, s, q, t| {
+            (p == 0 && s == 0 || known(p, s)) && known(q, t) && p < q && s == t
+        };
+        "the old scale is not asked", |p, s, q, t| {
+            (1..=38).contains(&p) && known(q, t) && p < q && s == t
+        };
+        "neither code is asked", |p, s, q, t| p < q && s == t;
+    );
+}
+
+/// The same request by version 2, which is known.
+fn by_2<'a>(call: &UpdateCall<'a>) -> UpdateCall<'a> {
+    UpdateCall { version: 2, ..*call }
+}
+
+fn some_widens(call: &UpdateCall) -> bool {
+    call.edits.chunks_exact(EDIT_BYTES).any(|edit| edit[6] == WIDEN)
+}
+
+/// The answer by version 2 where the version is unknown and the rule says so of that answer.
+fn after_25(call: &UpdateCall, r: &mut [u8], n: &mut [u8], first: fn(Changed) -> bool) -> Changed {
+    let known = by_2(call);
+    let (mut other_r, mut other_n) = (r.to_vec(), n.to_vec());
+    let is = judge::update(&known, &mut other_r, &mut other_n);
+    match judge::update(call, r, n) {
+        answer if answer.refusal == 25 && is.refusal != 0 && first(is) => is,
+        answer => answer,
+    }
+}
+
+fn refusal_of_version(call: &UpdateCall, answer: Changed, before: u32) -> Changed {
+    match answer.refusal == before && !VERSIONS.contains(&call.version) {
+        true => judge::Refusal::new(25, judge::BASE, 0).into(),
+        false => answer,
+    }
+}
+
+/// 02, 6/13: which versions are known, and where that is asked.
+#[test]
+fn wrong_ways_to_ask_for_the_version_are_found() {
+    let wrong: [(&str, Updated); 21] = [
+        ("it is never asked", |c, r, n| judge::update(&by_2(c), r, n)),
+        ("only where a widening is asked for", |c, r, n| match some_widens(c) {
+            true => judge::update(c, r, n),
+            false => judge::update(&by_2(c), r, n),
+        }),
+        ("only where there are edits", |c, r, n| match c.edits.is_empty() {
+            false => judge::update(c, r, n),
+            true => judge::update(&by_2(c), r, n),
+        }),
+        ("only where there are none", |c, r, n| match c.edits.is_empty() {
+            true => judge::update(c, r, n),
+            false if c.version == 3 => judge::update(c, r, n),
+            false => judge::update(&by_2(c), r, n),
+        }),
+        ("any from 2 on", |c, r, n| {
+            judge::update(&UpdateCall { version: c.version.min(3), ..*c }, r, n)
+        }),
+        ("any up to 3", |c, r, n| {
+            judge::update(&UpdateCall { version: c.version.max(2), ..*c }, r, n)
+        }),
+        ("0 is 2", |c, r, n| {
+            let version = if c.version == 0 { 2 } else { c.version };
+            judge::update(&UpdateCall { version, ..*c }, r, n)
+        }),
+        ("1 is 2", |c, r, n| {
+            let version = if c.version == 1 { 2 } else { c.version };
+            judge::update(&UpdateCall { version, ..*c }, r, n)
+        }),
+        ("4 is 3", |c, r, n| {
+            let version = if c.version == 4 { 3 } else { c.version };
+            judge::update(&UpdateCall { version, ..*c }, r, n)
+        }),
+        ("its lowest byte", |c, r, n| {
+            judge::update(&UpdateCall { version: c.version & 255, ..*c }, r, n)
+        }),
+        ("all but its highest bit", |c, r, n| {
+            judge::update(&UpdateCall { version: c.version & !(1 << 31), ..*c }, r, n)
+        }),
+        ("3 is unknown", |c, r, n| {
+            let version = if c.version == 3 { 0 } else { c.version };
+            judge::update(&UpdateCall { version, ..*c }, r, n)
+        }),
+        ("2 is unknown", |c, r, n| {
+            let version = if c.version == 2 { 0 } else { c.version };
+            judge::update(&UpdateCall { version, ..*c }, r, n)
+        }),
+        ("25 comes behind 3 of the base", |c, r, n| {
+            after_25(c, r, n, |is| is.refusal == 3 && is.list == judge::BASE)
+        }),
+        ("25 comes behind 3 to 6 of every list", |c, r, n| {
+            after_25(c, r, n, |is| (3..=6).contains(&is.refusal))
+        }),
+        ("25 comes behind 7 to 9 of the base", |c, r, n| {
+            after_25(c, r, n, |is| is.refusal < 9 && is.list == judge::BASE)
+        }),
+        ("25 comes with the edits", |c, r, n| {
+            after_25(c, r, n, |is| is.list != judge::EDITS && is.list != judge::REBUILT)
+        }),
+        ("25 comes with the steps", |c, r, n| after_25(c, r, n, |is| is.refusal != 26)),
+        ("25 comes before 2", |c, r, n| refusal_of_version(c, judge::update(c, r, n), 2)),
+        ("25 comes before 1", |c, r, n| refusal_of_version(c, judge::update(c, r, n), 1)),
+        ("25 has list 6", |c, r, n| match judge::update(c, r, n) {
+            answer if answer.refusal == 25 => Changed { list: judge::EDITS, ..answer },
+            answer => answer,
+        }),
+    ];
+    for (what, updated) in wrong {
+        assert!(failures(Altered { updated, ..right() }) > 0, "{what}");
+    }
+}
+
+/// A column that is widened.
+struct Widened {
+    id: i32,
+    old: u32,
+    new: u32,
+}
+
+/// The codes that accepted widenings leave, told otherwise: of all of them the one at a place.
+fn widened_by(
+    call: &UpdateCall,
+    r: &mut [u8],
+    n: &mut [u8],
+    other: fn(&[Widened], usize) -> u32,
+) -> Changed {
+    let answer = judge::update(call, r, n);
+    if answer.refusal == 0 {
+        let (tree, edits) = edits_of(call).expect("it was accepted");
+        let column = |(slot, edit): &(Option<usize>, Edit)| match edit.change {
+            Change::Widen(new) => {
+                let row = &tree.rows[slot.expect("it was accepted")];
+                Some(Widened { id: row.id, old: row.type_code, new })
+            }
+            _ => None,
+        };
+        let all: Vec<Widened> = edits.iter().filter_map(column).collect();
+        for (at, widened) in all.iter().enumerate() {
+            put_code(answer, r, widened.id, other(&all, at));
+        }
+    }
+    answer
+}
+
+/// 02, 6/13: which widenings are refused besides, and what the accepted ones write.
+#[test]
+fn widenings_that_are_wrongly_refused_or_made_are_found() {
+    let wrong: [(&str, Updated); 28] = [
+        ("of two widenings the first stays", |c, r, n| {
+            passing(c, r, n, |c, no, at| no == 24 && widened_before(c, at).is_some())
+        }),
+        ("of two widenings the second wins", |c, r, n| {
+            let answer = judge::update(c, r, n);
+            let again = answer.refusal == 24;
+            match again.then(|| widened_before(c, answer.place as usize)).flatten() {
+                Some(first) => with_edits(c, &without(c.edits, first), r, n),
+                None => answer,
+            }
+        }),
+        ("the same code again is no widening", |c, r, n| {
+            passing(c, r, n, |c, no, at| {
+                let first = widened_before(c, at).map(|first| edit_at(c, first).1.change);
+                no == 24 && first == Some(edit_at(c, at).1.change)
+            })
+        }),
+        ("a second widening steps from the first", |c, r, n| {
+            passing(c, r, n, |c, no, at| {
+                let first = widened_before(c, at).and_then(|first| codes_at(c, first));
+                let second = codes_at(c, at);
+                let codes = first.zip(second);
+                no == 24 && codes.is_some_and(|((_, from), (_, to))| is_step(c.version, from, to))
+            })
+        }),
+        ("26 comes before 24", |c, r, n| match judge::update(c, r, n) {
+            answer if answer.refusal == 24 && is_no_step(c, answer.place as usize) => {
+                Changed { refusal: 26, ..answer }
+            }
+            answer => answer,
+        }),
+        ("26 comes before 23", |c, r, n| match judge::update(c, r, n) {
+            answer if answer.refusal == 23 && is_no_step(c, answer.place as usize) => {
+                Changed { refusal: 26, ..answer }
+            }
+            answer => answer,
+        }),
+        ("26 comes before 23 of what goes", |c, r, n| match judge::update(c, r, n) {
+            answer if answer.refusal == 23 => {
+                let place = answer.place as usize;
+                let found = edit_at(c, place).0.is_some();
+                let refusal = if found && is_no_step(c, place) { 26 } else { 23 };
+                Changed { refusal, ..answer }
+            }
+            answer => answer,
+        }),
+        ("26 comes behind the other edits", |c, r, n| {
+            let (mut other_r, mut other_n) = (r.to_vec(), n.to_vec());
+            let later = passing(c, &mut other_r, &mut other_n, |_, no, _| no == 26);
+            match judge::update(c, r, n) {
+                // one that was left out stood before it
+                answer if answer.refusal == 26 && of_an_edit(later) => {
+                    Changed { place: later.place + 1, ..later }
+                }
+                answer => answer,
+            }
+        }),
+        ("26 comes behind the rebuilt tree", |c, r, n| {
+            let rule = |was: Changed, is: Changed| was.refusal == 26 && is.list == judge::REBUILT;
+            instead(c, &no_edits(c), (r, n), rule)
+        }),
+        ("26 comes before the additions", |c, r, n| {
+            let rule = |was: Changed, is: Changed| was.list == judge::ADDITIONS && is.refusal == 26;
+            instead(c, &no_additions(c), (r, n), rule)
+        }),
+        ("26 has list 0", |c, r, n| match judge::update(c, r, n) {
+            answer if answer.refusal == 26 => Changed { list: judge::BASE, ..answer },
+            answer => answer,
+        }),
+        ("the place of 26 is the slot", |c, r, n| match judge::update(c, r, n) {
+            answer if answer.refusal == 26 => {
+                let (_, edits) = edits_of(c).expect("26 comes after 4");
+                let slot = edits[answer.place as usize].0.expect("26 comes after 23");
+                Changed { place: slot as u32, ..answer }
+            }
+            answer => answer,
+        }),
+        ("a struct passes", |c, r, n| {
+            passing(c, r, n, |c, no, at| {
+                no == 26 && edit_at(c, at).0.is_some_and(|row| row.kind == judge::STRUCT)
+            })
+        }),
+        ("a list passes", |c, r, n| {
+            passing(c, r, n, |c, no, at| {
+                no == 26 && edit_at(c, at).0.is_some_and(|row| row.kind == judge::LIST)
+            })
+        }),
+        ("a map passes", |c, r, n| {
+            passing(c, r, n, |c, no, at| {
+                no == 26 && edit_at(c, at).0.is_some_and(|row| row.kind == judge::MAP)
+            })
+        }),
+        ("what is no primitive is 24", |c, r, n| match judge::update(c, r, n) {
+            answer if answer.refusal == 26 => {
+                let kind = edit_at(c, answer.place as usize).0.map(|row| row.kind);
+                let refusal = if kind == Some(PRIMITIVE) { 26 } else { 24 };
+                Changed { refusal, ..answer }
+            }
+            answer => answer,
+        }),
+        ("an element is not widened", |c, r, n| {
+            refused_edit_if(
+                c,
+                r,
+                n,
+                (24, |_, _, edit| widens(edit) && edit.path.ends_with(b".element")),
+            )
+        }),
+        ("a key is not widened", |c, r, n| {
+            refused_edit_if(c, r, n, (24, |c, slot, edit| widens(edit) && is_key(c, slot)))
+        }),
+        ("a value is not widened", |c, r, n| {
+            refused_edit_if(
+                c,
+                r,
+                n,
+                (24, |_, _, edit| widens(edit) && edit.path.ends_with(b".value")),
+            )
+        }),
+        ("what is renamed is not widened", |c, r, n| {
+            refused_edit_if(
+                c,
+                r,
+                n,
+                (24, |c, slot, edit| {
+                    let (_, edits) = edits_of(c).expect("it was accepted");
+                    widens(edit) && edits.iter().any(|(at, e)| *at == Some(slot) && renames(e))
+                }),
+            )
+        }),
+        ("what is relaxed is not widened", |c, r, n| {
+            refused_edit_if(
+                c,
+                r,
+                n,
+                (24, |c, slot, edit| {
+                    let (_, edits) = edits_of(c).expect("it was accepted");
+                    let relaxes = |edit: &Edit| edit.change == Change::Relax;
+                    widens(edit) && edits.iter().any(|(at, e)| *at == Some(slot) && relaxes(e))
+                }),
+            )
+        }),
+        ("an identifier is not widened", |c, r, n| {
+            refused_edit_if(
+                c,
+                r,
+                n,
+                (24, |c, slot, edit| {
+                    let id = &c.records[slot * RECORD_BYTES..][..4];
+                    widens(edit) && c.identifiers.chunks_exact(4).any(|one| one == id)
+                }),
+            )
+        }),
+        ("a float that is widened may be an identifier", |c, r, n| {
+            let free = UpdateCall { identifiers: &[], ..*c };
+            match some_widens(c) {
+                true => instead(c, &free, (r, n), |was, _| was.refusal == 9),
+                false => judge::update(c, r, n),
+            }
+        }),
+        ("no code is written", |c, r, n| widened_by(c, r, n, |all, at| all[at].old)),
+        ("the code of the first is written", |c, r, n| widened_by(c, r, n, |all, _| all[0].new)),
+        ("the code of the last is written", |c, r, n| {
+            widened_by(c, r, n, |all, _| all[all.len() - 1].new)
+        }),
+        ("a byte of the code is written", |c, r, n| {
+            widened_by(c, r, n, |all, at| all[at].old & !255 | all[at].new & 255)
+        }),
+        ("two bytes of the code are written", |c, r, n| {
+            widened_by(c, r, n, |all, at| all[at].new & 65_535)
+        }),
+    ];
+    for (what, updated) in wrong {
+        assert!(failures(Altered { updated, ..right() }) > 0, "{what}");
+    }
+}
+
+/// The same with each edit that widens changed in its bytes before anything is asked.
+fn with_widenings(
+    call: &UpdateCall,
+    r: &mut [u8],
+    n: &mut [u8],
+    change: fn(&mut [u8], &UpdateCall),
+) -> Changed {
+    let mut edits = call.edits.to_vec();
+    let widenings = edits.chunks_exact_mut(EDIT_BYTES).filter(|edit| edit[6] == WIDEN);
+    widenings.for_each(|edit| change(edit, call));
+    with_edits(call, &edits, r, n)
+}
+
+fn code_in(edit: &[u8]) -> u32 {
+    u32::from_le_bytes(edit[8..12].try_into().expect("four bytes"))
+}
+
+/// 02, 6/13: the bytes of an edit that widens.
+#[test]
+fn widenings_that_are_wrongly_read_are_found() {
+    let wrong: [(&str, Updated); 9] = [
+        ("3 is a broken byte", |c, r, n| with_widenings(c, r, n, |edit, _| edit[6] = 0)),
+        ("a code outside the table is a broken byte", |c, r, n| {
+            with_widenings(c, r, n, |edit, _| {
+                let code = code_in(edit);
+                if code == 0 || code > STRING && decimal(code).is_none() {
+                    edit[6] = 0;
+                }
+            })
+        }),
+        ("code 0 is a broken byte", |c, r, n| {
+            with_widenings(c, r, n, |edit, _| {
+                if code_in(edit) == 0 {
+                    edit[6] = 0;
+                }
+            })
+        }),
+        ("4 asks the code as an offset", |c, r, n| {
+            with_widenings(c, r, n, |edit, call| {
+                if code_in(edit) as usize > call.request_pool.len() {
+                    edit[..4].fill(255);
+                }
+            })
+        }),
+        ("4 does not ask the path", |c, r, n| {
+            mended(
+                c,
+                r,
+                n,
+                (4, |edits| {
+                    let widenings = edits.chunks_exact_mut(EDIT_BYTES).filter(|e| e[6] == WIDEN);
+                    widenings.for_each(|e| e[..6].fill(0));
+                }),
+            )
+        }),
+        ("3 does not ask for a new name's length", |c, r, n| {
+            with_widenings(c, r, n, |edit, _| edit[12] = 0)
+        }),
+        ("3 does not ask byte 7", |c, r, n| with_widenings(c, r, n, |edit, _| edit[7] = 0)),
+        ("3 does not ask the last bytes", |c, r, n| {
+            with_widenings(c, r, n, |edit, _| edit[13..].fill(0))
+        }),
+        ("any higher number widens", |c, r, n| {
+            mended(
+                c,
+                r,
+                n,
+                (3, |edits| {
+                    let others = edits.chunks_exact_mut(EDIT_BYTES).filter(|e| e[6] > WIDEN);
+                    others.for_each(|e| (e[6], e[12]) = (WIDEN, 0));
+                }),
+            )
         }),
     ];
     for (what, updated) in wrong {
@@ -790,10 +1424,12 @@ fn updated_over(call: &UpdateCall, r: &mut [u8], n: &mut [u8], over: Over) -> Ch
     let answer = judge::update(call, r, n);
     let [records, pool, identifiers, deletions, additions, added_records, edits, request_pool] =
         call.lists().map(<[u8]>::to_vec);
-    let (last_id, out_records, out_names) = (call.last_id, r.len(), n.len());
+    let (last_id, version) = (call.last_id, call.version);
+    let (out_records, out_names) = (r.len(), n.len());
     let ask = Ask::Update {
         identifiers,
         last_id,
+        version,
         deletions,
         additions,
         added_records,

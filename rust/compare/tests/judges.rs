@@ -7,6 +7,9 @@ use oracle::Verdict;
 
 const SEED: u64 = 7;
 
+/// The crate's builder is given the tree that edits leave.
+const EDITED: [&str; 2] = ["renaming and relaxing", "widening types"];
+
 #[test]
 fn the_judges_agree_on_every_named_case() {
     let Some(iceberg) = iceberg() else { return };
@@ -111,7 +114,7 @@ fn a_9_of_the_other_tree_is_told() {
         }
         let said = |base| Verdict::Refused { number: 9, place, base, text: text.clone() };
         let agreed = agreement(&case, &paper, &said(base));
-        let edited = !base && agreed.words() == Some("renaming and relaxing");
+        let edited = !base && agreed.words().is_some_and(|words| EDITED.contains(&words));
         assert!(agreed == Agreement::Same || edited, "{title}: {agreed}");
         assert_eq!(agreement(&case, &paper, &said(!base)), Agreement::Differ, "{title}");
         if base { bases += 1 } else { others += 1 }
@@ -176,7 +179,8 @@ fn a_word_that_differs_is_told_where_22_is_given_too() {
 #[test]
 fn a_word_that_differs_is_told_where_there_are_edits() {
     let Some(iceberg) = iceberg() else { return };
-    let (mut built, mut refused, mut missed) = (0, 0, 0);
+    // of each kind of departure
+    let (mut built, mut refused, mut missed) = ([0; 2], [0; 2], [0; 2]);
     for Named { title, case, .. } in named() {
         if case.update_call().is_none_or(|call| call.edits.is_empty()) {
             continue;
@@ -184,30 +188,32 @@ fn a_word_that_differs_is_told_where_there_are_edits() {
         let (paper, said) = (answer(&case), iceberg.verdict(&case));
         let agreed = agreement(&case, &paper, &said);
         assert!(agreed != Agreement::Differ, "{title}");
-        if agreed.words() != Some("renaming and relaxing") {
-            continue;
-        }
+        let kind = EDITED.iter().position(|words| agreed.words() == Some(words));
+        let Some(kind) = kind else { continue };
         let wrong = match said {
             Verdict::Answer(Answer::Updated { mut records, names, last_id }) => {
-                // the flags of the last record
-                let Some(at) = records.len().checked_sub(14) else { continue };
+                // of the last record the flags, or the type code
+                let Some(at) = records.len().checked_sub([14, 8][kind]) else { continue };
                 records[at] ^= 1;
-                built += 1;
+                built[kind] += 1;
                 Verdict::Answer(Answer::Updated { records, names, last_id })
             }
             Verdict::Refused { number: 23, place, base, text } => {
-                missed += 1;
+                missed[kind] += 1;
                 Verdict::Refused { number: 23, place: place.map(|at| at + 1), base, text }
             }
             Verdict::Refused { .. } => {
-                refused += 1;
+                refused[kind] += 1;
                 Verdict::Answer(Answer::Updated { records: vec![], names: vec![], last_id: 0 })
             }
             other => panic!("{title}: {other:?}"),
         };
         assert_eq!(agreement(&case, &paper, &wrong), Agreement::Differ, "{title}");
     }
-    assert!(built > 50 && refused > 15 && missed > 40, "{built}, {refused} and {missed}");
+    let enough = |counts: [i32; 2], least: [i32; 2]| counts[0] > least[0] && counts[1] > least[1];
+    assert!(enough(built, [50, 50]), "{built:?}");
+    assert!(enough(refused, [15, 3]), "{refused:?}");
+    assert!(enough(missed, [40, 30]), "{missed:?}");
 }
 
 /// What a refused edit says is put to the crate as far as it goes: its deletions and additions pass
@@ -218,11 +224,12 @@ fn a_refused_edit_before_which_the_crate_refuses_is_told() {
     let mut met = 0;
     for Named { title, case, .. } in named() {
         let paper = answer(&case);
-        let Some(Refusal { number: 13 | 24, list: judge::EDITS, place }) = paper.refusal() else {
+        let Some(Refusal { number: 13 | 24 | 26, list: judge::EDITS, place }) = paper.refusal()
+        else {
             continue;
         };
         let agreed = agreement(&case, &paper, &iceberg.verdict(&case));
-        assert_eq!(agreed.words(), Some("24 and 13 of an edit"), "{title}");
+        assert_eq!(agreed.words(), Some("24, 13 and 26 of an edit, and 25"), "{title}");
         for number in [11, 15, 17, 23] {
             let place = Some(if number == 23 { place } else { 0 });
             let wrong = Verdict::Refused { number, place, base: false, text: String::new() };
@@ -232,7 +239,7 @@ fn a_refused_edit_before_which_the_crate_refuses_is_told() {
         assert_eq!(agreement(&case, &paper, &base), Agreement::Differ, "{title}");
         met += 1;
     }
-    assert!(met > 50, "{met}");
+    assert!(met > 600, "{met}");
 }
 
 #[test]

@@ -17,18 +17,18 @@ fn the_list_is_what_the_command_writes() {
 #[test]
 fn both_judges_still_give_the_recorded_answers() {
     let lines = replay(&text(), iceberg()).unwrap_or_else(|why| panic!("{why}"));
-    assert!((3_000..6_000).contains(&lines), "{lines} lines");
+    assert!((3_000..7_000).contains(&lines), "{lines} lines");
 }
 
 /// The program that replays it without Rust holds a line at a time, and no more than so many bytes
 /// of it. Of the whole list it asks nothing: its bound keeps the checkout small. It was three
 /// million bytes before the identifiers, whose cases of 16 levels need them; edits need a quarter of
-/// a million more.
+/// a million more, and widenings 0.4 million, since every pair of codes is a case.
 #[test]
 fn the_list_is_plain_and_small() {
     let text = text();
     assert!(text.is_ascii() && text.ends_with('\n'));
-    assert!(text.len() < 3_500_000, "{} bytes", text.len());
+    assert!(text.len() < 4_000_000, "{} bytes", text.len());
     assert!(text.lines().all(|line| line.len() < 131_072));
 }
 

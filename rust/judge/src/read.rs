@@ -92,8 +92,8 @@ fn refusal_3_of_entries(entries: &[Entry], list: u32) -> Result<(), Refusal> {
     refuse(3, list, entries.iter().position(broken))
 }
 
-/// refusal 3 for edits: one that relaxes has no new name, and one that widens has a type code in the
-/// place of its offset.
+/// refusal 3 for edits: one that relaxes has no new name, and one that widens has a type code in
+/// the place of its offset.
 fn refusal_3_of_edits(entries: &[EditEntry]) -> Result<(), Refusal> {
     let broken = |e: &EditEntry| {
         let what = match e.what {

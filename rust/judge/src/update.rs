@@ -350,8 +350,8 @@ impl Plan<'_> {
         refuse(24, EDITS, forbidden.then_some(place))
     }
 
-    /// refusal 26: the version has no step from the column's type in the base to the new one, or the
-    /// column is no primitive.
+    /// refusal 26: the version has no step from the column's type in the base to the new one, or
+    /// the column is no primitive.
     fn refusal_26(&self, slot: usize, code: u32, place: usize) -> Result<(), Refusal> {
         let row = &self.base.rows[slot];
         let step = row.kind == PRIMITIVE && is_step(self.version, row.type_code, code);

@@ -1,13 +1,14 @@
 //! 01's records and pool, and the two directions between them and the crate's fields. It
 //! reads and writes bytes by itself, so that a slip of the second judge shows.
 //!
-//! Type code 5 is `Float`, 6 is `Double`, and any other code c is `Fixed(c)`. Attribute 0 is no
-//! doc, n is the doc "n". The default flag is some default. So every record can be told again from
-//! its field.
+//! A type code of 02's table is the crate's own type, and any other code c is `Fixed(c)`. Attribute
+//! 0 is no doc, n is the doc "n". The default flag is some default. So every record can be told
+//! again from its field.
 
 use std::sync::Arc;
 
-use judge::{DEFAULT, DOUBLE, FLOAT, LIST, MAP, Node, PRIMITIVE, RECORD_BYTES, REQUIRED, STRUCT};
+use judge::{BOOLEAN, DATE, DECIMAL, DOUBLE, FLOAT, INT, LONG, STRING, TIMESTAMP, TIMESTAMP_NS};
+use judge::{DEFAULT, LIST, MAP, Node, PRIMITIVE, RECORD_BYTES, REQUIRED, STRUCT};
 
 use crate::spec::{
     ListType, Literal, MapType, NestedField, NestedFieldRef, PrimitiveType, StructType, Type,
@@ -92,20 +93,40 @@ pub fn fields(nodes: &[Node]) -> Result<Vec<NestedFieldRef>, Unfit> {
     nodes.iter().map(field).collect()
 }
 
-/// The crate's type for a type code; those that an identifier must not have are the crate's own.
+/// The types of the table, but for decimals.
+const TYPES: [(u32, PrimitiveType); 9] = [
+    (BOOLEAN, PrimitiveType::Boolean),
+    (INT, PrimitiveType::Int),
+    (LONG, PrimitiveType::Long),
+    (DATE, PrimitiveType::Date),
+    (FLOAT, PrimitiveType::Float),
+    (DOUBLE, PrimitiveType::Double),
+    (TIMESTAMP, PrimitiveType::Timestamp),
+    (TIMESTAMP_NS, PrimitiveType::TimestampNs),
+    (STRING, PrimitiveType::String),
+];
+
+/// The crate's type for a type code.
 fn primitive(code: u32) -> PrimitiveType {
-    match code {
-        FLOAT => PrimitiveType::Float,
-        DOUBLE => PrimitiveType::Double,
-        other => PrimitiveType::Fixed(other.into()),
+    if let Some((_, own)) = TYPES.iter().find(|(known, _)| *known == code) {
+        return own.clone();
+    }
+    let digits = code.checked_sub(DECIMAL).map(|digits| (digits / 256, digits % 256));
+    match digits {
+        Some((precision @ 1..=38, scale)) if scale <= precision => {
+            PrimitiveType::Decimal { precision, scale }
+        }
+        _ => PrimitiveType::Fixed(code.into()),
     }
 }
 
 /// The type code of a type that [`primitive`] gives.
 fn code_of(given: &PrimitiveType) -> u32 {
+    if let Some((code, _)) = TYPES.iter().find(|(_, own)| own == given) {
+        return *code;
+    }
     match given {
-        PrimitiveType::Float => FLOAT,
-        PrimitiveType::Double => DOUBLE,
+        PrimitiveType::Decimal { precision, scale } => DECIMAL + 256 * precision + scale,
         PrimitiveType::Fixed(length) if primitive(*length as u32) == *given => *length as u32,
         other => panic!("no such type was given: {other}"),
     }

@@ -7,11 +7,11 @@ use std::panic::{AssertUnwindSafe, catch_unwind};
 use std::sync::{Arc, Once};
 
 use cases::{Answer, Ask, Case};
-use judge::{NO_SLOT, Node, REQUIRED};
+use judge::{Change, Edit, NO_SLOT, Node, REQUIRED};
 
 use crate::Error;
 use crate::fields::{Unfit, bytes, fields, ids, nodes, nodes_of, text};
-use crate::request::{Edit, Request, edits};
+use crate::request::{Request, edits};
 use crate::spec::beside::id_reassigner::ReassignFieldIds;
 use crate::spec::beside::index::index_parents;
 use crate::spec::{NestedFieldRef, Schema, Type, prune_columns};
@@ -212,9 +212,10 @@ fn update_edited(case: &Case, request: &Request, last_id: i32, edits: &[Edit]) -
         let found = base.field_by_name(&path).map(|field| field.id);
         let column = found.and_then(|id| find(&mut roots, &|node| node.id == id));
         let column = column.ok_or_else(|| no_column(place))?;
-        match &edit.name {
-            Some(name) => column.name = name.clone(),
-            None => column.flags &= !REQUIRED,
+        match &edit.change {
+            Change::Rename(name) => column.name = name.clone(),
+            Change::Relax => column.flags &= !REQUIRED,
+            Change::Widen(code) => column.type_code = *code,
         }
         edited.push(column.id);
     }

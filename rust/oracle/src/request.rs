@@ -2,7 +2,7 @@
 
 use std::sync::Arc;
 
-use judge::{EDIT_BYTES, ENTRY_BYTES, Node, RELAX, RENAME, STRUCT};
+use judge::{Change, EDIT_BYTES, ENTRY_BYTES, Edit, Node, RELAX, RENAME, STRUCT, WIDEN};
 
 use crate::fields::{Unfit, field, nodes, text};
 use crate::spec::Schema;
@@ -18,12 +18,6 @@ pub struct Request {
     pub deletions: Vec<Vec<u8>>,
     /// The parent's path, none for the root, and the new column.
     pub additions: Vec<(Option<Vec<u8>>, Node)>,
-}
-
-/// An edit, unpacked: its path, and the new name; one without relaxes.
-pub struct Edit {
-    pub path: Vec<u8>,
-    pub name: Option<Vec<u8>>,
 }
 
 type Path = Option<Vec<u8>>;
@@ -62,10 +56,14 @@ fn one_edit(e: &[u8], pool: &[u8]) -> std::result::Result<Edit, Unfit> {
         pool.get(offset..offset + length).map(<[u8]>::to_vec).ok_or("an edit outside its pool")
     };
     let path = part(word(0), u16::from_le_bytes([e[4], e[5]]).into())?;
-    let name = part(word(8), e[12].into())?;
-    match (e[6], e[7], &e[13..]) {
-        (RENAME, 0, [0, 0, 0]) => Ok(Edit { path, name: Some(name) }),
-        (RELAX, 0, [0, 0, 0]) if e[8..13] == [0; 5] => Ok(Edit { path, name: None }),
+    let change = match (e[6], e[12]) {
+        (RENAME, length) => Change::Rename(part(word(8), length.into())?),
+        (RELAX, 0) if word(8) == 0 => Change::Relax,
+        (WIDEN, 0) => Change::Widen(word(8) as u32),
+        _ => return Err("a byte rule of an edit"),
+    };
+    match (e[7], &e[13..]) {
+        (0, [0, 0, 0]) => Ok(Edit { path, change }),
         _ => Err("a byte rule of an edit"),
     }
 }

@@ -26,6 +26,7 @@ impl Operations for Port {
             call.pool,
             call.identifiers,
             call.last_id,
+            call.version,
             call.deletions,
             call.additions,
             call.added_records,

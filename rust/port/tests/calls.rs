@@ -4,10 +4,11 @@ use std::sync::atomic::{AtomicUsize, Ordering};
 
 use braidhurdle::c;
 use cases::{
-    Ask, ByJudge, Case, Generator, Sizes, answer, ask_of, edited, ids_by, list_of, lists, map_of,
-    outcome, packed, prim, prune_by, relax, rename, renumber_by, strukt, the_tree, update_of,
+    Ask, ByJudge, Case, Generator, Sizes, answer, ask_of, by_version, decimal, edited, ids_by,
+    list_of, lists, map_of, outcome, packed, prim, prune_by, relax, rename, renumber_by, strukt,
+    the_tree, update_of, widen,
 };
-use judge::{DEFAULT, Node, REQUIRED};
+use judge::{DATE, DEFAULT, DOUBLE, FLOAT, INT, LONG, Node, REQUIRED, TIMESTAMP_NS};
 use port::{Guarded, absent, beside_paper};
 
 #[test]
@@ -148,6 +149,60 @@ fn one_byte_breaks_an_edit() {
     }
 }
 
+/// Widenings of which a byte can break a rule: of a root that is an identifier, a struct's member, a
+/// key, a value and an element, by version 3; one of them is renamed and one relaxed.
+fn nearly_widened() -> Case {
+    let typed = |code: u32, mut column: Node| {
+        column.type_code = code;
+        column
+    };
+    let base = [
+        required(typed(INT, prim(1, "a"))),
+        strukt(2, "s", vec![typed(FLOAT, prim(3, "b"))]),
+        map_of(4, "m", typed(INT, prim(5, "key")), typed(decimal(9, 2), prim(6, "value"))),
+        list_of(7, "l", typed(DATE, prim(8, "element"))),
+    ];
+    let edits = [
+        widen("a", LONG),
+        widen("s.b", DOUBLE),
+        rename("s.b", "c"),
+        widen("m.key", LONG),
+        widen("m.value", decimal(10, 2)),
+        relax("m.value"),
+        widen("l.element", TIMESTAMP_NS),
+    ];
+    by_version(3, edited(update_of(&base, &[1], 8, &[], &[]), &edits))
+}
+
+#[test]
+fn one_byte_breaks_a_widening() {
+    // a byte of the edits, its value, and what is told
+    for (at, value, told) in [
+        (8, 4, (26, 6, 0)),
+        (8, 2, (26, 6, 0)),
+        (11, 1, (26, 6, 0)),
+        (12, 1, (3, 6, 0)),
+        (6, 4, (3, 6, 0)),
+        (0, 2, (23, 6, 0)),
+        (3, 1, (4, 6, 0)),
+        (16 + 8, 5, (26, 6, 1)),
+        (4 * 16 + 8, 3, (26, 6, 4)),
+        (4 * 16 + 9, 9, (26, 6, 4)),
+        (4 * 16 + 9, 39, (26, 6, 4)),
+        // a second widening, to 0
+        (5 * 16 + 6, 3, (24, 6, 5)),
+        (6 * 16 + 8, 6, (26, 6, 6)),
+    ] {
+        let mut case = nearly_widened();
+        let Ask::Update { edits, .. } = &mut case.ask else { panic!("an update") };
+        edits[at] = value;
+        let refusal = answer(&case).refusal().map(|r| (r.number, r.list, r.place));
+        assert_eq!(refusal, Some(told), "byte {at}: {value}");
+    }
+    let case = by_version(2, nearly_widened());
+    assert_eq!(answer(&case).refusal().map(|r| (r.number, r.place)), Some((26, 6)));
+}
+
 /// Identifiers of which a byte can break a condition: of a column or of what is above it, in a base
 /// and in a rebuilt tree, where an id is given again beneath two structs.
 fn nearly_broken() -> Vec<Case> {
@@ -185,7 +240,7 @@ fn one_byte_breaks_a_condition_of_an_identifier() {
     }
 }
 
-/// Each byte of each list through all values, and each list cut after each byte.
+/// Each byte of each list through all values, each list cut after each byte, and other versions.
 fn damaged_everywhere(case: &Case) {
     for at in 0..lists(&mut case.clone()).len() {
         let damaged = |damage: &dyn Fn(&mut Vec<u8>)| {
@@ -202,6 +257,11 @@ fn damaged_everywhere(case: &Case) {
             same_on(&damaged(&|list| list.truncate(byte)), &format!("list {at} ends at {byte}"));
         }
     }
+    if let Some(version) = case.update_call().map(|call| call.version) {
+        for other in (0..32).map(|bit| version ^ 1 << bit).chain(0..=255) {
+            same_on(&by_version(other, case.clone()), &format!("version {other}"));
+        }
+    }
 }
 
 #[test]
@@ -212,7 +272,7 @@ fn trees_damaged_in_every_byte_get_the_texts_answer_from_every_entry() {
     }
     let nearly =
         [nearly_ambiguous(), nearly_equal(), vec![nearly_gone(), nearly_edited()], nearly_broken()];
-    let cases = [asked_of_t(), nearly.concat()].concat();
+    let cases = [asked_of_t(), nearly.concat(), vec![nearly_widened()]].concat();
     let next = AtomicUsize::new(0);
     let threads = std::thread::available_parallelism().map_or(1, usize::from);
     std::thread::scope(|scope| {

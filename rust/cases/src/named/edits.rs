@@ -412,7 +412,7 @@ fn bytes(all: &mut Cases) {
             (15, 1),
             (15, 128),
         ] {
-            // a relaxing has no name, so it is a widening to 0 since 6/13; a rename's name is too much
+            // what relaxes has no name, so with 3 it widens to code 0 since 6/13
             let (title, number) = match (at, byte, value) {
                 (1, 6, 3) => ("6/13: 3 is no broken byte but widens", 26),
                 _ => (title, 3),
