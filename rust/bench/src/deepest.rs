@@ -8,7 +8,7 @@ use cases::{
 };
 use judge::{LEVELS, LIST, MAP, MOST_RECORDS, Node, PRIMITIVE, STRUCT, Tree};
 
-use crate::edits::editing;
+use crate::edits::{editing, widening};
 use crate::rows::rows;
 use crate::schemas::{SCHEMAS, numbered, required};
 use crate::worst::{worst_identifiers, worst_ids};
@@ -21,7 +21,7 @@ pub fn deepest() -> impl Iterator<Item = Case> {
     let random = Generator { seed: 1, sizes: Sizes::Usual };
     let random = (0..4_000).map(move |n| random.case(n)).filter(|case| case.ask != Ask::List);
     let ids = worst_ids().into_iter().flatten().chain(worst_identifiers());
-    let edits = editing().into_iter().flat_map(|editing| editing.rows);
+    let edits = editing().into_iter().chain(widening()).flat_map(|editing| editing.rows);
     table.chain(ids).chain(edits).map(|row| row.case).chain(nested).chain(random)
 }
 

@@ -1,13 +1,12 @@
 //! Updates with edits, beside the same update without them.
 
-use cases::{Case, edited, prim, strukt, update_of};
-use judge::{Change, Edit, LEVELS, MOST_RECORDS, Node, Tree};
+use cases::{Case, by_version, decimal, edited, prim, strukt, update_of};
+use judge::{
+    Change, Edit, INT, LEVELS, LONG, MOST_EDITS, MOST_RECORDS, Node, PRIMITIVE, RECORD_BYTES, Tree,
+};
 
 use crate::rows::{Row, base_last, member, primitives, row, update};
 use crate::schemas::{SCHEMAS, numbered, required, schema};
-
-/// Most edits of an update.
-const EDITS: usize = 64;
 
 /// Rows that are told together: the first is the update without edits, which the crate can be asked
 /// for too.
@@ -17,53 +16,108 @@ pub struct Editing {
 }
 
 impl Editing {
-    fn new(of: String, without: Case, edits: Vec<(&'static str, Vec<Edit>)>) -> Editing {
-        let with = |(what, edits): (&'static str, Vec<Edit>)| Row {
-            crate_too: false,
-            ..row(what, edited(without.clone(), &edits))
-        };
-        let rows = edits.into_iter().map(with).collect();
-        Editing { of, rows: [vec![row("without edits", without)], rows].concat() }
+    fn new(of: Editable, with: Vec<(&'static str, Case)>) -> Editing {
+        let with = with.into_iter().map(|(what, case)| Row { crate_too: false, ..row(what, case) });
+        let without = [row("without edits", of.case)];
+        Editing { of: of.what, rows: without.into_iter().chain(with).collect() }
     }
 }
 
 /// 64 edits beside 64 deletions and 64 additions, and alone, of each schema; and what is built to
 /// be bad for them. All records are required.
 pub fn editing() -> Vec<Editing> {
-    let of_schema = |(name, _): &(&str, &str)| {
+    let with = |of: Editable| {
+        let renamed = of.renamed();
+        Editing::new(of, renamed)
+    };
+    editable(|_, _| true).map(with).collect()
+}
+
+/// The same where 64 primitives stay, of which each is edited, and widenings of them beside it. A
+/// decimal's step is in no row of the table of steps, so all rows are asked for it.
+pub fn widening() -> Vec<Editing> {
+    let with = |of: Editable| {
+        let (ints, decimals) = (of.typed(INT), of.typed(decimal(9, 2)));
+        let in_turn = |n: usize| match n % 3 {
+            0 => ints.new_name(n),
+            1 => Change::Relax,
+            _ => Change::Widen(LONG),
+        };
+        let more_digits = decimals.with(|_| Change::Widen(decimal(38, 2)));
+        let mut rows = ints.renamed();
+        rows.extend([
+            ("64 widenings, int to long", ints.with(|_| Change::Widen(LONG))),
+            ("22 renames, 21 relaxings, 21 widenings", ints.with(in_turn)),
+            ("64 widenings of decimals, version 2", more_digits.clone()),
+            ("64 widenings of decimals, version 3", by_version(3, more_digits)),
+        ]);
+        Editing::new(ints, rows)
+    };
+    let primitive = |tree: &Tree, slot: usize| tree.rows[slot].kind == PRIMITIVE;
+    editable(primitive).filter(|of| of.paths.len() == MOST_EDITS).map(with).collect()
+}
+
+/// An update, and the paths of columns that it leaves; new names have so many bytes at least.
+struct Editable {
+    what: String,
+    case: Case,
+    paths: Vec<Vec<u8>>,
+    bytes: usize,
+}
+
+impl Editable {
+    /// The update with an edit of each column.
+    fn with(&self, change: impl Fn(usize) -> Change) -> Case {
+        let edit = |(n, path): (usize, &Vec<u8>)| Edit { path: path.clone(), change: change(n) };
+        let edits: Vec<Edit> = self.paths.iter().enumerate().map(edit).collect();
+        edited(self.case.clone(), &edits)
+    }
+
+    /// Half renames and half relaxings, in turn, and renames alone.
+    fn renamed(&self) -> Vec<(&'static str, Case)> {
+        let in_turn = |n: usize| if n % 2 == 1 { Change::Relax } else { self.new_name(n) };
+        vec![
+            ("32 renames, 32 relaxings", self.with(in_turn)),
+            ("64 renames", self.with(|n| self.new_name(n))),
+        ]
+    }
+
+    fn new_name(&self, n: usize) -> Change {
+        let named = format!("named_{n}");
+        let fill = "x".repeat(self.bytes.saturating_sub(named.len()));
+        Change::Rename((named + &fill).into())
+    }
+
+    /// The same with every primitive of the base of one type.
+    fn typed(&self, code: u32) -> Editable {
+        let mut case = self.case.clone();
+        for record in case.records.chunks_exact_mut(RECORD_BYTES).filter(|r| r[9] == PRIMITIVE) {
+            record[16..20].copy_from_slice(&code.to_le_bytes());
+        }
+        Editable { what: self.what.clone(), case, paths: self.paths.clone(), bytes: self.bytes }
+    }
+}
+
+/// The updates that are edited, each with 64 columns of which this holds, from all over, or with as
+/// many as stay.
+fn editable(picked: fn(&Tree, usize) -> bool) -> impl Iterator<Item = Editable> {
+    let of_schema = move |(name, _): &(&str, &str)| {
         let base = required(schema(name, MOST_RECORDS));
         let tree = Tree::of(&base);
-        let full = update(&base, &tree, &primitives(&tree), EDITS);
+        let full = update(&base, &tree, &primitives(&tree), MOST_EDITS);
         let nothing = update_of(&base, &[1], base_last(&tree), &[], &[]);
         [(full, "64 deletions and 64 additions"), (nothing, "nothing else")].map(
             |(case, beside)| {
-                let slots = spread(&staying(&tree, &case));
-                let paths: Vec<Vec<u8>> = slots.iter().map(|slot| tree.full_name(*slot)).collect();
-                Editing::new(format!("{name}, beside {beside}"), case, kinds(&paths, 0))
+                let mut slots = staying(&tree, &case);
+                slots.retain(|slot| picked(&tree, *slot));
+                let paths = spread(&slots).map(|slot| tree.full_name(slot)).collect();
+                Editable { what: format!("{name}, beside {beside}"), case, paths, bytes: 0 }
             },
         )
     };
-    let mut all: Vec<Editing> = SCHEMAS.iter().flat_map(of_schema).collect();
-    all.extend([far_down(), by_short_names()]);
-    all
-}
-
-/// 64 edits of these columns: half renames and half relaxings, in turn, and renames alone. The new
-/// names have so many bytes at least.
-fn kinds(paths: &[Vec<u8>], bytes: usize) -> Vec<(&'static str, Vec<Edit>)> {
-    let edit = |(n, path): (usize, &Vec<u8>), relaxes: bool| {
-        let named = format!("named_{n}");
-        let fill = "x".repeat(bytes.saturating_sub(named.len()));
-        let change = match relaxes {
-            true => Change::Relax,
-            false => Change::Rename((named + &fill).into()),
-        };
-        Edit { path: path.clone(), change }
-    };
-    let all = |relaxes: fn(usize) -> bool| {
-        paths.iter().enumerate().map(|at| edit(at, relaxes(at.0))).collect()
-    };
-    vec![("32 renames, 32 relaxings", all(|n| n % 2 == 1)), ("64 renames", all(|_| false))]
+    // whose columns are primitives
+    let bad = [far_down(), by_short_names()];
+    SCHEMAS.iter().flat_map(of_schema).chain(bad)
 }
 
 /// The slots of members that an update leaves, but for the identifier, which is the first.
@@ -77,13 +131,14 @@ fn staying(tree: &Tree, case: &Case) -> Vec<usize> {
     (1..tree.rows.len()).filter(stays).collect()
 }
 
-/// 64 of them, from all over.
-fn spread(slots: &[usize]) -> Vec<usize> {
-    (0..EDITS).map(|n| slots[n * slots.len() / EDITS]).collect()
+/// 64 of them, from all over, or as many as there are.
+fn spread(slots: &[usize]) -> impl Iterator<Item = usize> {
+    let count = slots.len().min(MOST_EDITS);
+    (0..count).map(move |n| slots[n * slots.len() / count])
 }
 
 /// Edits of 64 columns at level 16, by paths as long as a pool holds of them.
-fn far_down() -> Editing {
+fn far_down() -> Editable {
     let (bytes, new) = (29, 33);
     let long = |name: String| format!("{name}{}", "x".repeat(bytes - name.len()));
     let leaf = |at: usize| prim(0, &long(format!("leaf_{at}")));
@@ -93,27 +148,27 @@ fn far_down() -> Editing {
         let inner = |inside, _| vec![strukt(0, &long("inner".into()), inside)];
         strukt(0, &long(format!("chain_{at}")), (2..LEVELS).fold(leaves, inner))
     };
-    let mut roots: Vec<Node> = (0..EDITS - 1).map(chain).collect();
+    let mut roots: Vec<Node> = (0..MOST_EDITS - 1).map(chain).collect();
     let left = MOST_RECORDS - Tree::of(&roots).rows.len();
     roots.extend((0..left).map(|n| prim(0, &format!("floor_{n}"))));
     let base = numbered(required(roots));
     let tree = Tree::of(&base);
     let deep = (0..MOST_RECORDS).filter(|slot| tree.rows[*slot].level == LEVELS);
-    let paths: Vec<Vec<u8>> = deep.map(|slot| tree.full_name(slot)).collect();
-    let without = update_of(&base, &[], MOST_RECORDS as i32, &[], &[]);
-    Editing::new("level 16, paths of 479 bytes".into(), without, kinds(&paths, new))
+    let paths = deep.map(|slot| tree.full_name(slot)).collect();
+    let case = update_of(&base, &[], MOST_RECORDS as i32, &[], &[]);
+    Editable { what: "level 16, paths of 479 bytes".into(), case, paths, bytes: new }
 }
 
 /// Edits of columns that are found by their short names alone, for each of which all full names are
 /// asked first, and then all short ones up to it.
-fn by_short_names() -> Editing {
+fn by_short_names() -> Editable {
     let base = required(schema("tables", MOST_RECORDS));
     let tree = Tree::of(&base);
     let short =
         |slot: &usize| member(&tree, *slot) && tree.short_name(*slot) != tree.full_name(*slot);
     let slots: Vec<usize> = (0..MOST_RECORDS).filter(short).collect();
-    let last = &slots[slots.len() - EDITS..];
-    let paths: Vec<Vec<u8>> = last.iter().map(|slot| tree.short_name(*slot)).collect();
-    let without = update_of(&base, &[1], MOST_RECORDS as i32, &[], &[]);
-    Editing::new("tables, by the last short names".into(), without, kinds(&paths, 0))
+    let last = &slots[slots.len() - MOST_EDITS..];
+    let paths = last.iter().map(|slot| tree.short_name(*slot)).collect();
+    let case = update_of(&base, &[1], MOST_RECORDS as i32, &[], &[]);
+    Editable { what: "tables, by the last short names".into(), case, paths, bytes: 0 }
 }

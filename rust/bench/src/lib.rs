@@ -14,7 +14,7 @@ mod timing;
 mod worst;
 
 pub use deepest::deepest;
-pub use edits::{Editing, editing};
+pub use edits::{Editing, editing, widening};
 pub use folded::worst_folded;
 pub use ids::{FAMILIES, Family};
 pub use rows::{Row, rows};

@@ -2,22 +2,23 @@
 //! own code from the same bytes (build and operation), how many times the port is faster, and
 //! a plain copy of the same bytes. Then the same for trees that are built to be bad, for the
 //! index, for the look-up that forgets case, for additions and for identifiers far down; updates
-//! with edits beside the same ones without; searches by id beside a linear scan; the stack that
-//! each entry uses. Words behind the command choose parts of that.
+//! with edits, widenings among them, beside the same ones without; searches by id beside a linear
+//! scan; the stack that each entry uses. Words behind the command choose parts of that.
 
 use std::hint::black_box;
 use std::process::ExitCode;
 
 use bench::{
     Call, Editing, FAMILIES, LINKED, Room, Row, SCHEMAS, SIZES, Search, deepest, editing, marks,
-    rows, searches, times, worst_folded, worst_identifiers, worst_ids, worst_names, worst_parents,
+    rows, searches, times, widening, worst_folded, worst_identifiers, worst_ids, worst_names,
+    worst_parents,
 };
 use oracle::Iceberg;
 use port::Port;
 
 /// The parts besides the schemas.
-const PARTS: [&str; 8] =
-    ["ids", "names", "folded", "parents", "identifiers", "edits", "searches", "stack"];
+const PARTS: [&str; 9] =
+    ["ids", "names", "folded", "parents", "identifiers", "edits", "widenings", "searches", "stack"];
 
 fn main() -> ExitCode {
     let parts: Vec<&str> = SCHEMAS.iter().map(|(name, _)| *name).chain(PARTS).collect();
@@ -69,8 +70,14 @@ fn main() -> ExitCode {
         println!("\nidentifiers: built to be bad for the walk up from an identifier (9)");
         table(worst_identifiers(), iceberg);
     }
+    let without = "beside the same update without edits, which is what the crate is asked for";
     if wanted("edits") {
-        editings(iceberg);
+        println!("\nedits: {without}");
+        editings(editing(), iceberg);
+    }
+    if wanted("widenings") {
+        println!("\nwidenings, and other edits of the same primitives: {without}");
+        editings(widening(), iceberg);
     }
     if wanted("searches") {
         searching(iceberg);
@@ -97,9 +104,8 @@ fn table(rows: impl IntoIterator<Item = Row>, iceberg: Option<Iceberg>) {
 
 /// A table for each update without edits, and the same with them: how many times it takes as long.
 /// The crate has no edits, so it is asked for the update without them.
-fn editings(iceberg: Option<Iceberg>) {
-    println!("\nedits: beside the same update without edits, which is what the crate is asked for");
-    for Editing { of, rows } in editing() {
+fn editings(all: Vec<Editing>, iceberg: Option<Iceberg>) {
+    for Editing { of, rows } in all {
         println!("\n{of}");
         println!(
             "{:>7} {:45}{:>12}{:>9}{:>12}{:>9}",

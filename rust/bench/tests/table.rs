@@ -3,11 +3,16 @@
 use std::collections::{HashMap, HashSet};
 
 use bench::{
-    Editing, FAMILIES, Room, SCHEMAS, SIZES, editing, rows, schema, searches, worst_folded,
-    worst_identifiers, worst_ids, worst_names, worst_parents,
+    Editing, FAMILIES, Room, SCHEMAS, SIZES, editing, rows, schema, searches, widening,
+    worst_folded, worst_identifiers, worst_ids, worst_names, worst_parents,
 };
 use cases::{Answer, Ask, ByJudge, Case, answer};
 use judge::{Change, Edit, ID_BYTES, LEVELS, Names, RECORD_BYTES, Tree, UpdateCall};
+
+/// Updates with edits, and the same ones without.
+fn all_edits() -> impl Iterator<Item = Editing> {
+    editing().into_iter().chain(widening())
+}
 
 #[test]
 fn every_schema_has_exactly_its_records() {
@@ -26,7 +31,7 @@ fn every_row_goes_as_far_as_it_says() {
     let pairs = worst_ids().into_iter().flatten().chain(worst_folded().into_iter().flatten());
     let worst = worst_names().into_iter().chain(pairs).chain(worst_parents());
     let worst = worst.chain(worst_identifiers());
-    let worst = worst.chain(editing().into_iter().flat_map(|editing| editing.rows));
+    let worst = worst.chain(all_edits().flat_map(|editing| editing.rows));
     for row in table.flatten().chain(worst) {
         let records = row.case.records.len() / RECORD_BYTES;
         let refusal = answer(&row.case).refusal().map_or(0, |r| r.number);
@@ -78,32 +83,86 @@ fn identifiers_far_down_have_many_records_above_them() {
     }
 }
 
-/// Each row with edits is the first one, and 64 edits of different columns, of which each changes
+/// How many renames, relaxings and widenings each row has. But for them, and for the version and
+/// the types of the base, it is the first one. Each edit is of another column, and changes
 /// something.
+fn edits_of(Editing { of, rows }: &Editing) -> Vec<[usize; 3]> {
+    let calls: Vec<UpdateCall> =
+        rows.iter().map(|row| row.case.update_call().expect("an update")).collect();
+    let tree = judge::read_tree(calls[0].records, calls[0].pool, judge::BASE).expect("read");
+    let names = Names::of(&tree);
+    assert_eq!(tree.rows.len(), 1_024, "{of}");
+    let first = untyped(calls[0].records);
+    let counts = calls.iter().map(|call| {
+        let edits = judge::read_edits(call.edits, call.request_pool).expect("read");
+        let slots = edits.iter().map(|edit| names.find(&edit.path).expect("it is there"));
+        let slots: HashSet<usize> = slots.collect();
+        assert_eq!(slots.len(), edits.len(), "{of}");
+        assert!(slots.iter().all(|slot| tree.rows[*slot].flags & judge::REQUIRED != 0));
+        assert!(!of.starts_with("level 16") || slots.iter().all(|s| tree.rows[*s].level == 16));
+        assert_eq!(untyped(call.records), first, "{of}");
+        let UpdateCall { records, version, request_pool, .. } = calls[0];
+        let rest = UpdateCall { records, version, edits: &[], request_pool, ..*call };
+        assert_eq!(rest, calls[0], "{of}");
+        let count = |is: fn(&Change) -> bool| edits.iter().filter(|e| is(&e.change)).count();
+        [
+            count(|change| matches!(change, Change::Rename(_))),
+            count(|change| *change == Change::Relax),
+            count(|change| matches!(change, Change::Widen(_))),
+        ]
+    });
+    counts.collect()
+}
+
+/// Records without their type codes.
+fn untyped(records: &[u8]) -> Vec<u8> {
+    let mut records = records.to_vec();
+    records.chunks_exact_mut(RECORD_BYTES).for_each(|record| record[16..20].fill(0));
+    records
+}
+
 #[test]
 fn updates_with_edits_are_those_without_and_64_edits_more() {
     let all = editing();
     assert_eq!(all.len(), 2 * SCHEMAS.len() + 2);
-    for Editing { of, rows } in all {
-        let calls: Vec<UpdateCall> =
-            rows.iter().map(|row| row.case.update_call().expect("an update")).collect();
-        let tree = judge::read_tree(calls[0].records, calls[0].pool, judge::BASE).expect("read");
-        let names = Names::of(&tree);
-        assert_eq!(tree.rows.len(), 1_024, "{of}");
-        let renames = calls.iter().map(|call| {
-            let edits = judge::read_edits(call.edits, call.request_pool).expect("read");
-            let slots = edits.iter().map(|edit| names.find(&edit.path).expect("it is there"));
-            let slots: HashSet<usize> = slots.collect();
-            assert_eq!(slots.len(), edits.len(), "{of}");
-            assert!(slots.iter().all(|slot| tree.rows[*slot].flags & judge::REQUIRED != 0));
-            assert!(!of.starts_with("level 16") || slots.iter().all(|s| tree.rows[*s].level == 16));
-            let rest = UpdateCall { edits: &[], request_pool: calls[0].request_pool, ..*call };
-            assert_eq!(rest, calls[0], "{of}");
-            let renames = |edit: &&Edit| matches!(edit.change, Change::Rename(_));
-            [edits.len(), edits.iter().filter(renames).count()]
-        });
-        assert_eq!(renames.collect::<Vec<_>>(), [[0, 0], [64, 32], [64, 64]], "{of}");
+    for editing in all {
+        assert_eq!(edits_of(&editing), [[0; 3], [32, 32, 0], [64, 0, 0]], "{}", editing.of);
+        let calls = editing.rows.iter().filter_map(|row| row.case.update_call());
+        let same = |call: UpdateCall| (call.version, call.records == editing.rows[0].case.records);
+        assert!(calls.map(same).all(|same| same == (2, true)), "{}", editing.of);
     }
+}
+
+/// All steps of a row are one: from int to long, or from decimal(9, 2) to decimal(38, 2).
+#[test]
+fn updates_with_widenings_are_those_without_and_64_edits_more() {
+    let all = widening();
+    // of sixteen levels 64 deletions leave no primitive but the identifier
+    assert_eq!(all.len(), 2 * SCHEMAS.len() + 1);
+    for editing in all {
+        let [same, renamed] = [[0; 3], [64, 0, 0]];
+        let (widened, mixed) = ([0, 0, 64], [22, 21, 21]);
+        let counts = [same, [32, 32, 0], renamed, widened, mixed, widened, widened];
+        assert_eq!(edits_of(&editing), counts, "{}", editing.of);
+        let steps: Vec<_> = editing.rows.iter().map(|row| steps(&row.case)).collect();
+        let [int, digits] = [(2, 3), (67_842, 75_266)].map(Some);
+        let of_2 = [None, None, None, int, int, digits].map(|step| (2, step));
+        assert_eq!(steps, [&of_2[..], &[(3, digits)]].concat(), "{}", editing.of);
+    }
+}
+
+/// The version of an update, and the step of its widenings.
+fn steps(case: &Case) -> (u32, Option<(u32, u32)>) {
+    let call = case.update_call().expect("an update");
+    let tree = judge::read_tree(call.records, call.pool, judge::BASE).expect("read");
+    let (names, edits) = (Names::of(&tree), judge::read_edits(call.edits, call.request_pool));
+    let step = |edit: &Edit| match edit.change {
+        Change::Widen(code) => Some((tree.rows[names.find(&edit.path)?].type_code, code)),
+        _ => None,
+    };
+    let steps: HashSet<_> = edits.expect("read").iter().filter_map(step).collect();
+    assert!(steps.len() < 2, "{steps:?}");
+    (call.version, steps.into_iter().next())
 }
 
 /// The bytes of the own names that a walk over full or short names compares: where the names above
@@ -207,7 +266,7 @@ fn iceberg_does_what_the_table_says() {
             assert_eq!(iceberg.operate(&row.case), done, "{name} {}", row.what);
         }
     }
-    let edits = editing().into_iter().flat_map(|editing| editing.rows);
+    let edits = all_edits().flat_map(|editing| editing.rows);
     for row in worst_identifiers().into_iter().chain(edits.filter(|row| row.crate_too)) {
         assert_eq!(iceberg.operate(&row.case), row.refusal == 0, "{}", row.what);
     }

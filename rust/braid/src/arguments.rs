@@ -3,10 +3,12 @@
 use std::ffi::OsString;
 use std::path::PathBuf;
 
-use braidhurdle::{Field, FieldId, RefusalKind};
+use braidhurdle::{Field, FieldId, RefusalKind, Version};
 use clap::builder::{OsStringValueParser, TypedValueParser};
 use clap::error::ErrorKind;
 use clap::{Arg, ArgAction, ArgMatches, Command, value_parser};
+
+use crate::types;
 
 const ABOUT: &str = "Schema trees kept as files: STEM.rec holds the records, STEM.names the names, \
                      STEM.last the last id";
@@ -57,6 +59,8 @@ pub enum Edit {
     Rename(Vec<u8>),
     RenameId(FieldId, Vec<u8>),
     Relax(Named),
+    /// A column, and the code of its new type.
+    Widen(Named, u32),
 }
 
 /// What is asked for.
@@ -91,6 +95,7 @@ pub enum Of {
     },
     Update {
         last_id: Option<FieldId>,
+        version: u32,
         identifiers: Vec<Named>,
         drop: Vec<Named>,
         add: Vec<Addition<Added, Named>>,
@@ -135,6 +140,7 @@ pub fn given() -> Result<Ask, clap::Error> {
         },
         "update" => Of::Update {
             last_id: of.get_one("last-id").copied(),
+            version: of.get_one("format-version").copied().unwrap_or(Version::default().number()),
             identifiers: named(of, "identifiers"),
             drop: drops(of),
             add: additions(of).map_err(|why| {
@@ -180,9 +186,10 @@ fn list() -> Command {
         .arg(path("IN", "The tree to print: IN.rec and IN.names"))
         .arg(flag("plain", "Prints slot, id, parent id or -, and full name"))
         .after_help(
-            "A line of the picture: id, name, kind; then what is set of required, default and\n\
-             attribute. What a terminal would obey or can't show is escaped; with --plain names\n\
-             stand as they are, except on a terminal. docs/FORMAT.md has the rest.\n\n\
+            "A line of the picture: id, name, type or kind; then what is set of required, default\n\
+             and attribute. A type code that is no type's is shown as a number. What a terminal\n\
+             would obey or can't show is escaped; with --plain names stand as they are, except on\n\
+             a terminal. docs/FORMAT.md has the rest.\n\n\
              Example:\n  braid list examples/T\n  braid list examples/T --plain | cut -d' ' -f4-",
         )
 }
@@ -193,10 +200,9 @@ fn check() -> Command {
         .arg(path("IN", "The tree to check: IN.rec, IN.names and IN.last"))
         .arg(some(many("identifiers", "ID|PATH,..", "Identifiers, to be checked with the tree")))
         .after_help(
-            "An identifier is a required primitive, no float (type code 5) and no double (6),\n\
-             with nothing above it but required structs; else it is refused (9), here, by\n\
-             renumber and by update, and the reasons are told. Prints id, slot and full name of\n\
-             each.\n\n\
+            "An identifier is a required primitive, no float and no double, with nothing above it\n\
+             but required structs; else it is refused (9), here, by renumber and by update, and\n\
+             the reasons are told. Prints id, slot and full name of each.\n\n\
              A last id below an id of the tree is a fault of the files: status 3.\n\n\
              Example:\n  braid check examples/T\n  \
              braid check examples/node-4 --identifiers node.serial",
@@ -279,15 +285,23 @@ fn renumber() -> Command {
 
 fn update() -> Command {
     Command::new("update")
-        .about("Drops, adds, renames and relaxes columns")
+        .about("Drops, adds, renames, relaxes and widens columns")
         .arg(path("IN", "The tree to update: IN.rec, IN.names and IN.last"))
         .arg(an_id(option("last-id", "ID", "The last id consumed so far, else that of IN.last")))
+        .arg(
+            option(
+                "format-version",
+                "N",
+                "The format version by whose steps types are widened, else 2",
+            )
+            .value_parser(value_parser!(u32)),
+        )
         .arg(some(many("identifiers", "ID|PATH,..", "Identifiers, which no drop may find")))
         .arg(bytes(many("drop", "PATH", "Drops the column of this name, with all inside it")))
         .arg(ids(many("drop-id", "ID,..", "Drops the columns of these ids, with all inside them")))
         .arg(
-            many("add", "NAME:CODE", "Adds an optional primitive of this type code")
-                .value_parser(OsStringValueParser::new().try_map(name_and_code)),
+            many("add", "NAME:TYPE", "Adds an optional primitive of this type")
+                .value_parser(OsStringValueParser::new().try_map(name_and_type)),
         )
         .arg(
             many("add-tree", "IN", "Adds each root of this tree; its ids are ignored")
@@ -312,6 +326,15 @@ fn update() -> Command {
         )
         .arg(bytes(many("relax", "PATH", "Makes the column of this path optional")))
         .arg(ids(many("relax-id", "ID,..", "Makes the columns of these ids optional")))
+        .arg(
+            many("widen", "PATH:TYPE", "Gives the column of this path a wider type")
+                .value_parser(OsStringValueParser::new().try_map(name_and_type)),
+        )
+        .arg(
+            many("widen-id", "ID:TYPE", "The same by the column's id")
+                .value_parser(OsStringValueParser::new().try_map(id_and_type))
+                .allow_hyphen_values(true),
+        )
         .args(out_arguments(FORCE_LAST))
         .after_help(
             "The order counts: --under belongs to the --add or --add-tree before it; --required,\n\
@@ -320,14 +343,21 @@ fn update() -> Command {
              their own. The last id is not the largest id present: a dropped id never returns.\n\
              A --last-id below an id of the tree or below IN.last is not taken without --force.\n\
              Prints what became of each column, and the new last id, which OUT.last keeps.\n\n\
-             Renamed and relaxed are columns that were there and stay, after all additions. A\n\
-             column keeps its id, and gets one new name at most: not its path, and without a\n\
-             dot. In PATH=NAME both may have a = of their own: PATH is what names a column of the\n\
-             tree, and where two do, nothing is done; say it by --rename-id.\n\n\
+             Renamed, relaxed and widened are columns that were there and stay, after all\n\
+             additions. A column keeps its id, and gets one new name at most: not its path, and\n\
+             without a dot. In PATH=NAME both may have a = of their own: PATH is what names a\n\
+             column of the tree, and where two do, nothing is done; say it by --rename-id.\n\n\
+             TYPE is a name, as list shows it, or a code; it stands behind the last colon, so\n\
+             what is before it may have colons. A type is widened once at most, from int to long,\n\
+             from float to double, or to a decimal of higher precision with the same scale; in\n\
+             format version 3 also from date to timestamp or to timestamp_ns.\n\n\
              Example:\n  braid update examples/T --drop node.cost --drop-id 7 \\\n    \
-             --add cost:3 --under node --add floor:2 --out U\n  \
+             --add cost:long --under node --add floor:int --out U\n  \
              braid update examples/node-4 --rename faults=failures \\\n    \
-             --rename-id 6=storey --relax node.battery --out node-5",
+             --rename-id 6=storey --relax node.battery \\\n    \
+             --widen parts.price:long --out node-5\n  \
+             braid update examples/node-4 --format-version 3 \\\n    \
+             --widen visits.day:timestamp --out node-6",
         )
 }
 
@@ -341,10 +371,11 @@ fn make() -> Command {
             "A picture has a line for each column, two spaces deeper for each level:\n\n  \
              1 visits: list\n    \
              2 element: struct\n      \
-             3 day: primitive 4 required\n\n\
-             The kind is primitive with its type code, struct, list or map. With it stand, in any\n\
-             order, what is set of required, default and attribute N. Blank lines and lines that\n\
-             begin with # are skipped. docs/FORMAT.md has the rest, names in quotes among it.\n\
+             3 day: date required\n\n\
+             Behind the colon stands a type (int, decimal(9,2)), primitive with a type code,\n\
+             struct, list or map. With it stand, in any order, what is set of required, default\n\
+             and attribute N. Blank lines and lines that begin with # are skipped. docs/FORMAT.md\n\
+             has the rest, names in quotes among it.\n\n\
              A picture has no last id: say it by --last-id, where an id above the largest of the\n\
              picture was consumed. Prints the last id, which OUT.last keeps.\n\n\
              Example:\n  braid make examples/T.picture --out T\n  \
@@ -429,13 +460,19 @@ fn ids_and_paths(given: OsString) -> Result<Vec<Named>, &'static str> {
     }
 }
 
-/// A name and a code; the name may have colons of its own.
-fn name_and_code(given: OsString) -> Result<(Vec<u8>, u32), &'static str> {
+/// A name or path and a type's code; the name may have colons of its own.
+fn name_and_type(given: OsString) -> Result<(Vec<u8>, u32), String> {
     let given = given.into_encoded_bytes();
-    let colon = given.iter().rposition(|byte| *byte == b':').ok_or("no colon before a code")?;
-    let code = std::str::from_utf8(&given[colon + 1..]).ok().and_then(|code| code.parse().ok());
-    let code = code.ok_or("no code, a number below 2^32, behind the colon")?;
+    let colon = given.iter().rposition(|byte| *byte == b':').ok_or("no colon before a type")?;
+    let code = types::code(&String::from_utf8_lossy(&given[colon + 1..]))?;
     Ok((given[..colon].to_vec(), code))
+}
+
+/// An id and a type's code.
+fn id_and_type(given: OsString) -> Result<(FieldId, u32), String> {
+    let (id, code) = name_and_type(given)?;
+    let id = std::str::from_utf8(&id).ok().and_then(|id| id.parse().ok());
+    Ok((id.ok_or("no id before the colon")?, code))
 }
 
 /// A path and a new name, which the tree parts.
@@ -481,6 +518,8 @@ fn edits(of: &ArgMatches) -> Vec<Edit> {
     gather(of, "rename-id", |(id, name)| Edit::RenameId(id, name), &mut edits);
     gather(of, "relax", |path| Edit::Relax(Named::Path(path)), &mut edits);
     gather(of, "relax-id", |id| Edit::Relax(Named::Id(id)), &mut edits);
+    gather(of, "widen", |(path, code)| Edit::Widen(Named::Path(path), code), &mut edits);
+    gather(of, "widen-id", |(id, code)| Edit::Widen(Named::Id(id), code), &mut edits);
     in_order(edits).collect()
 }
 

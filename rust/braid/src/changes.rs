@@ -5,11 +5,14 @@ use braidhurdle::{Column, Field, FieldId, Kind, Tree};
 
 use crate::arguments::Addition;
 use crate::edits::{Change, Edit};
+use crate::types;
 
 /// What is asked of an update, as people say it.
 #[derive(Clone, Copy)]
 pub struct Asked<'a> {
     pub last_id: FieldId,
+    /// The format version, be it known or not.
+    pub version: u32,
     /// The path of each deletion.
     pub dropped: &'a [Vec<u8>],
     pub added: &'a [Addition<Field>],
@@ -64,7 +67,8 @@ impl<'a> Changes<'a> {
 
     /// The first edit that relaxes the column of a slot.
     pub fn relaxing(&self, slot: usize) -> Option<usize> {
-        self.edits.iter().position(|(at, edit)| *at == slot && edit.new_name().is_none())
+        let relaxes = |edit: &Edit| matches!(edit.change, Change::Relax);
+        self.edits.iter().position(|(at, edit)| *at == slot && relaxes(edit))
     }
 
     /// The id of the column that an edit renames.
@@ -75,8 +79,16 @@ impl<'a> Changes<'a> {
 
     /// The own name of a column in the end.
     fn name(&self, slot: usize) -> &[u8] {
-        let new = self.edits.iter().filter(|(at, _)| *at == slot);
-        new.filter_map(|(_, edit)| edit.new_name()).next().unwrap_or(self.columns[slot].name)
+        self.edits_of(slot).find_map(Edit::new_name).unwrap_or(self.columns[slot].name)
+    }
+
+    /// The type code of a column in the end.
+    fn type_code(&self, slot: usize) -> u32 {
+        self.edits_of(slot).find_map(Edit::new_code).unwrap_or(self.columns[slot].type_code)
+    }
+
+    fn edits_of(&self, slot: usize) -> impl Iterator<Item = &'a Edit> + '_ {
+        self.edits.iter().filter(move |(at, _)| *at == slot).map(|(_, edit)| *edit)
     }
 
     /// The full name of a column in the end.
@@ -107,8 +119,8 @@ impl<'a> Changes<'a> {
             Kind::Struct => self.members(Some(slot)),
             _ => self.children(Some(slot)).map(|child| self.field(child)).collect(),
         };
-        let Column { id, kind, default, type_code, attribute, .. } = *column;
-        let name = self.name(slot).to_vec();
+        let Column { id, kind, default, attribute, .. } = *column;
+        let (name, type_code) = (self.name(slot).to_vec(), self.type_code(slot));
         let required = column.required && self.relaxing(slot).is_none();
         Field { id, name, kind, required, default, type_code, attribute, inside }
     }
@@ -166,6 +178,10 @@ impl<'a> Changes<'a> {
                 format!("relaxed {told}\n")
             }
             Change::Relax => format!("stays {told}: it is optional already\n"),
+            Change::Widen(code) => {
+                let [old, new] = [column.type_code, *code].map(types::named);
+                format!("widened {told} from {old} to {new}\n")
+            }
         }
     }
 

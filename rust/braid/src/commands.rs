@@ -7,7 +7,10 @@ use std::path::{Path, PathBuf};
 use braidhurdle::files::{ENDINGS, FileFault, Over, Stored, Why, with_ending};
 use braidhurdle::layout::RECORD_BYTES;
 use braidhurdle::names::{quoted, shown};
-use braidhurdle::{Column, Columns, Field, FieldId, Mode, Overlong, Refusal, Request, Slot, Tree};
+use braidhurdle::{
+    Column, Columns, Field, FieldId, Mode, Overlong, Refusal, Request, RequestRef, Room, Slot,
+    Tree, Updated,
+};
 
 use crate::arguments::{self, Added, Addition, Ask, Named, Of, Out};
 use crate::changes::{self, Changes};
@@ -45,7 +48,7 @@ pub fn answer(ask: Ask) -> Result<Vec<u8>, Fault> {
         Of::Parent(id) => parent(&given, id),
         Of::Prune { keep, full, out } => prune(given, &keep, full, &out),
         Of::Renumber { from, identifiers, out } => renumber(given, from, &identifiers, &out),
-        Of::Update { last_id, identifiers, drop, add, edit, out } => {
+        Of::Update { last_id, version, identifiers, drop, add, edit, out } => {
             let Last { id: last_id, note } = last::of_update(&given, last_id, kept, out.force)?;
             let identifiers = ids(&given, &identifiers)?;
             let dropped = drop.into_iter().map(|column| path(&given, column));
@@ -53,14 +56,9 @@ pub fn answer(ask: Ask) -> Result<Vec<u8>, Fault> {
             let added = added(&given, add)?;
             let edits = edit.into_iter().map(|edit| edited(&given, edit));
             let edits = edits.collect::<Result<Vec<_>, _>>()?;
-            let asked = changes::Asked { last_id, dropped: &dropped, added: &added, edits: &edits };
-            let request = request(&identifiers, asked).map_err(overlong)?;
-            let ask = Asked::Update { asked, request: &request };
-            let given = Given { identifiers: &identifiers, ask, ..given };
-            let answer = given.tree.update(&request).map_err(|why| given.refused(why))?;
-            let lines = Changes::of(&tree, asked).map(|changes| changes.lines());
-            let said = format!("{note}{}last id {}\n", lines.unwrap_or_default(), answer.last_id);
-            write(answer.into(), &out, said)
+            let (dropped, added, edits) = (&dropped, &added, &edits);
+            let asked = changes::Asked { last_id, version, dropped, added, edits };
+            update(Given { identifiers: &identifiers, ..given }, asked, &out, note)
         }
     }
 }
@@ -260,8 +258,22 @@ fn edited(given: &Given, edit: arguments::Edit) -> Result<Edit, Fault> {
             })?;
             (Named::Path(path), Change::Rename(name))
         }
+        arguments::Edit::Widen(column, code) => (column, Change::Widen(code)),
     };
     Ok(Edit { path: path(given, column)?, change })
+}
+
+fn update(given: Given, asked: changes::Asked, out: &Out, note: String) -> Result<Vec<u8>, Fault> {
+    let request = request(given.identifiers, asked).map_err(overlong)?;
+    // as a number, so that the library says whether there is such a version
+    let request = RequestRef { version: asked.version, ..request.lent() };
+    let given = Given { ask: Asked::Update { asked, request }, ..given };
+    let mut room = Room::boxed();
+    let answer = given.tree.lent().update_in(request, &mut room);
+    let Updated { tree, last_id } = answer.map_err(|why| given.refused(why))?;
+    let lines = Changes::of(given.tree, asked).map(|changes| changes.lines());
+    let said = format!("{note}{}last id {last_id}\n", lines.unwrap_or_default());
+    write(Stored { tree: tree.to_tree(), last_id: Some(last_id) }, out, said)
 }
 
 fn request(identifiers: &[FieldId], asked: changes::Asked) -> Result<Request, Overlong> {
@@ -279,6 +291,7 @@ fn request(identifiers: &[FieldId], asked: changes::Asked) -> Result<Request, Ov
         request = match change {
             Change::Rename(name) => request.rename(path, name)?,
             Change::Relax => request.relax(path)?,
+            Change::Widen(code) => request.widen(path, *code)?,
         };
     }
     Ok(request)

@@ -1,15 +1,16 @@
-//! Edits: how a rename is read, and in words refusals 23 and 24, 13 of an edit, and what an edit
-//! has to do with 8, 9 and 17.
+//! Edits: how a rename is read, and in words refusals 23, 24 and 26, 13 of an edit, and what an
+//! edit has to do with 8, 9 and 17.
 
 use std::iter::successors;
+use std::mem::discriminant;
 
 use braidhurdle::names::quoted;
-use braidhurdle::{Column, Kind, Tree};
+use braidhurdle::{Column, Kind, Tree, Version};
 
 use crate::changes::{Asked, Changes};
-use crate::near;
 use crate::outline::Outline;
 use crate::words::{Given, columns, told_of};
+use crate::{near, types};
 
 /// A change of the column that a path finds.
 pub struct Edit {
@@ -17,10 +18,11 @@ pub struct Edit {
     pub change: Change,
 }
 
-/// A new name; or no longer required.
+/// A new name; no longer required; or another type, by its code.
 pub enum Change {
     Rename(Vec<u8>),
     Relax,
+    Widen(u32),
 }
 
 impl Edit {
@@ -30,13 +32,39 @@ impl Edit {
         match &self.change {
             Change::Rename(name) => format!("rename of {path} to {}", quoted(name)),
             Change::Relax => format!("relaxing of {path}"),
+            Change::Widen(code) => format!("widening of {path} to {}", types::named(*code)),
+        }
+    }
+
+    /// What it does to a column.
+    fn does(&self) -> String {
+        match &self.change {
+            Change::Rename(name) => format!("renames it to {}", quoted(name)),
+            Change::Relax => "relaxes it".into(),
+            Change::Widen(code) => format!("widens it to {}", types::named(*code)),
+        }
+    }
+
+    /// What a column then is.
+    fn done(&self) -> &'static str {
+        match self.change {
+            Change::Rename(_) => "renamed",
+            Change::Relax => "relaxed",
+            Change::Widen(_) => "widened",
         }
     }
 
     pub fn new_name(&self) -> Option<&[u8]> {
         match &self.change {
             Change::Rename(name) => Some(name),
-            Change::Relax => None,
+            _ => None,
+        }
+    }
+
+    pub fn new_code(&self) -> Option<u32> {
+        match self.change {
+            Change::Widen(code) => Some(code),
+            _ => None,
         }
     }
 }
@@ -69,6 +97,7 @@ pub fn refused(given: &Given, number: u32, place: usize, asked: &Asked) -> Strin
         13 => own_name(edit),
         23 => not_there(given, place, asked),
         24 => forbidden(given, place, asked),
+        26 => no_step(given, place, asked),
         _ => None,
     };
     format!("edit {place}, {}{}", edit.said(), why.unwrap_or_default())
@@ -104,24 +133,39 @@ fn not_there(given: &Given, place: usize, asked: &Asked) -> Option<String> {
     })
 }
 
-/// Which role forbids an edit, or which edit before it renames the same column.
+/// Which role forbids an edit, or which edit before it does the same to the same column.
 fn forbidden(given: &Given, place: usize, asked: &Asked) -> Option<String> {
     let edit = &asked.edits[place];
     let column = given.found(&edit.path)?;
-    let told = told_of(&column);
-    let verb = if edit.new_name().is_some() { "renamed" } else { "relaxed" };
+    let (told, done) = (told_of(&column), edit.done());
     let whole = column.parent.and_then(|(_, above)| given.tree.column(above).ok()?);
-    if let Some(whole) = whole.filter(|above| above.kind != Kind::Struct) {
+    // a type is widened in any role
+    let forbids = |above: &Column| above.kind != Kind::Struct && edit.new_code().is_none();
+    if let Some(whole) = whole.filter(forbids) {
         let own = String::from_utf8_lossy(column.name);
-        return Some(format!(": {told}: a {}'s {own} is not {verb}", whole.kind));
+        return Some(format!(": {told}: a {}'s {own} is not {done}", whole.kind));
     }
     let same = |earlier: &Edit| {
-        earlier.new_name().is_some()
+        discriminant(&earlier.change) == discriminant(&edit.change)
             && given.found(&earlier.path).is_some_and(|found| found == column)
     };
     let earlier = asked.edits[..place].iter().position(same)?;
-    let name = quoted(asked.edits[earlier].new_name()?);
-    Some(format!(": {told}: edit {earlier} renames it to {name}, and a column is renamed once"))
+    let does = asked.edits[earlier].does();
+    Some(format!(": {told}: edit {earlier} {does}, and a column is {done} once"))
+}
+
+/// Why a column's type is not widened so.
+fn no_step(given: &Given, place: usize, asked: &Asked) -> Option<String> {
+    let edit = &asked.edits[place];
+    let column = given.found(&edit.path)?;
+    let why = match column.kind {
+        Kind::Primitive => {
+            let version = Version::try_from(asked.version).ok()?;
+            types::no_step(version, column.type_code, edit.new_code()?)
+        }
+        kind => format!("it is a {kind}, and no primitive"),
+    };
+    Some(format!(": {}: {why}", told_of(&column)))
 }
 
 /// The edit that frees the name of a column, and why that is of no use to an addition.

@@ -17,6 +17,7 @@ mod rules;
 mod streams;
 #[cfg(test)]
 mod tests;
+mod types;
 mod words;
 
 use std::io::{self, ErrorKind, Write};

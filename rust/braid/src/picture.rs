@@ -3,7 +3,7 @@
 use std::mem;
 
 use braidhurdle::layout::MOST_RECORDS;
-use braidhurdle::{Field, FieldId, Kind};
+use braidhurdle::{Field, FieldId, Kind, NoType, Type};
 
 use crate::names;
 
@@ -84,7 +84,9 @@ fn settings(words: &str, mut field: Field) -> Result<Field, String> {
                 attribute.replace(number("an attribute number", word, words.next())?).is_some()
             }
             _ => {
-                return Err(format!("{word:?} is no kind, and not required, default or attribute"));
+                let of: Type = word.parse().map_err(|why| no_word(word, why))?;
+                field.type_code = of.code();
+                kind.replace(Kind::Primitive).is_some()
             }
         };
         if twice {
@@ -93,9 +95,19 @@ fn settings(words: &str, mut field: Field) -> Result<Field, String> {
             ));
         }
     }
-    field.kind = kind.ok_or("no kind: primitive with its type code, struct, list or map")?;
+    field.kind = kind.ok_or("no kind: a type, primitive with a type code, struct, list or map")?;
     field.attribute = attribute.unwrap_or(0);
     Ok(field)
+}
+
+/// Why a word has no place in a line.
+fn no_word(word: &str, why: NoType) -> String {
+    match why {
+        NoType::Name => {
+            format!("{word:?} is no type, no kind, and not required, default or attribute")
+        }
+        NoType::Decimal => format!("{word:?} is no type: {why}"),
+    }
 }
 
 /// The number behind a word.

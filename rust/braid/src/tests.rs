@@ -3,7 +3,9 @@
 use std::path::Path;
 
 use braidhurdle::layout::{EDIT_BYTES, ENTRY_BYTES, ID_BYTES, RECORD_BYTES};
-use braidhurdle::{Column, Field, FieldId, Refusal, RefusalKind, Request, Tree};
+use braidhurdle::{
+    Column, Field, FieldId, Refusal, RefusalKind, Request, RequestRef, Room, Tree, Type, Version,
+};
 use cases::{Ask, Case, Generator, OPERATIONS, Random, Sizes};
 use judge::{UpdateCall, read_edits};
 
@@ -12,7 +14,7 @@ use crate::changes::{self, Changes};
 use crate::edits::{Change, Edit};
 use crate::outline::Outline;
 use crate::words::{Asked, Given};
-use crate::{Fault, identifiers};
+use crate::{Fault, identifiers, types};
 
 /// The paths of a list of entries; none for one without.
 fn paths(entries: &[u8], pool: &[u8]) -> Option<Vec<Option<Vec<u8>>>> {
@@ -66,6 +68,7 @@ fn edits(call: &UpdateCall) -> Option<Vec<Edit>> {
     let edit = |judge::Edit { path, change }| match change {
         judge::Change::Rename(name) => Edit { path, change: Change::Rename(name) },
         judge::Change::Relax => Edit { path, change: Change::Relax },
+        judge::Change::Widen(code) => Edit { path, change: Change::Widen(code) },
     };
     Some(read_edits(call.edits, call.request_pool).ok()?.into_iter().map(edit).collect())
 }
@@ -111,11 +114,13 @@ fn of_which(line: &str) -> usize {
 
 /// Does a line of an edit tell why?
 fn edit_is_told(line: &str, found: bool, number: u32) -> bool {
-    let forbidden = ["is not renamed", "is not relaxed", "and a column is renamed once"];
+    let forbidden = ["is not renamed", "is not relaxed", "is renamed once", "is widened once"];
+    let no_step = [" already", "and no primitive", " no step", " alone", "version 3 has this one"];
     line.contains(": edit ")
         && match number {
             23 => found == (line.contains(", which deletion ") && line.ends_with(" drops")),
             24 => forbidden.iter().any(|end| line.ends_with(end)),
+            26 => no_step.iter().any(|end| line.ends_with(end)),
             _ => true,
         }
 }
@@ -125,6 +130,7 @@ fn a_tree_that_is_rebuilt_for_words_is_the_librarys_own() {
     let generator = Generator { seed: 141, sizes: Sizes::Usual };
     let (mut same, mut told) = (0, [0; RefusalKind::ALL.len() + 1]);
     let (mut nines, mut of_edits) = ([0; 3], [0; RefusalKind::ALL.len() + 1]);
+    let mut room = Room::boxed();
     for n in 0..20_000 {
         let case = generator.case(n);
         let Some((call, (dropped, added, edits))) =
@@ -135,6 +141,7 @@ fn a_tree_that_is_rebuilt_for_words_is_the_librarys_own() {
         let tree = Tree::new(case.records.clone(), case.pool.clone());
         let asked = changes::Asked {
             last_id: FieldId(call.last_id),
+            version: call.version,
             dropped: &dropped,
             added: &added,
             edits: &edits,
@@ -144,24 +151,25 @@ fn a_tree_that_is_rebuilt_for_words_is_the_librarys_own() {
             .chunks_exact(ID_BYTES)
             .map(|id| FieldId(i32::from_le_bytes(id.try_into().expect("four bytes"))))
             .collect();
-        let request = Request {
+        let request = RequestRef {
             last_id: asked.last_id,
-            identifiers: call.identifiers.to_vec(),
-            deletions: call.deletions.to_vec(),
-            additions: call.additions.to_vec(),
-            added_records: call.added_records.to_vec(),
-            edits: call.edits.to_vec(),
-            pool: call.request_pool.to_vec(),
+            version: call.version,
+            identifiers: call.identifiers,
+            deletions: call.deletions,
+            additions: call.additions,
+            added_records: call.added_records,
+            edits: call.edits,
+            pool: call.request_pool,
         };
-        match tree.update(&request) {
+        match tree.lent().update_in(request, &mut room) {
             Ok(answer) => {
                 let changes = Changes::of(&tree, asked).expect("every path finds its column");
                 let rebuilt = Tree::build(&changes.rebuilt()).expect("it fits");
-                assert_eq!(rebuilt, answer.tree, "case {n}");
+                assert_eq!(rebuilt, answer.tree.to_tree(), "case {n}");
                 same += 1;
             }
             Err(refusal) if refusal.number != 1 && refusal.list != 1 => {
-                let ask = Asked::Update { asked, request: &request };
+                let ask = Asked::Update { asked, request };
                 let given =
                     Given { identifiers: &ids, ask, ..Given::new(Path::new("base"), &tree) };
                 let line = first_line(given.refused(refusal));
@@ -185,10 +193,10 @@ fn a_tree_that_is_rebuilt_for_words_is_the_librarys_own() {
     }
     assert!(same > 200, "{same} trees");
     assert!(nines.iter().all(|count| *count > 0), "9 of the base, and after the update: {nines:?}");
-    for number in (2..=9).chain(11..=19).chain(22..=24) {
+    for number in (2..=9).chain(11..=19).chain(22..=26) {
         assert!(told[number] > 0, "refusal {number} was not met: {told:?}");
     }
-    for number in [13, 23, 24] {
+    for number in [13, 23, 24, 26] {
         assert!(of_edits[number] > 0, "refusal {number} of an edit was not met: {of_edits:?}");
     }
 }
@@ -290,4 +298,41 @@ fn conditions_on_identifiers_that_are_told_are_those_that_the_library_asks() {
         }
     }
     assert!(accepted > 100 && alone.iter().all(|count| *count > 20), "{accepted}, {alone:?}");
+}
+
+/// Codes of every kind: all that are no decimals, decimals at their edges, and codes beside them.
+fn codes() -> impl Iterator<Item = u32> {
+    let digits = [(1, 0), (1, 1), (9, 2), (10, 2), (10, 3), (37, 2), (38, 2), (38, 38)];
+    let none = [(0, 0), (39, 2), (2, 3)];
+    let decimals = digits.into_iter().chain(none).map(|(p, s)| 65_536 + 256 * p + s);
+    (0..=12).chain(decimals).chain([77, 65_535, u32::MAX])
+}
+
+#[test]
+fn steps_that_are_told_are_those_that_the_library_takes() {
+    let widened = |version: Version, old: u32, new: u32| {
+        let tree = Tree::build(&[Field::primitive("a", old)]).expect("it fits");
+        let request = Request::new(FieldId(0)).version(version).widen("a", new).expect("it fits");
+        tree.update(&request).map(|answer| answer.tree.to_string())
+    };
+    let (mut taken, mut later) = (0, 0);
+    for old in codes() {
+        for new in codes() {
+            for version in [Version::V2, Version::V3] {
+                let answer = widened(version, old, new);
+                let steps = Type::of_code(old).map(|of| of.steps(version).collect::<Vec<_>>());
+                let is_step = steps.is_some_and(|to| to.iter().any(|to| to.code() == new));
+                assert_eq!(answer.is_ok(), is_step, "{version}: {old} to {new}");
+                taken += usize::from(is_step);
+                if let Err(refusal) = answer {
+                    assert_eq!(refusal, Refusal { number: 26, list: 6, place: 0 });
+                    let words = types::no_step(version, old, new);
+                    let by_3 = widened(Version::V3, old, new).is_ok();
+                    assert_eq!(words.ends_with("; version 3 has this one"), by_3, "{words}");
+                    later += usize::from(by_3);
+                }
+            }
+        }
+    }
+    assert!(taken > 10 && later == 2, "{taken} steps, {later} in version 3 alone");
 }

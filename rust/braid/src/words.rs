@@ -5,7 +5,7 @@ use std::path::Path;
 
 use braidhurdle::layout::{MOST_LEVELS, RECORD_BYTES, Record};
 use braidhurdle::names::quoted;
-use braidhurdle::{Column, Field, FieldId, Kind, Refusal, Request, Tree};
+use braidhurdle::{Column, Field, FieldId, Kind, Refusal, RequestRef, Tree};
 
 use crate::arguments::Addition;
 use crate::changes::{self, Changes, receiver};
@@ -29,7 +29,7 @@ pub enum Asked<'a> {
     Ids { asked: usize },
     Prune { chosen: usize },
     Renumber { from: FieldId },
-    Update { asked: changes::Asked<'a>, request: &'a Request },
+    Update { asked: changes::Asked<'a>, request: RequestRef<'a> },
 }
 
 impl<'a> Given<'a> {
@@ -62,6 +62,9 @@ impl<'a> Given<'a> {
         match (refusal.number, refusal.list, &self.ask) {
             (2, ..) => limits::passed(self).join("; "),
             (9, ..) => self.identifier(place),
+            (25, _, Asked::Update { asked, .. }) => {
+                format!("this update names {}, and there are 2 and 3", asked.version)
+            }
             (18, 0, Asked::Renumber { from }) => {
                 format!("{} records from {from}", self.tree.records.len() / RECORD_BYTES)
             }

@@ -188,10 +188,37 @@ fn settings_belong_to_the_addition_before_them() {
     let added: Vec<&str> = picture.lines().filter(|line| !T.contains(line)).collect();
     let expected = [
         "  12 b: primitive 4294967295",
-        "11 a: primitive 1 required default attribute 7",
-        "13 \"c:d\": primitive 3 default",
+        "11 a: boolean required default attribute 7",
+        "13 \"c:d\": long default",
     ];
     assert_eq!(added, expected);
+}
+
+#[test]
+fn a_type_goes_by_its_name_or_its_code() {
+    let folder = Folder::with_t();
+    let arguments = "update T --add a:timestamp_ns --add b:8 --add c:decimal(9,2) --add d:67842 \
+                     --add e:0 --out U";
+    folder.braid(arguments).answer();
+    let picture = folder.braid("list U").answer();
+    let added = "11 a: timestamp_ns\n12 b: timestamp_ns\n13 c: decimal(9,2)\n\
+                 14 d: decimal(9,2)\n15 e: primitive 0\n";
+    assert!(picture.ends_with(added), "{picture}");
+    for (wrong, why) in [
+        ("a", "no colon before a type"),
+        ("a:integer", "no type has this name: there are boolean, int, long, "),
+        ("a:4294967296", "no type has this name: "),
+        ("a:", "no type has this name: "),
+        ("a:decimal(39,2)", "a decimal is decimal(P,S), its precision P from 1 to 38, its scale S"),
+        ("a:decimal(2,3)", "a decimal is decimal(P,S)"),
+    ] {
+        for option in ["--add", "--widen"] {
+            let said = folder.run(&["update", "T", option, wrong, "--out", "V"]).complaint(3);
+            assert!(said.contains(why), "{said}");
+        }
+    }
+    let said = folder.braid("update T --widen-id a:long --out V").complaint(3);
+    assert!(said.contains("no id before the colon"), "{said}");
 }
 
 #[test]

@@ -4,7 +4,7 @@ use std::fs;
 use std::path::Path;
 use std::process::{Command, Output};
 
-use braidhurdle::{Overlong, Request};
+use braidhurdle::{Overlong, Request, Type};
 
 use crate::folder::{BRAID, Folder, checkout};
 
@@ -36,7 +36,7 @@ fn bytes_of(part: &str) -> Vec<u8> {
 fn running_make_gives_the_very_files_that_are_here() {
     let folder = Folder::new();
     let said = script("examples/make", &[&folder.file("")]);
-    let trees = ["T", "alarms", "node-1", "node-2", "node-3", "node-4"];
+    let trees = ["T", "alarms", "node-1", "node-2", "node-3", "node-4", "node-5"];
     let three = |stem: &&str| ["last", "names", "rec"].map(|ending| format!("{stem}.{ending}"));
     let mut made: Vec<String> = trees.iter().flat_map(three).collect();
     made.extend(["report.names".into(), "report.rec".into()]);
@@ -51,15 +51,20 @@ fn running_make_gives_the_very_files_that_are_here() {
         assert!(page.contains(&format!("\n- **{tree}**, last id {}: ", last.trim())), "{tree}");
     }
     assert!(said.contains("\nadded 18 parts.value.price\nlast id 18\n"), "{said}");
+    assert!(said.contains("\nwidened 18 parts.value.price from int to long\n"), "{said}");
 }
 
 #[test]
 fn show_shows_a_picture_an_update_look_ups_and_a_refusal() {
     let said = script("examples/show", &[]);
     assert!(said.starts_with("$ braid list examples/node-4\n1 node: struct required\n"), "{said}");
-    let edited = "renamed 3 faults to failures\nrelaxed 19 node.battery\nlast id 25\n";
+    let edited = "renamed 3 faults to failures\nrelaxed 19 node.battery\n\
+                  widened 18 parts.value.price from int to long\nlast id 25\n";
     assert!(said.contains(edited), "{said}");
-    assert!(said.contains("\n  19 battery: primitive 4 default\n"), "{said}");
+    assert!(said.contains("\n  19 battery: date default\n"), "{said}");
+    for price in ["int", "long"] {
+        assert!(said.contains(&format!("\n    18 price: {price} attribute 30\n")), "{said}");
+    }
     assert!(said.contains("failures.day\nid 12 slot 11 failures.element.day\n"), "{said}");
     assert!(said.contains("visits.duration\nid 24 slot 15 visits.element.duration\n"), "{said}");
     assert!(said.contains("-i Node.Serial\nid 5 slot 1 node.serial\n"), "{said}");
@@ -69,6 +74,9 @@ fn show_shows_a_picture_an_update_look_ups_and_a_refusal() {
     assert!(said.contains("\nrefused 12 at 2 0: "), "{said}");
     assert!(said.contains("\nrefused 23 at 6 0: "), "{said}");
     assert!(said.contains("\nrefused 9 at 5 0: "), "{said}");
+    assert!(said.contains("\nrefused 26 at 6 0: "), "{said}");
+    assert!(said.contains("\nwidened 15 visits.element.day from date to timestamp\n"), "{said}");
+    assert!(said.contains("\nrefused 25 at 0 0: "), "{said}");
     assert!(said.contains("\nidentifier id 5 slot 1 node.serial\n"), "{said}");
     assert!(said.contains("\nrefused 9 at 5 1: "), "{said}");
 }
@@ -111,7 +119,8 @@ fn line_of(word: &str) -> Vec<u8> {
 #[test]
 fn the_page_has_the_edits_that_the_safe_crate_writes() -> Result<(), Overlong> {
     let request = Request::default().rename("node.cost", "price")?.relax("parts")?;
-    assert_eq!(request.edits, [line_of("rename"), line_of("relax")].concat());
+    let request = request.widen("parts.price", Type::Long)?;
+    assert_eq!(request.edits, ["rename", "relax", "widen"].map(line_of).concat());
     let pool = String::from_utf8(request.pool).expect("text");
     assert!(text("docs/FORMAT.md").contains(&format!("request pool\n`{pool}`:")));
     Ok(())

@@ -104,6 +104,7 @@ fn the_calls_of_the_page_that_the_tool_can_not_make_answer_as_it_says() {
         &pool,
         &[],
         10,
+        2,
         &[],
         &[0; 8],
         &[],

@@ -88,8 +88,21 @@ impl Folder {
         let folder = Folder::new();
         folder.draw(
             "K",
-            "1 node: struct required\n  2 serial: primitive 9 required\n  3 cost: primitive 3\n\
-             4 site: primitive 2 required default\n",
+            "1 node: struct required\n  2 serial: string required\n  3 cost: long\n\
+             4 site: int required default\n",
+        );
+        folder
+    }
+
+    /// A folder with a tree W in it that has columns of many types and roles, and its last id.
+    pub fn with_w() -> Folder {
+        let folder = Folder::new();
+        folder.draw(
+            "W",
+            "1 price: int\n2 heat: float required\n3 day: date\n4 sum: decimal(9,2)\n\
+             5 note: string\n6 own: primitive 77\n7 s: struct\n  8 \"n:o\": int\n9 l: list\n  \
+             10 element: int required\n11 m: map\n  12 key: int required\n  \
+             13 value: decimal(37,0)\n14 full: decimal(38,38)\n",
         );
         folder
     }

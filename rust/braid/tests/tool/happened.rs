@@ -52,7 +52,7 @@ fn a_column_inside_a_dropped_one_goes_with_it() {
 #[test]
 fn a_tree_is_told_column_by_column() {
     let folder = Folder::with_t();
-    folder.piped("make - --out s", b"1 s: struct\n  2 a: primitive 2\n3 t: primitive 2\n").answer();
+    folder.piped("make - --out s", b"1 s: struct\n  2 a: int\n3 t: int\n").answer();
     let said = folder.braid("update T --add-tree s --under visits --out U").answer();
     let lines = "added 11 visits.element.s\nadded 12 visits.element.s.a\n\
                  added 13 visits.element.t\nlast id 13\n";
@@ -64,7 +64,7 @@ fn a_tree_is_told_column_by_column() {
 #[test]
 fn what_is_added_to_a_dropped_column_is_refused() {
     let folder = Folder::with_t();
-    folder.piped("make - --out s", b"1 s: struct\n  2 a: primitive 2\n3 t: primitive 2\n").answer();
+    folder.piped("make - --out s", b"1 s: struct\n  2 a: int\n3 t: int\n").answer();
     let words = "the receiving struct, or a record above it, is dropped as a member of a struct or \
                  of the root";
     let goes =
@@ -107,7 +107,7 @@ fn a_parent_is_named_by_its_id_too() {
                      --add c:1 --out U";
     let lines = "added 11 visits.element.a\nadded 12 node.b\nadded 13 c\nlast id 13\n";
     assert_eq!(folder.braid(arguments).answer(), lines);
-    assert!(folder.braid("list U").answer().contains("11 a: primitive 1 required default\n"));
+    assert!(folder.braid("list U").answer().contains("11 a: boolean required default\n"));
     let said = folder.braid("update T --add a:1 --under-id 11 --out V").complaint(1);
     assert_eq!(said, "no column has id 11\n");
 }
@@ -131,8 +131,8 @@ stays 4 site: it has this name already
 last id 5
 ";
     assert_eq!(folder.braid(arguments).answer(), lines);
-    let picture = "1 board: struct required\n  2 no: primitive 9\n  5 cost: primitive 2\n\
-                   4 site: primitive 2 default\n";
+    let picture = "1 board: struct required\n  2 no: string\n  5 cost: int\n\
+                   4 site: int default\n";
     assert_eq!(folder.braid("list U").answer(), picture);
 }
 
@@ -150,6 +150,79 @@ fn a_new_name_may_be_empty_or_look_like_anything_but_a_path() {
     );
     let picture = folder.braid("list U").answer();
     assert!(picture.starts_with(&format!("1 {name}: struct\n  4 button: primitive 0\n  5 \"\": ")));
+}
+
+#[test]
+fn a_widened_column_is_told_with_both_types_whatever_its_role() {
+    let folder = Folder::with_w();
+    let arguments = "update W --widen price:long --rename price=cost --relax heat \
+                     --widen heat:6 --widen sum:decimal(38,2) --widen s.n:o:long \
+                     --widen l.element:long --widen-id 12:3 --widen m.value:decimal(38,0) --out U";
+    let lines = "\
+widened 1 price from int to long
+renamed 1 price to cost
+relaxed 2 heat
+widened 2 heat from float to double
+widened 4 sum from decimal(9,2) to decimal(38,2)
+widened 8 \"s.n:o\" from int to long
+widened 10 l.element from int to long
+widened 12 m.key from int to long
+widened 13 m.value from decimal(37,0) to decimal(38,0)
+last id 14
+";
+    assert_eq!(folder.braid(arguments).answer(), lines);
+    let picture = "\
+1 cost: long
+2 heat: double
+3 day: date
+4 sum: decimal(38,2)
+5 note: string
+6 own: primitive 77
+7 s: struct
+  8 \"n:o\": long
+9 l: list
+  10 element: long required
+11 m: map
+  12 key: long required
+  13 value: decimal(38,0)
+14 full: decimal(38,38)
+";
+    assert_eq!(folder.braid("list U").answer(), picture);
+    for (to, code) in [("timestamp", "7"), ("timestamp_ns", "8")] {
+        for to_type in [to, code] {
+            let arguments = format!("update W --format-version 3 --widen day:{to_type}");
+            let said = folder.braid(&format!("{arguments} --out V --force")).answer();
+            assert_eq!(said, format!("widened 3 day from date to {to}\nlast id 14\n"));
+        }
+    }
+    folder.draw("N", "-3 c: int\n");
+    let said = folder.braid("update N --widen-id -3:long --out M").answer();
+    assert_eq!(said, "widened -3 c from int to long\nlast id -3\n");
+    let said = folder.braid("update N --widen-id 3:long --out L").complaint(1);
+    assert_eq!(said, "no column has id 3\n");
+}
+
+/// Without a version it is 2, and what needs no step is the same in both.
+#[test]
+fn a_version_is_named_or_is_2() {
+    let folder = Folder::with_w();
+    let asked = "update W --drop s --add x:int --widen price:long --rename day=date";
+    folder.braid(&format!("{asked} --out U")).answer();
+    for version in ["2", "3"] {
+        folder.braid(&format!("{asked} --format-version {version} --out V --force")).answer();
+        assert_eq!(folder.pair("V"), folder.pair("U"));
+    }
+    let said = folder.braid("update W --format-version two --out X").complaint(3);
+    assert!(said.contains("'two' for '--format-version <N>'"), "{said}");
+}
+
+#[test]
+fn an_identifier_may_be_widened() {
+    let folder = Folder::with_k();
+    let update = "update K --identifiers site,node.serial --widen site:long --out U";
+    assert_eq!(folder.braid(update).answer(), "widened 4 site from int to long\nlast id 4\n");
+    let said = folder.braid("check U --identifiers site").answer();
+    assert!(said.contains("\nidentifier id 4 slot 3 site\n"), "{said}");
 }
 
 /// The tree tells which = parts the path from the name.

@@ -5,7 +5,7 @@ use crate::folder::Folder;
 #[test]
 fn five_revisions_need_no_last_id() {
     let folder = Folder::new();
-    folder.piped("make - --out r1", b"1 a: struct\n  2 b: primitive 2\n").answer();
+    folder.piped("make - --out r1", b"1 a: struct\n  2 b: int\n").answer();
     folder.braid("update r1 --drop a.b --out r2").answer();
     folder.braid("update r2 --add b:3 --under a --out r3").answer();
     folder.braid("update r3 --drop a --add c:2 --out r4").answer();

@@ -79,6 +79,49 @@ fn flags_codes_and_attributes_are_read_back() {
     assert_eq!(round(&Folder::new(), &roots), drawn);
 }
 
+/// Every code of a type, with its name, and codes beside them, which have none.
+fn codes() -> Vec<(u32, Option<String>)> {
+    let names = [
+        "boolean",
+        "int",
+        "long",
+        "date",
+        "float",
+        "double",
+        "timestamp",
+        "timestamp_ns",
+        "string",
+    ];
+    let named = names.iter().zip(1..).map(|(name, code)| (code, Some(name.to_string())));
+    let digits = (0..=39u32).flat_map(|precision| (0..=39).map(move |scale| (precision, scale)));
+    let decimals = digits.map(|(precision, scale)| {
+        let is_one = (1..=38).contains(&precision) && scale <= precision;
+        let name = is_one.then(|| format!("decimal({precision},{scale})"));
+        (65_536 + 256 * precision + scale, name)
+    });
+    let others = [0, 10, 11, 256, 512, 65_535, 131_072 + 9 * 256 + 2, u32::MAX];
+    named.chain(decimals).chain(others.map(|code| (code, None))).collect()
+}
+
+#[test]
+fn types_are_drawn_by_their_names_and_read_by_names_and_codes() {
+    let folder = Folder::new();
+    for codes in codes().chunks(1_000) {
+        let node = |(id, (code, _)): (i32, &(u32, _))| Node { type_code: *code, ..prim(id, "") };
+        let mut roots: Vec<Node> = (1..).zip(codes).map(node).collect();
+        roots.iter_mut().for_each(|root| root.name = root.id.to_string().into());
+        let picture = round(&folder, &roots);
+        let mut by_codes = String::new();
+        for ((line, id), (code, name)) in picture.lines().zip(1..).zip(codes) {
+            let by_code = format!("primitive {code}");
+            assert_eq!(line, format!("{id} {id}: {}", name.as_ref().unwrap_or(&by_code)));
+            by_codes += &format!("{id} {id}: {by_code}\n");
+        }
+        folder.piped("make - --out coded --force", by_codes.as_bytes()).answer();
+        assert_eq!(folder.pair("coded"), folder.pair("drawn"));
+    }
+}
+
 #[test]
 fn trees_of_all_shapes_are_listed_as_01_says_and_read_back_with_their_names_packed() {
     let folder = Folder::new();
@@ -216,7 +259,7 @@ fn blank_lines_remarks_and_spaces_are_skipped_and_words_stand_in_any_order() {
     folder.piped("make - --out made", picture).answer();
     assert_eq!(
         folder.braid("list made").answer(),
-        "1 a: struct\n  2 b: list\n    3 element: primitive 2 required default attribute 7\n\
+        "1 a: struct\n  2 b: list\n    3 element: int required default attribute 7\n\
          4 c: struct required\n"
     );
 }
@@ -239,20 +282,32 @@ fn a_line_that_is_none_is_told_with_its_number_and_what_is_missing() {
     let quotes = "(a name that has a colon stands in quotes)";
     wrong("1 a:struct\n", &format!("line 1: no space behind the colon {quotes}"));
     wrong("1 a:b: struct\n", &format!("line 1: no space behind the colon {quotes}"));
-    let kinds = "primitive with its type code, struct, list or map";
+    let kinds = "a type, primitive with a type code, struct, list or map";
     wrong("1 a:\n", &format!("line 1: no kind: {kinds}"));
     wrong("1 a: required\n", &format!("line 1: no kind: {kinds}"));
-    let word = "is no kind, and not required, default or attribute";
-    wrong("1 a: thing\n", &format!("line 1: \"thing\" {word}"));
+    let word = "is no type, no kind, and not required, default or attribute";
+    for thing in ["thing", "Int", "integer", "2", "timestamp-ns"] {
+        wrong(&format!("1 a: {thing}\n"), &format!("line 1: \"{thing}\" {word}"));
+    }
+    let decimal =
+        "a decimal is decimal(P,S), its precision P from 1 to 38, its scale S from 0 to P";
+    for thing in ["decimal", "decimal(0,0)", "decimal(39,2)", "decimal(2,3)", "decimal(09,2)"] {
+        wrong(&format!("1 a: {thing}\n"), &format!("line 1: \"{thing}\" is no type: {decimal}"));
+    }
+    wrong("1 a: decimal(9, 2)\n", &format!("line 1: \"decimal(9,\" is no type: {decimal}"));
     let code = "primitive needs a type code, a number below 2^32";
     wrong("1 a: primitive\n", &format!("line 1: no number: {code}"));
     wrong("1 a: primitive -1\n", &format!("line 1: \"-1\" is no number: {code}"));
+    wrong("1 a: primitive int\n", &format!("line 1: \"int\" is no number: {code}"));
     let attribute = "attribute needs an attribute number, a number below 2^32";
     wrong("1 a: struct attribute\n", &format!("line 1: no number: {attribute}"));
     let once = "comes too often: a column has one kind, and each word once";
     for (words, again) in [
         ("struct struct", "struct"),
         ("list map", "map"),
+        ("int long", "long"),
+        ("primitive 2 int", "int"),
+        ("struct primitive 2", "primitive"),
         ("default struct default", "default"),
         ("required required struct", "required"),
         ("struct attribute 1 attribute 1", "attribute"),

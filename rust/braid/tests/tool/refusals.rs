@@ -280,24 +280,24 @@ fn no_identifier(picture: &str, identifiers: &str, place: usize, words: &str) {
 #[test]
 fn an_identifier_is_told_with_the_condition_that_it_breaks() {
     let a = "id 1 slot 0 a";
-    no_identifier("1 a: primitive 2 required\n", "1,-3", 1, "id -3: no column has it");
-    no_identifier("1 a: primitive 2\n", "a", 0, &format!("{a}: it is optional"));
-    no_identifier("1 a: primitive 2 default\n", "a", 0, &format!("{a}: it is optional"));
+    no_identifier("1 a: int required\n", "1,-3", 1, "id -3: no column has it");
+    no_identifier("1 a: int\n", "a", 0, &format!("{a}: it is optional"));
+    no_identifier("1 a: int default\n", "a", 0, &format!("{a}: it is optional"));
     let float = "it is a float, type code 5";
-    no_identifier("1 a: primitive 5 required\n", "1", 0, &format!("{a}: {float}"));
+    no_identifier("1 a: float required\n", "1", 0, &format!("{a}: {float}"));
     let double = "it is a double, type code 6";
-    no_identifier("1 a: primitive 6 required\n", "1", 0, &format!("{a}: {double}"));
+    no_identifier("1 a: double required\n", "1", 0, &format!("{a}: {double}"));
     let primitive = "and no primitive";
     no_identifier("1 a: struct required\n", "1", 0, &format!("{a}: it is a struct, {primitive}"));
-    let list = "1 a: list required\n  2 element: primitive 2 required\n";
+    let list = "1 a: list required\n  2 element: int required\n";
     no_identifier(list, "a", 0, &format!("{a}: it is a list, {primitive}"));
     let element = "id 2 slot 1 a.element";
     no_identifier(list, "2", 0, &format!("{element}: {a} above it is a list"));
-    let map = "1 a: map required\n  2 key: primitive 2 required\n  3 value: primitive 2 required\n";
+    let map = "1 a: map required\n  2 key: int required\n  3 value: int required\n";
     no_identifier(map, "1", 0, &format!("{a}: it is a map, {primitive}"));
     no_identifier(map, "a.key", 0, &format!("id 2 slot 1 a.key: {a} above it is a map"));
     no_identifier(map, "a.value", 0, &format!("id 3 slot 2 a.value: {a} above it is a map"));
-    let within = "1 a: struct\n  2 b: primitive 2 required\n";
+    let within = "1 a: struct\n  2 b: int required\n";
     no_identifier(
         within,
         "a.b",
@@ -315,7 +315,7 @@ fn fifteen_above(other: usize, kind: &str) -> String {
         picture += &format!("{}{} {name}: {kind_of}\n", "  ".repeat(level), level + 1);
         name = if kind_of.starts_with("list") { "element" } else { "n" };
     }
-    picture + &format!("{}16 {name}: primitive 2 required\n", "  ".repeat(15))
+    picture + &format!("{}16 {name}: int required\n", "  ".repeat(15))
 }
 
 #[test]
@@ -345,7 +345,7 @@ fn the_record_above_that_is_the_reason_is_told_however_far_it_is() {
 fn all_conditions_that_an_identifier_breaks_are_told() {
     no_identifier(
         "1 o: struct\n  2 l: list\n    3 element: struct\n      4 r: struct required\n        \
-         5 a: primitive 6\n",
+         5 a: double\n",
         "o.l.r.a",
         0,
         "id 5 slot 4 o.l.element.r.a: it is optional; it is a double, type code 6; id 3 slot 2 \
@@ -353,7 +353,7 @@ fn all_conditions_that_an_identifier_breaks_are_told() {
          0 o above it is an optional struct",
     );
     no_identifier(
-        "1 m: map\n  2 key: struct\n    3 s: struct\n  4 value: primitive 2\n",
+        "1 m: map\n  2 key: struct\n    3 s: struct\n  4 value: int\n",
         "3",
         0,
         "id 3 slot 2 m.key.s: it is a struct, and no primitive; it is optional; id 2 slot 1 m.key \
@@ -364,7 +364,7 @@ fn all_conditions_that_an_identifier_breaks_are_told() {
 /// Whichever condition it breaks.
 #[test]
 fn the_first_identifier_that_breaks_a_condition_is_told() {
-    let picture = "1 a: primitive 2 required\n2 b: primitive 2\n3 c: primitive 5 required\n";
+    let picture = "1 a: int required\n2 b: int\n3 c: float required\n";
     for (identifiers, place, words) in [
         ("1,1,9,2,3", 2, "id 9: no column has it"),
         ("1,3,9,2", 1, "id 3 slot 2 c: it is a float, type code 5"),
@@ -396,7 +396,7 @@ fn an_identifier_that_goes_is_told_with_the_deletion_that_takes_it() {
              code 5"
         )),
     );
-    folder.draw("more", "1 s: list\n  2 element: primitive 2 required\n");
+    folder.draw("more", "1 s: list\n  2 element: int required\n");
     let by_force = by_force.replace("--last-id 1", "--last-id 0");
     let element = "id 2 slot 2 s.element";
     refused(
@@ -536,16 +536,24 @@ fn an_addition_to_what_is_dropped_is_told_with_the_deletion_that_takes_it() {
 /// An update of T by these arguments is refused with these words of an edit.
 #[track_caller]
 fn edit_refused(asked: &str, number: u32, place: u32, words: &str) {
+    edit_of(&Folder::with_t(), &format!("update T {asked} --out U"), number, place, words);
+}
+
+/// The same of W.
+#[track_caller]
+fn widening_refused(asked: &str, number: u32, place: u32, words: &str) {
+    edit_of(&Folder::with_w(), &format!("update W {asked} --out U"), number, place, words);
+}
+
+#[track_caller]
+fn edit_of(folder: &Folder, arguments: &str, number: u32, place: u32, words: &str) {
     let means = match number {
         13 => DOT,
         23 => "an edit finds no column that stays",
-        _ => "an edit that its column's role forbids, or a second rename of a column",
+        24 => "an edit that its column's role forbids, or a second rename or widening of a column",
+        _ => "a widening of what is no primitive, or by a step that the version does not allow",
     };
-    refused(
-        &Folder::with_t(),
-        &format!("update T {asked} --out U"),
-        &format!("{number} at 6 {place}: {means}: edit {place}, {words}"),
-    );
+    refused(folder, arguments, &format!("{number} at 6 {place}: {means}: edit {place}, {words}"));
 }
 
 #[test]
@@ -650,6 +658,121 @@ fn an_edit_that_is_forbidden_is_told_with_the_role_or_the_rename_before_it() {
              renames it to \"d\", and a column is renamed once",
         );
     }
+}
+
+#[test]
+fn a_second_widening_is_told_with_the_first() {
+    for (to, named) in [("long", "long"), ("string", "string"), ("77", "type code 77")] {
+        widening_refused(
+            &format!("--widen-id 1:long --relax price --widen price:{to}"),
+            24,
+            2,
+            &format!(
+                "widening of \"price\" to {named}: id 1 slot 0 price: edit 0 widens it to long, \
+                 and a column is widened once"
+            ),
+        );
+    }
+    // no role forbids it, and a rename is another thing
+    widening_refused(
+        "--rename price=p --widen m.key:long --widen l.element:long --widen m.key:3",
+        24,
+        3,
+        "widening of \"m.key\" to long: id 12 slot 11 m.key: edit 1 widens it to long, and a \
+         column is widened once",
+    );
+}
+
+#[test]
+fn a_step_that_is_none_is_told_with_those_that_there_are() {
+    let long = "from int format version 2 has the step to long alone";
+    let double = "from float format version 2 has the step to double alone";
+    let no_step = "from date format version 2 has no step";
+    let by_3 = "from date format version 2 has no step; version 3 has this one";
+    let digits = "from decimal(9,2) format version 2 has the steps to decimal(10,2) up to \
+                  decimal(38,2) alone";
+    let last_digit = "from decimal(37,0) format version 2 has the step to decimal(38,0) alone";
+    for (path, told, to, why) in [
+        ("price", "id 1 slot 0", "int", "it is int already"),
+        ("price", "id 1 slot 0", "string", long),
+        ("price", "id 1 slot 0", "double", long),
+        ("price", "id 1 slot 0", "10", long),
+        ("heat", "id 2 slot 1", "long", double),
+        ("day", "id 3 slot 2", "long", no_step),
+        ("day", "id 3 slot 2", "timestamp", by_3),
+        ("day", "id 3 slot 2", "timestamp_ns", by_3),
+        ("sum", "id 4 slot 3", "decimal(9,2)", "it is decimal(9,2) already"),
+        ("sum", "id 4 slot 3", "decimal(8,2)", digits),
+        ("sum", "id 4 slot 3", "decimal(10,3)", digits),
+        ("note", "id 5 slot 4", "int", "from string there is no step"),
+        ("own", "id 6 slot 5", "long", "from type code 77 there is no step"),
+        ("own", "id 6 slot 5", "77", "it is type code 77 already"),
+        ("s", "id 7 slot 6", "long", "it is a struct, and no primitive"),
+        ("l", "id 9 slot 8", "long", "it is a list, and no primitive"),
+        ("m", "id 11 slot 10", "long", "it is a map, and no primitive"),
+        ("m.value", "id 13 slot 12", "long", last_digit),
+        ("full", "id 14 slot 13", "decimal(38,37)", "from decimal(38,38) there is no step"),
+    ] {
+        let named = if to.parse::<u32>().is_ok() { format!("type code {to}") } else { to.into() };
+        widening_refused(
+            &format!("--relax price --widen {path}:{to} --widen no:long"),
+            26,
+            1,
+            &format!("widening of \"{path}\" to {named}: {told} {path}: {why}"),
+        );
+    }
+    widening_refused(
+        "--format-version 3 --widen-id 3:string",
+        26,
+        0,
+        "widening of \"day\" to string: id 3 slot 2 day: from date format version 3 has the steps \
+         to timestamp and to timestamp_ns alone",
+    );
+}
+
+#[test]
+fn a_widening_that_finds_nothing_is_told_with_what_may_have_been_meant() {
+    let words = "widening of \"prise\" to long; did you mean price?";
+    widening_refused("--widen prise:long", 23, 0, words);
+}
+
+/// Before anything else that the tree or the request is refused for.
+#[test]
+fn an_unknown_version_is_told_with_those_that_there_are() {
+    for version in ["0", "1", "4", "4294967295"] {
+        refused(
+            &Folder::with_t(),
+            &format!("update T --format-version {version} --drop no --add a.b:int --out U"),
+            &format!(
+                "25 at 0 0: the format version is unknown: this update names {version}, and there \
+                 are 2 and 3"
+            ),
+        );
+    }
+    let folder = Folder::with_t();
+    let (mut records, names) = folder.pair("T");
+    records[9] = 9;
+    folder.put("T", &records, &names);
+    let said = folder.braid("update T --format-version 4 --out U").refusal();
+    assert!(said[0].starts_with("refused 25 at 0 0: "), "{said:?}");
+}
+
+/// A float is no identifier, and a wider one is none either.
+#[test]
+fn an_identifier_that_is_widened_from_a_float_is_told_as_one() {
+    let folder = Folder::with_w();
+    let nine = format!("9 at 5 0: {NINE}");
+    refused(
+        &folder,
+        "update W --identifiers heat --widen heat:double --out U",
+        &format!("{nine}: W: identifier 0, id 2 slot 1 heat: it is a float, type code 5"),
+    );
+    folder.braid("update W --widen heat:double --out U").answer();
+    refused(
+        &folder,
+        "check U --identifiers heat",
+        &format!("{nine}: U: identifier 0, id 2 slot 1 heat: it is a double, type code 6"),
+    );
 }
 
 #[test]
