@@ -288,6 +288,30 @@ fn trees_damaged_in_every_byte_get_the_texts_answer_from_every_entry() {
     });
 }
 
+/// A column of each code to each, by each version: the table, decimals at their edges, and codes
+/// beside them.
+#[test]
+fn every_pair_of_codes_gets_the_texts_answer() {
+    if let Some(why) = absent() {
+        println!("no pair was put to the port: {why}");
+        return;
+    }
+    let digits = [0, 1, 2, 9, 10, 37, 38, 39, 255];
+    let decimals = digits.iter().flat_map(|p| digits.map(|s| decimal(*p, s)));
+    let others = [255, 256, 256 + INT, 1 << 15, 1 << 17, (1 << 17) + 2_306, 1 << 24, u32::MAX];
+    let codes: Vec<u32> = (0..=12).chain(decimals).chain(others).collect();
+    let port = Guarded::port();
+    for (old, new) in codes.iter().flat_map(|old| codes.iter().map(move |new| (*old, *new))) {
+        let mut base = [prim(1, "a")];
+        base[0].type_code = old;
+        let case = edited(update_of(&base, &[], 1, &[], &[]), &[widen("a", new)]);
+        for version in [2, 3] {
+            let case = by_version(version, case.clone());
+            assert_eq!(beside_paper(&case, &port), Ok(true), "{old} to {new} by {version}");
+        }
+    }
+}
+
 /// 01's table: the name's offset and length of the record at a slot, and what 4 asks of them.
 fn name_by_text(records: &[u8], pool: &[u8], slot: u32) -> c::Name {
     let Some(record) = records.chunks_exact(24).nth(slot as usize) else {
