@@ -15,7 +15,7 @@ use Rattle.paper.specs.Bytes.{from}
 use Rattle.paper.specs.Encode.{row24, record-bytes, pool-bytes}
 use Rattle.paper.specs.Sample.{column, primitive, required, struct, listing, mapping, T-records}
 use Rattle.paper.specs.Asked.{Lending, lending, lent, T-lent, New, new, at-root, _under_, Lists, entry}
-use Rattle.paper.specs.Asked.{Editing, _to_, relaxing, _into_, edit_drop_add_, edit-entry, Shown, shows, shows-coded, columns-are}
+use Rattle.paper.specs.Asked.{Editing, _to_, relaxing, _into_, edit_drop_add_, edit-entry, shows, shows-coded, columns-are}
 use Rattle.paper.specs.Asked.{Ask, renumber-from, identifiers-from, find, find-folding, find-number, find-above, find-numbers, find-each}
 use Rattle.paper.specs.Asked.{drop_add_, request}
 use Rattle.paper.specs.Asked.{choose, choose-full, of_ask_}

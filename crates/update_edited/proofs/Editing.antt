@@ -1,18 +1,16 @@
 -- Edits one at a time: what is left of them, behind those that the marks carry, is the whole.
 use Prim.Native.Nat.{ℕ, suc, _+_, _-_, _*_, _<_, _≤_}
 use mathlib.Core.Path.{_≡_, refl, sym, ap, subst, _∙_}
-use mathlib.Core.Bool.{Bool, true}
+use mathlib.Core.Bool.{true}
 use mathlib.Core.List.{List, [], _∷_, _++_}
-use mathlib.Core.Option.{Option, none, some}
 use native.Mathlib.Omega.{arith}
 use native.Mathlib.Numerals.{add-one}
 use lib.ListN.{length, getD, set}
 use Rattle.paper.specs.Answer.{Answer, ok, refused, _>>=_, among}
 use Rattle.paper.specs.Forest.{Forest}
 use Rattle.paper.specs.Field.{Field, id-of, kind-of}
-use Rattle.paper.specs.Rows.{Row, look-name}
+use Rattle.paper.specs.Rows.{look-name}
 use Rattle.paper.specs.Bytes.{in-pool, from}
-use Rattle.paper.specs.Gone.{gone-columns}
 use Rattle.paper.specs.Decode.{fields}
 use Rattle.paper.specs.Lists.{edit-in, edit-path, edit-of}
 use Rattle.paper.specs.Edits.{Edit, Edited, edited-one, edited-all}
@@ -21,7 +19,6 @@ use Rattle.laws.proofs.Fitting.{lowest-none}
 use Rattle.laws.proofs.Going.{gone-same}
 use Rattle.laws.proofs.Runs.{from-step, from-done, from-all}
 use Rattle.record.specs.declared.Refusal.{Refusal}
-use Rattle.record.specs.declared.FieldId.{FieldId}
 use Rattle.record.specs.declared.Slot.{Slot}
 use Rattle.record.specs.declared.Found.{Found}
 use Rattle.record.specs.declared.Found.the-variants.{At}

@@ -1,18 +1,17 @@
 -- Marks carry the edits: a slot as its mark leaves it is its column as the edits leave it, and one edit more is one mark more.
 use Prim.Native.Nat.{ℕ, zero, suc, _+_, _-_, _*_, _/_, _%_, _<_, _≤_}
-use mathlib.Core.Path.{_≡_, refl, sym, ap, subst, _∙_}
-use mathlib.Core.Logic.{_⊎_, inl, inr, ⊎-elim}
+use mathlib.Core.Path.{_≡_, refl, sym, ap, _∙_}
 use mathlib.Core.Bool.{Bool, true, false, _&&_, _||_, cond, or-true, or-false, or-assoc}
 use mathlib.Core.List.{List, [], _∷_, _++_}
 use native.Mathlib.Omega.{arith}
 use lib.Dec.{eqb, ltb, leb}
 use lib.ListN.{length, getD, set, replicate, length-set, length-replicate, getD-replicate}
 use lib.Seq.{getD-set-same, getD-set-other}
-use borrow.Author.Tests.{ne-eqb, eqb-true, eqb-false, ltb-true, ltb-false, leb-true, leb-false, lt-ltb, le-ltb, le-leb, lt-leb}
+use borrow.Author.Tests.{ne-eqb, eqb-true, eqb-false, ltb-true, ltb-false, lt-ltb, le-ltb, le-leb, lt-leb}
 use Rattle.paper.specs.Answer.{any}
-use Rattle.paper.specs.Bytes.{rec-at, name-of, field-at, in-pool}
-use Rattle.paper.specs.Edits.{Change, Edited, is-rename, is-widening, renamed, widened, relaxed, with-change, edit-fields}
-use Rattle.paper.specs.Field.{Field, with-name, with-flags, with-code}
+use Rattle.paper.specs.Bytes.{rec-at, field-at, in-pool}
+use Rattle.paper.specs.Edits.{Change, Edited, is-rename, is-widening, relaxed, with-change, edit-fields}
+use Rattle.paper.specs.Field.{Field}
 use Rattle.paper.specs.Forest.{preorder}
 use Rattle.paper.specs.Lists.{edit-at, edit-in, new-name}
 use Rattle.laws.proofs.Basics.{distinct-one, eqb-self}
@@ -24,8 +23,8 @@ use Rattle.record_entries.specs.Rule.{what-of}
 use Rattle.plan.specs.Plan.{Sits, source-field, edited-slot, mark-of, low-part, renaming, widening, marked-name, marked-flags, marked-code, marked-field}
 use Rattle.update_gone.specs.Gone.{base-slots, slot-id, Rises}
 use Rattle.update_gone.proofs.Leaving.{there}
-use Rattle.update_edits.specs.Edit.{Named, Tells, edited-at, change-of}
-use Rattle.update_edits.specs.Marks.{mark-with, marked-by, as-marked, marked, Carries}
+use Rattle.update_edits.specs.Edit.{Named, edited-at, change-of}
+use Rattle.update_edits.specs.Marks.{mark-with, marked-by, as-marked, Carries}
 use Rattle.update_edits.proofs.Deciding.{changes, change-is, renames-byte}
 
 -- ---- one edit more

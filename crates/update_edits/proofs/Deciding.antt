@@ -1,16 +1,15 @@
 -- One edit: nothing found, a column that goes, one that may not be changed so, a dot in the new name, no step; else it is decided.
 use Prim.Native.Nat.{ℕ, _+_, _*_, _<_, _≤_}
 use mathlib.Core.Path.{_≡_, refl, sym, ap, subst, _∙_}
-use mathlib.Core.Bool.{Bool, true, false, not, _&&_, _||_, cond}
+use mathlib.Core.Bool.{Bool, true, false, _||_, cond}
 use mathlib.Core.List.{List}
 use mathlib.Core.Option.{Option, none, some}
 use native.Mathlib.Omega.{arith}
 use lib.Dec.{eqb}
 use lib.ListN.{length, getD}
 use borrow.Author.Tests.{eqb-true}
-use Rattle.paper.specs.declared.Kind.{Kind}
 use Rattle.paper.specs.declared.Role.{Role}
-use Rattle.paper.specs.Answer.{Answer, ok, _>>=_, among}
+use Rattle.paper.specs.Answer.{ok, _>>=_, among}
 use Rattle.paper.specs.Refusals.{permitted, dotless, stepped}
 use Rattle.paper.specs.Bytes.{rec-at, kind-at, field-at}
 use Rattle.paper.specs.Decode.{fields}
@@ -32,7 +31,6 @@ use Rattle.record.proofs.Testing.{checked-ok, checked-refused}
 use Rattle.record_entries.specs.declared.What.{What}
 use Rattle.record_entries.specs.declared.What.the-variants.{Rename, Relax, Widen}
 use Rattle.record_entries.specs.Rule.{what-of}
-use Rattle.plan.specs.Plan.{low-part}
 use Rattle.update_gone.specs.Gone.{base-slots, slot-id, ids-gone, Rises}
 use Rattle.update_gone.proofs.Fields.{gone-fields}
 use Rattle.update_edits.specs.declared.Editing.{Editing}

@@ -3,12 +3,12 @@ use Prim.Native.Nat.{ℕ, zero, suc, _+_, _-_, _*_, _%_, _<_, _≤_}
 use mathlib.Core.Path.{_≡_, refl, sym, ap, _∙_}
 use mathlib.Core.Bool.{Bool, true, false, not, _&&_, cond}
 use mathlib.Core.List.{List}
-use mathlib.Core.Option.{Option, none, some}
+use mathlib.Core.Option.{some}
 use native.Mathlib.Numerals.{sub-one}
 use native.Mathlib.Omega.{arith}
 use lib.Dec.{eqb, leb}
 use lib.ListN.{length, getD}
-use borrow.Author.Tests.{eq-eqb, ne-eqb}
+use borrow.Author.Tests.{ne-eqb}
 use Rattle.paper.specs.declared.Kind.{Kind}
 use Rattle.paper.specs.declared.Role.{Role}
 use Rattle.paper.specs.declared.Role.the-variants.{Member, Element, Key, Value}
@@ -27,16 +27,10 @@ use Rattle.laws.proofs.Taken.{Laid, roots-take}
 use Rattle.tree.specs.Read.{got}
 use Rattle.tree.proofs.Steps.{fine-got}
 use Rattle.index_names.proofs.Rising.{Climbs}
-use Rattle.record.specs.declared.FieldId.{FieldId}
-use Rattle.record.specs.declared.Slot.{Slot}
-use Rattle.record.specs.declared.Found.{Found}
-use Rattle.record.specs.declared.Found.the-variants.{At}
-use Rattle.record.specs.Says.{found-row}
 use Rattle.record_entries.specs.declared.What.{What}
 use Rattle.record_entries.specs.declared.What.the-variants.{Rename, Widen}
 use Rattle.update_gone.specs.Gone.{base-slots, Rises}
 use Rattle.update_gone.proofs.Leaving.{base-climbs, up-falls}
-use Rattle.update_edits.specs.Edit.{Lands}
 use Rattle.update_edits.specs.Roles.{role-under, role-at, Stood, repeats, dots, stepless}
 
 -- ---- the code: `search roles`
