@@ -21,7 +21,7 @@ use Rattle.paper.specs.Update.{Request, Schema, Plan, planned}
 use Rattle.paper.specs.Rebuild.{added, update}
 use Rattle.laws.specs.Members.{_∈_}
 use Rattle.laws.proofs.Basics.{unbind, fault-ok, in-append, Distinct, distinct-one}
-use Rattle.laws.proofs.Basics.{none-twice, any-false, eqb-self}
+use Rattle.laws.proofs.Basics.{none-twice, any-append, any-false, eqb-self}
 use Rattle.laws.proofs.Same.{same-self, same-true}
 use Rattle.laws.proofs.Own.{sound-distinct}
 use Rattle.laws.proofs.Ordered.{row-fulls}
@@ -33,7 +33,7 @@ use Rattle.theorems.specs.Columns.{settings, named-by, new-names, last-o
 use Rattle.theorems.specs.Edited.{names-above, RenamesFound}
 use Rattle.theorems.proofs.Counting.{tally-append, tally-out}
 use Rattle.theorems.proofs.Columns.{one-row}
-use Rattle.theorems.proofs.Setting.{name-last, Decided, AllDecided, decided-edits, any-append}
+use Rattle.theorems.proofs.Setting.{name-last, Decided, AllDecided, decided-edits}
 use Rattle.theorems.proofs.Identified.{update-identified}
 use Rattle.theorems.proofs.Carried.{row-at, at-row, carried, answered}
 

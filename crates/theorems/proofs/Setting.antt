@@ -4,7 +4,7 @@
 use Prim.Native.Nat.{ℕ, suc, _-_}
 use mathlib.Core.Path.{_≡_, refl, sym, ap, subst, _∙_}
 use mathlib.Core.Logic.{_⊎_, inl, inr, ⊎-elim}
-use mathlib.Core.Bool.{Bool, true, false, not, _&&_, _||_, cond, and-true, and-false, or-assoc, true≢false}
+use mathlib.Core.Bool.{Bool, true, false, not, _&&_, _||_, cond, and-true, and-false, true≢false}
 use mathlib.Core.List.{List, [], _∷_, _++_, map, append-nil, append-assoc}
 use mathlib.Core.Option.{Option, none, some}
 use lib.Dec.{eqb}
@@ -20,7 +20,7 @@ use Rattle.paper.specs.Edits.{Change, rename, relax, widen, Edit, Edited, remai
 use Rattle.paper.specs.Edits.{has-dot, no-step, edited-one, edited-all, relaxed, with-change, edit-field, edit-fields}
 use Rattle.paper.specs.Update.{Request, Schema, Plan, planned}
 use Rattle.laws.specs.Members.{_∈_}
-use Rattle.laws.proofs.Basics.{unbind, ok-is, fault-if-ok, none≢some, some-is, neither, any-false, eqb-self, Distinct}
+use Rattle.laws.proofs.Basics.{unbind, ok-is, fault-if-ok, none≢some, some-is, neither, any-append, any-false, eqb-self, Distinct}
 use Rattle.laws.proofs.Own.{sound-distinct}
 use Rattle.laws.proofs.Rows.{name-found}
 use Rattle.laws.proofs.RoundTrip.{both}
@@ -236,10 +236,6 @@ decided-edits s q p e =
     rw (← (ok-is e₆)) o
 
 -- ---- the steps of an update
-
-pub any-append : {A : Type 0} (test : A → Bool) (s u : List A) → any test (s ++ u) ≡ (any test s || any test u)
-any-append test [] u = refl
-any-append test (x ∷ s) u = rw (any-append test s u) (sym (or-assoc (test x) (any test s) (any test u)))
 
 -- A column of the base, as it is after earlier edits: where none of them widens it, it has the code that it had. So it is
 -- widened once, and by a step.

@@ -1,7 +1,7 @@
 -- Marks carry the edits: a slot as its mark leaves it is its column as the edits leave it, and one edit more is one mark more.
 use Prim.Native.Nat.{ℕ, zero, suc, _+_, _-_, _*_, _/_, _%_, _<_, _≤_}
 use mathlib.Core.Path.{_≡_, refl, sym, ap, _∙_}
-use mathlib.Core.Bool.{Bool, true, false, _&&_, _||_, cond, or-true, or-false, or-assoc}
+use mathlib.Core.Bool.{Bool, true, false, _&&_, _||_, cond, or-true, or-false}
 use mathlib.Core.List.{List, [], _∷_, _++_}
 use native.Mathlib.Omega.{arith}
 use lib.Dec.{eqb, ltb, leb}
@@ -14,7 +14,7 @@ use Rattle.paper.specs.Edits.{Change, Edited, is-rename, is-widening, relaxed, 
 use Rattle.paper.specs.Field.{Field}
 use Rattle.paper.specs.Forest.{preorder}
 use Rattle.paper.specs.Lists.{edit-at, edit-in, new-name}
-use Rattle.laws.proofs.Basics.{distinct-one, eqb-self}
+use Rattle.laws.proofs.Basics.{distinct-one, any-append, eqb-self}
 use Rattle.laws.proofs.Edited.{edits-keep-id, edits-append}
 use Rattle.record.specs.Trees.{Trees}
 use Rattle.record_entries.specs.declared.What.{What}
@@ -35,8 +35,7 @@ module _ (P : Change → Bool) (i : ℕ) where
   of-id e = eqb i (e .id) && P (e .change)
 
   any-more : (es : List Edited) (e : Edited) → any of-id (es ++ (e ∷ [])) ≡ (any of-id es || of-id e)
-  any-more [] e = or-false (of-id e)
-  any-more (d ∷ es) e = ap (λ (b : Bool). of-id d || b) (any-more es e) ∙ sym (or-assoc (of-id d) (any of-id es) (of-id e))
+  any-more es e = any-append of-id es (e ∷ []) ∙ ap (λ (b : Bool). any of-id es || b) (or-false (of-id e))
 
 -- ---- a mark, and the source that it makes
 

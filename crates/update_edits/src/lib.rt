@@ -66,6 +66,7 @@ fn role_at(recs: &[u8], n: usize, index: &IndexRows, slot: usize) -> Role
     next_role(first)
 }
 
+// Whether a record is a member of a struct or of the root.
 fn is_member(role: Role) -> bool
     ensures { λ r. ⌜ r ≡ is-member role ⌝ }
 {
@@ -263,6 +264,7 @@ pub fn put_edit(marks: &mut Marks, slot: usize, edits: &[u8], k: usize)
     marks[slot] = with_edit(mark, what_at(edits, k), k);
 }
 
+// A mark as the number that a source holds.
 fn number_of(mark: u16) -> u32
     ensures { λ r. ⌜ (r ≡ mark) × (r < 65536) ⌝ }
 {
