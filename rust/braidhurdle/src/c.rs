@@ -14,7 +14,7 @@
 //! assert_eq!(c::find_id(&[0; 5], &[], 1).refusal, 2);
 //! ```
 
-/// The answer of update, prune and renumber. On a refusal the last three are 0.
+/// The answer of update, prune and renumber. On a refusal the last four are 0.
 #[repr(C)]
 #[derive(Clone, Copy, Debug, Default, PartialEq, Eq, Hash)]
 pub struct Changed {
@@ -30,6 +30,8 @@ pub struct Changed {
     pub names: u32,
     /// The last id consumed by an update; 0 for the others.
     pub last_id: i32,
+    /// The records that an update visited in its rebuild; 0 for the others.
+    pub visited: u32,
 }
 
 /// The answer of a look-up. Where nothing is found, or on a refusal, id and slot are 0.
@@ -91,9 +93,9 @@ pub struct Name {
 #[used]
 static DECLARED: unsafe extern "C" fn() -> u32 = {
     unsafe extern "C" {
-        fn braidhurdle_abi_8() -> u32;
+        fn braidhurdle_abi_9() -> u32;
     }
-    braidhurdle_abi_8
+    braidhurdle_abi_9
 };
 
 /// One function of the archive. Its arguments are lists, numbers, lists, and buffers to write, in
