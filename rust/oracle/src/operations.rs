@@ -346,6 +346,19 @@ pub fn last_id_by_one_more(case: &Case) -> Option<i32> {
     schema.as_struct().fields().iter().find(|f| f.name == name).map(|f| f.id - 1)
 }
 
+/// How many columns go, of the base with the deletions alone, without one above them that goes: by
+/// the crate's own rebuilding and its own index of parents.
+pub fn left_out_by_rebuilding(case: &Case) -> Option<usize> {
+    let (_, request, last_id) = update_parts(case).ok()?;
+    let base = build(case, &[]).ok()?;
+    let action = request.first(request.deletions.len()).action().ok()?;
+    let kept = run(|| action.commit(&Table::new(base.clone(), last_id)), false).ok()?;
+    let parents = index_parents(base.as_struct()).ok()?;
+    let gone = |id: &i32| kept.field_by_id(*id).is_none();
+    let first = |id: &&i32| gone(id) && !parents.get(*id).is_some_and(gone);
+    Some(base_ids(case).iter().filter(first).count())
+}
+
 // ---- prune ----
 
 fn pruned(case: &Case) -> Stop<Type> {
