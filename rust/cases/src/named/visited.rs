@@ -101,8 +101,10 @@ fn dropped_twice(all: &mut Cases) {
     all.put(title, update(&t, 10, &["node", "node"], &[]), without(&[1, 4, 5], 8));
     let case = update(&t, 10, &["visits.day", "visits.element.day"], &[]);
     all.put(title, case, without(&[7], 10));
-    all.put(title, update(&t, 10, &["parts"; 64], &[]), without(&[3, 8, 9, 10], 7));
-    all.put(title, update(&t, 10, &["visits.element"; 2], &[]), visited(&T, 10));
+    let small = [s(1, "a", vec![p(2, "b")]), p(3, "c")];
+    all.put(title, update(&small, 3, &["a"; 64], &[]), visited(&[3], 2));
+    let base = struct_in_list();
+    all.put(title, update(&base, 4, &["l.element"; 2], &[]), visited(&[1, 2, 3, 4], 4));
 }
 
 fn what_stays(all: &mut Cases) {
@@ -147,14 +149,14 @@ fn members_by_place(all: &mut Cases) {
     all.put(title, update(&base, 5, &["s.element", "s.key"], &[]), visited(&[1], 3));
     let root = [s(1, "value", vec![p(2, "a")])];
     all.put(title, update(&root, 2, &["value"], &[]), visited(&[], 1));
-    let ids = [1, 257, 65_537, 16_777_217, i32::MIN + 1, -1];
+    let ids = [1, 257, 65_537, i32::MIN + 1];
     let pair = |id: i32| s(id, &format!("s{id}"), vec![p(id ^ 2, "a")]);
     let base = ids.map(pair);
-    for gone in [1, i32::MIN + 1, -1] {
+    for gone in [1, i32::MIN + 1] {
         let stays = ids.into_iter().filter(|id| *id != gone);
         let stays: Vec<i32> = stays.flat_map(|id| [id, id ^ 2]).collect();
         let case = update(&base, 100, &[&format!("s{gone}")], &[]);
-        all.put("7/13: ids that share their bits", case, Expected::Visited(stays, 11));
+        all.put("7/13: ids that share their bits", case, Expected::Visited(stays, 7));
     }
 }
 
@@ -214,7 +216,8 @@ fn added_and_dropped(all: &mut Cases) {
     all.put(title, case, visited(&[1, 2, 3, 4, 6, 5], 6));
     let case = update(&struct_in_list(), 4, &["l.element", "l.s"], &added[..1]);
     all.put(title, case, visited(&[1, 2, 5], 4));
-    let case = update(&t, 10, &["visits"], &[(Some("visits"), p(0, "x"))]);
+    let base = [s(1, "a", vec![p(2, "b")])];
+    let case = update(&base, 2, &["a"], &[(Some("a"), p(0, "x"))]);
     all.put("reading 209: what would be in no tree is refused", case, refused(22, 3, 0));
 }
 
@@ -249,32 +252,32 @@ fn edits(all: &mut Cases) {
 
 /// A refusal reports 0, wherever it comes.
 fn refusals(all: &mut Cases) {
-    let t = the_tree();
+    let base = [s(1, "a", vec![p(2, "b")]), p(3, "c")];
     let title = "7/13: a refusal reports 0";
-    let dropping = |added: &[(Option<&str>, Node)]| update(&t, 10, &["visits"], added);
+    let dropping = |added: &[(Option<&str>, Node)]| update(&base, 3, &["a"], added);
     let small = but(dropping(&[]), |case| {
         let Ask::Update { out_names, .. } = &mut case.ask else { unreachable!("an update") };
         *out_names -= 1;
     });
     all.put(title, small, refused(1, 0, 0));
-    all.put(title, but(dropping(&[]), |case| case.records.truncate(239)), refused(2, 0, 0));
+    all.put(title, but(dropping(&[]), |case| case.records.truncate(71)), refused(2, 0, 0));
     all.put(title, by_version(4, dropping(&[])), refused(25, 0, 0));
     all.put(title, but(dropping(&[]), |case| case.records[11] = 1), refused(3, 0, 0));
     all.put(title, but(dropping(&[]), |case| request_of(case)[3].clear()), refused(4, 2, 0));
     all.put(title, update(&[p(1, "a"), p(2, "a")], 2, &["a"], &[]), refused(8, 0, 1));
-    all.put(title, update_of(&t, &[4], 10, &["visits"], &[]), refused(9, 5, 0));
+    all.put(title, update_of(&base, &[3], 3, &["a"], &[]), refused(9, 5, 0));
     let case = but(dropping(&[(None, p(0, "x"))]), |case| request_of(case)[1].clear());
     all.put(title, case, refused(10, 3, 0));
-    all.put(title, update(&t, 10, &["visits", "x"], &[]), refused(11, 2, 1));
-    all.put(title, dropping(&[(None, p(0, "x")), (None, p(0, "node"))]), refused(17, 3, 1));
-    let case = update(&t, i32::MAX, &["visits"], &[(None, p(0, "x"))]);
+    all.put(title, update(&base, 3, &["a", "x"], &[]), refused(11, 2, 1));
+    all.put(title, dropping(&[(None, p(0, "x")), (None, p(0, "c"))]), refused(17, 3, 1));
+    let case = update(&base, i32::MAX, &["a"], &[(None, p(0, "x"))]);
     all.put(title, case, refused(18, 3, 0));
-    all.put(title, edited(dropping(&[]), &[relax("visits")]), refused(23, 6, 0));
+    all.put(title, edited(dropping(&[]), &[relax("a.b")]), refused(23, 6, 0));
     let deep = update(&[chain(16)], 16, &[], &[(Some(&["s"; 16].join(".")), p(0, "x"))]);
     all.put(title, deep, refused(19, 4, 0));
-    let case = update(&t, 3, &["visits"], &[(None, p(0, "x"))]);
-    all.put(title, case, refused(7, 4, 7));
-    all.put(title, dropping(&[(None, p(0, "x")), (None, p(0, "x"))]), refused(8, 4, 8));
+    let case = update(&base, 2, &["a"], &[(None, p(0, "x"))]);
+    all.put(title, case, refused(7, 4, 1));
+    all.put(title, dropping(&[(None, p(0, "x")), (None, p(0, "x"))]), refused(8, 4, 2));
 }
 
 /// So many optional primitives, with ids from `first` on.
