@@ -6,7 +6,6 @@ pub mod Columns
 pub mod Setting
 pub mod Evolution
 pub mod Shaped
-pub mod Receiving
 pub mod Edited
 pub mod Rebuilt
 pub mod Numbering
@@ -22,7 +21,6 @@ pub mod Standing
 pub mod Before
 pub mod Carried
 pub mod Renaming
-pub mod Weighing
 pub mod Beginning
 pub mod Wrong
 pub mod One

@@ -59,12 +59,11 @@ use Rattle.theorems.proofs.Evolution.{begins-without, lasting, types-ri
 use Rattle.theorems.proofs.Storing.{begins-stored-without, lasting-stored, of-stored}
 use Rattle.theorems.proofs.Identified.{update-identified, renumber-identified}
 use Rattle.theorems.proofs.Passing.{update-passes, renumber-passes}
-use Rattle.theorems.proofs.Standing.{additions-stand, consumed-added}
+use Rattle.theorems.proofs.Standing as Standing
+use Rattle.theorems.proofs.Standing.{additions-stand, consumed-added, gone-left-out}
 use Rattle.theorems.proofs.Carried.{stays-as-set}
 use Rattle.theorems.proofs.Renaming.{renames-found}
 use Rattle.theorems.proofs.Before.{as-before, as-before-stored}
-use Rattle.theorems.proofs.Weighing as Weighing
-use Rattle.theorems.proofs.Weighing.{gone-left-out}
 use Rattle.theorems.proofs.Beginning.{T-schema, T-stored, T-requests, T-begins, T-begins-stored}
 use Rattle.theorems.proofs.Beginning.{T-lends-bytes, accepted-in-a-row}
 use Rattle.theorems.proofs.Beginning.{keyed-schema, keyed-stored, keyed-by, keyed-requests, keyed-begins}
@@ -271,7 +270,7 @@ consumed-are-added-stored stored lent result bytes added accepted =
 pub nothing-vanishes : (schema : Schema) (request : Request) (plan : Plan) (updated : Schema)
     → planned schema request ≡ ok plan → update schema request ≡ ok updated
     → NothingVanishes schema request plan updated
-nothing-vanishes = Weighing.nothing-vanishes
+nothing-vanishes = Standing.nothing-vanishes
 
 pub nothing-vanishes-stored : (stored : Stored) (lent : Lent) (result : Result) → Bytes (stored .records)
     → BytesLent lent → update-entry stored lent ≡ ok result → OfStored NothingVanishes stored lent result
