@@ -18,6 +18,7 @@ pub mod Again
 pub mod Passing
 pub mod Storing
 pub mod Standing
+pub mod Visits
 pub mod Before
 pub mod Carried
 pub mod Renaming

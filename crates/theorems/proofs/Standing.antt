@@ -1,6 +1,6 @@
 -- Every addition of an accepted update stands in the answer, and no other id is consumed. What receives an addition
--- stays (Receiving.antt of laws), so the rebuild comes to its open members and puts the addition behind them. By weights
--- of ids (Weighing.antt there) nothing vanishes, and what goes is what the answer leaves out.
+-- stays (Receiving.antt of laws), so the rebuild comes to its open members and puts the addition behind them. By
+-- weights of ids (Weighing.antt there) nothing vanishes, and what goes is what the answer leaves out.
 use Prim.Native.Nat.{ℕ, zero, suc}
 use mathlib.Core.Path.{_≡_, refl, sym, ap, subst, _∙_}
 use mathlib.Core.Logic.{inl, inr, ⊎-elim}
@@ -204,7 +204,10 @@ module _ (s : Schema) (q : Request) (p : Plan) (u : Schema) (e₁ : planned s q 
   nothing-vanishes =
       let tree = accepted s q p u e₁ e .tree in
       record {
-        as-many = rw (tree, ← loads-added s q p e₁) (size-rebuilt s q p e₁);
+        as-many =
+            let r = rw (← tree) at (size-rebuilt s q p e₁) in
+            let l = loads-added s q p e₁ in
+            omega arith;
         each-id = λ x.
             let r = rw (← tree) at (sum-rebuilt (λ y. cond (eqb x y) 1 0) s q p e₁) in
             let a = sum-tally x (ids (u .tree)) in
