@@ -125,7 +125,7 @@ taken-id s n old plan k h room few l =
 -- ---- the entry
 
 the-result : Forest Field → Result
-the-result t = record { tree = t; identifiers = []; last = 0 }
+the-result t = record { tree = t; identifiers = []; last = 0; visited = 0 }
 
 abbrev Answering : Answer Result → (out names : List ℕ) → Changed → (out′ names′ : List ℕ) → Type 0
 Answering x out names r out′ names′ = Answers changes x (for-records out ∷ for-names names ∷ []) r (out′ ∷ names′ ∷ [])

@@ -27,7 +27,7 @@ ghost use Rattle.paper.specs.Field.{is-struct};
 ghost use Rattle.paper.specs.Rebuild.{arriving};
 ghost use Rattle.tree.specs.Read.{reads};
 ghost use Rattle.record.specs.Trees.{trees-in};
-ghost use Rattle.update_rebuild.specs.Sources.{parent, added-tree, rebuilt-base};
+ghost use Rattle.update_rebuild.specs.Sources.{parent, added-tree, rebuilt-base, passed-base};
 ghost use Rattle.update_rebuild.specs.Planned.{
   Readable,
   Inside,
@@ -37,6 +37,7 @@ ghost use Rattle.update_rebuild.specs.Planned.{
   Planned,
   AddedIn,
   HeadOf,
+  PastOne,
   closing,
   RowPlanned,
   OnePlanned,
@@ -67,11 +68,13 @@ pub const FIRSTS: usize = 2;
 
 pub const STARTS: usize = 3;
 
-// Where a walk stands: the next slot that it reads, the next place of the plan, and the siblings planned so far.
+// Where a walk stands: the next slot that it reads, the next place of the plan; of these siblings, those planned so far, and the records
+// visited in them.
 pub struct Place {
     pub next: usize,
     pub at: usize,
     pub count: u32,
+    pub visited: u32,
 }
 
 // `Full`: record 1,025 or level 17 would be planned (refusal 19).
@@ -153,9 +156,10 @@ fn add_tree(
 ) -> Step
     requires { ⌜ (m * 24 ≤ length (now added)) × (m ≤ 1024) × (slot ≤ m)
         × (reads 1 (kids-at (now added)) m 16 1 slot ≡ true) × (levels ≤ 16) × (place .at ≤ 1024)
-        × (place .count ≤ place .at) × (length (now plan) ≡ 3) ⌝ }
-    ensures { λ r. ⌜ Planned (added-tree (now (added .entry)) m slot id) (place .next) levels
-        (place .at) (place .count) (now (plan .entry)) r (now (plan .exit)) ⌝ }
+        × (place .count ≤ place .at) × (place .visited ≤ place .at + 1024)
+        × (length (now plan) ≡ 3) ⌝ }
+    ensures { λ r. ⌜ Planned (added-tree (now (added .entry)) m slot id) 0 (place .next) levels
+        (place .at) (place .count) (place .visited) (now (plan .entry)) r (now (plan .exit)) ⌝ }
 {
     let at = place.at;
     let next = place.next;
@@ -173,6 +177,7 @@ fn add_tree(
         next,
         at: at + size,
         count: count + 1,
+        visited: place.visited + size as u32,
     })
 }
 
@@ -187,10 +192,11 @@ fn add_all(
     place: Place,
 ) -> Step
     requires { ⌜ ResolvedIn (now added) given (now decisions) × (q ≤ 4294967296) × (levels ≤ 16)
-        × (place .at ≤ 1024) × (place .count ≤ place .at) × (length (now plan) ≡ 3) ⌝ }
+        × (place .at ≤ 1024) × (place .count ≤ place .at) × (place .visited ≤ place .at + 1024)
+        × (length (now plan) ≡ 3) ⌝ }
     ensures { λ r. ⌜ Planned (arriving (additions-in (now (added .entry)) given
-        (now (decisions .entry))) (parent q)) (place .next) levels (place .at) (place .count)
-        (now (plan .entry)) r (now (plan .exit)) ⌝ }
+        (now (decisions .entry))) (parent q)) 0 (place .next) levels (place .at) (place .count)
+        (place .visited) (now (plan .entry)) r (now (plan .exit)) ⌝ }
 {
     let mut j = 0;
     let mut here = place;
@@ -224,15 +230,29 @@ fn close(
 ) -> Step
     requires { ⌜ ResolvedIn (now added) given (now decisions) × (under .q ≤ 4294967296)
         × (levels ≤ 16) × (place .at ≤ 1024) × (place .count ≤ place .at)
-        × (length (now plan) ≡ 3) ⌝ }
+        × (place .visited ≤ place .at + 1024) × (length (now plan) ≡ 3) ⌝ }
     ensures { λ r. ⌜ Planned (closing (additions-in (now (added .entry)) given
-        (now (decisions .entry))) (parent (under .q)) (under .opens)) (place .next) levels
-        (place .at) (place .count) (now (plan .entry)) r (now (plan .exit)) ⌝ }
+        (now (decisions .entry))) (parent (under .q)) (under .opens)) 0 (place .next) levels
+        (place .at) (place .count) (place .visited) (now (plan .entry)) r
+        (now (plan .exit)) ⌝ }
 {
     if under.opens {
         return add_all(added, given, decisions, under.q, levels, plan, place);
     }
     Step::Went(place)
+}
+
+// Where a walk stands past a record that stays: behind its inside, with one sibling more, and it and its inside visited.
+fn past(place: Place, inside: Place) -> Place
+    requires { ⌜ (place .count ≤ 1024) × (place .visited ≤ 2048) × (inside .visited ≤ 2048) ⌝ }
+    ensures { λ r. ⌜ PastOne place inside r ⌝ }
+{
+    Place {
+        next: inside.next,
+        at: inside.at,
+        count: place.count + 1,
+        visited: place.visited + 1 + inside.visited,
+    }
 }
 
 // A record that stays, and its inside rebuilt. Its place in the plan is filled once its members are counted.
@@ -250,12 +270,13 @@ pub fn rebuild_field<'a>(
     requires { ⌜ Inside (trees-in (now trees) .records) (given .base) levels slot
         × Good (set-of (now dropped) drops)
         × ResolvedIn (trees-in (now trees) .added-records) given (now decisions)
-        × (place .at ≤ 1024) × (place .count ≤ place .at) × (length (now plan) ≡ 3) ⌝ }
+        × (place .at ≤ 1024) × (place .count ≤ place .at) × (place .visited ≤ place .at + slot)
+        × (length (now plan) ≡ 3) ⌝ }
     ensures { λ r. ⌜ OnePlanned (trees-in (now (trees .entry)) .records)
         (dropped-ids (set-of (now (dropped .entry)) drops))
         (additions-in (trees-in (now (trees .entry)) .added-records) given
         (now (decisions .entry))) (given .base) levels slot (now (plan .entry)) (place .at)
-        (place .count) r (now (plan .exit)) ⌝ }
+        (place .count) (place .visited) r (now (plan .exit)) ⌝ }
 {
     let at = place.at;
     if 1024 <= at {
@@ -268,6 +289,7 @@ pub fn rebuild_field<'a>(
             next: slot + 1,
             at: at + 1,
             count: place.count + 1,
+            visited: place.visited + 1,
         });
     }
     let inside = Siblings {
@@ -290,11 +312,7 @@ pub fn rebuild_field<'a>(
         return Step::Full;
     };
     put_planned(plan, at, slot as u32, head.id, w.count);
-    Step::Went(Place {
-        next: w.next,
-        at: w.at,
-        count: place.count + 1,
-    })
+    Step::Went(past(place, w))
 }
 
 // Siblings of the base, rebuilt.
@@ -326,11 +344,13 @@ pub fn rebuild_fields<'a>(
         next: row.slot,
         at,
         count: 0,
+        visited: 0,
     };
     while 0 < left {
         let k = here.next;
         if dropped_member(records, k, under.opens, dropped, drops) {
             here.next = tree_end(records, given.base, k, levels - 1, 0);
+            here.visited += 1;
             left -= 1;
             continue;
         }
@@ -373,6 +393,8 @@ pub fn rebuild<'a>(
         (dropped-ids (set-of (now (dropped .entry)) drops))
         (additions-in (trees-in (now (trees .entry)) .added-records) given
         (now (decisions .entry))))
+        (passed-base (trees-in (now (trees .entry)) .records) (given .base)
+        (dropped-ids (set-of (now (dropped .entry)) drops)))
         (given .base) (now (plan .entry)) r (now (plan .exit)) ⌝ }
 {
     let all = Siblings {

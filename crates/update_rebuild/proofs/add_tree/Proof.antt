@@ -18,5 +18,7 @@ add-tree-spec =
     (λ c κs. search (growing, needs))  -- put-added-requires
     (λ c. search needs)  -- add-t14
     (λ c. search needs)  -- add-t18
+    (λ c. search needs)  -- cast-t20
+    (λ c. search needs)  -- add-t20
     (λ c. search (growing, needs))  -- returns-3
     )
