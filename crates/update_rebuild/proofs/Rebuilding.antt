@@ -25,7 +25,7 @@ use Rattle.update_rebuild.specs.declared.Place.{Place}
 use Rattle.update_rebuild.specs.declared.Step.{Step}
 use Rattle.update_rebuild.specs.declared.Step.the-variants.{Went, Full}
 use Rattle.update_rebuild.specs.Sources.{base-source, parent, rebuilt-row, rebuilt-one, passed}
-use Rattle.update_rebuild.specs.Planned.{Readable, Inside, Planned, HeadOf, PastOne, closing, RowPlanned, OnePlanned}
+use Rattle.update_rebuild.specs.Planned.{Readable, Inside, Planned, HeadOf, StandsAt, closing, RowPlanned, OnePlanned}
 use Rattle.update_rebuild.proofs.Onward.{went-whole, full-over, planned-none, Onward, onward-passes, onward-goes, onward-stops}
 
 -- ---- the end of a row
@@ -129,9 +129,9 @@ module _ (records dropped : List ℕ) (adds : List (Addition Source)) (n lv k : 
           };
         }
 
-    pub one-past : (here w past : Place) (p₂ : List (List ℕ)) → 0 < lv → r ≡ Went w → p₂ ≡ planned-at p₁ i k (h .id) (w .count) → here .count ≡ c → here .visited ≡ v → PastOne here w past
+    pub one-past : (w past : Place) (p₂ : List (List ℕ)) → 0 < lv → r ≡ Went w → p₂ ≡ planned-at p₁ i k (h .id) (w .count) → StandsAt (w .next) (w .at) (c + 1) (v + 1 + w .visited) past
         → OnePlanned records dropped adds n lv k plan i c v (Went past) p₂
-    one-past here w past p₂ l e ep ec ev o = rw (o .is, ec, ev) (one-goes w p₂ l e ep)
+    one-past w past p₂ l e ep o = rw (o .is) (one-goes w p₂ l e ep)
 
   -- nothing comes to stand inside a leaf
   pub one-leaf : (h : Head) (g : Bool) (p₂ : List (List ℕ)) → HeadOf records k h → g ≡ (not (h .under .opens) && eqb (h .members) 0) → g ≡ true → 0 < lv → i < 1024 → length plan ≡ 3 → p₂ ≡ planned-at plan i k (h .id) 0 → OnePlanned records dropped adds n lv k plan i c v (Went (record { next = k + 1; at = i + 1; count = c + 1; visited = v + 1 })) p₂
@@ -199,9 +199,6 @@ module _ {records dropped : List ℕ} {adds : List (Addition Source)} {n lv : �
     pub next-low : 1 ≤ lv
     next-low = inside-reads .low
 
-    held-past : k < held .next
-    held-past = let f = part-full 0 (kids-at records) n (lv - 1) (kids-at records k) (k + 1) (inside-reads .inside .read) in omega (arith, f .next)
-
     module _ (j : ℕ) (ej : j ≡ held .next) where
       rest-reads : Readable records n lv (c - 1) j
       rest-reads =
@@ -214,11 +211,19 @@ module _ {records dropped : List ℕ} {adds : List (Addition Source)} {n lv : �
             read = reads-rest 0 (kids-at records) n lv c k (r .read) (kids-at records k) (λ z. omega arith) refl j ej;
           }
 
+      -- its inside ends behind it, and in the base
+      pub held-past : k < j
+      held-past = let f = part-full 0 (kids-at records) n (lv - 1) (kids-at records k) (k + 1) (inside-reads .inside .read) in omega (arith, f .next)
+
+      pub held-few : j ≤ 1024
+      held-few = let r = rest-reads in omega (arith, r .within, r .small)
+
       the-row : part 0 (kids-at records) n lv c k ≡ before k held (behind j)
       the-row = rw ej (part-in 0 (kids-at records) n lv c k (H .read .read) (kids-at records k) (λ z. omega arith) refl)
 
-      pub rebuild-skips : {g : Bool} → g ≡ dropped-member b dropped (turned (rec-at records k .id)) → g ≡ true → Rebuilding records dropped adds n lv q b G (c - 1) j i d (v + 1) plan
-      rebuild-skips eg et =
+      pub rebuild-skips : {g : Bool} → g ≡ dropped-member b dropped (turned (rec-at records k .id)) → g ≡ true → {w : Place} → StandsAt j i d (v + 1) w → Rebuilding records dropped adds n lv q b G (c - 1) (w .next) (w .at) (w .count) (w .visited) plan
+      rebuild-skips eg et o =
+          rw (o .is)
           record {
             read = rest-reads;
             on = onward-passes (H .on)

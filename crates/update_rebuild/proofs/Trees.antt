@@ -22,9 +22,10 @@ use Rattle.tree.proofs.Filled.{ended-ok, ended-no, end-room}
 use Rattle.tree.proofs.Depth.{row-is-low, row-reads-low}
 use Rattle.tree.proofs.Steps.{part-is, part-full, was-read}
 use Rattle.plan.specs.Plan.{Source, slot-of, bits-of}
+use Rattle.update_rebuild.specs.declared.Place.{Place}
 use Rattle.update_rebuild.specs.declared.Step.the-variants as step
 use Rattle.update_rebuild.specs.Sources.{added-source, added-tree}
-use Rattle.update_rebuild.specs.Planned.{Planned, AddedIn}
+use Rattle.update_rebuild.specs.Planned.{Planned, AddedIn, StandsAt}
 
 -- Ids in preorder are ids by the slot.
 fresh-row : (kids id : ℕ → ℕ) (n c k : ℕ) (t : Forest ℕ) → Laid kids n k t → ((d : ℕ) → id (k + d) ≡ c + d) → fresh added-source c t ≡ mapped (λ j. added-source (id j) j) t
@@ -56,13 +57,13 @@ module _ (added : List ℕ) (n k id past lv i c v : ℕ) (plan : List (List ℕ)
       let b = ap (λ (q : Part). q .next) z in
       (omega arith, omega (arith, f .next))
 
-  pub tree-goes : (e : ℕ) (p₁ : List (List ℕ)) → w ≡ End e → i ≤ 1024 → e - k ≤ 1024 - i → AddedIn (kids-at added) k (e - k) (turned id) plan i p₁
-      → Planned (added-tree added n k id) 0 past lv i c v plan (step.Went (record { next = past; at = i + (e - k); count = c + 1; visited = v + (e - k) })) p₁
-  tree-goes e p₁ ee l m r =
+  pub tree-goes : (e : ℕ) (p₁ : List (List ℕ)) → w ≡ End e → i ≤ 1024 → e - k ≤ 1024 - i → AddedIn (kids-at added) k (e - k) (turned id) plan i p₁ → (o : Place) → StandsAt past (i + (e - k)) (c + 1) (v + (e - k)) o
+      → Planned (added-tree added n k id) 0 past lv i c v plan (step.Went o) p₁
+  tree-goes e p₁ ee l m r o stands =
       let d = tree-ends e ee in
       let f = part-full 1 (kids-at added) n 16 1 k h in
       let q : preorder (mapped source slots) ≡ from source k (e - k) = preorder-mapped source slots ∙ rw (f .slots, ← (d .1)) (map-from source itself k (e - k)) in
-      rw added-is
+      rw (added-is, stands .is)
       record {
         by = record {
           next = refl;

@@ -114,9 +114,8 @@ pub record HeadOf (records : List ℕ) (k : ℕ) (h : Head) : Type 0 where
   pub under : h .under .q ≡ suc (rec-at records k .id)
   pub word : h .under .q ≤ 4294967296
 
--- Past a record from which the walk stood at `here`, and whose inside ended at w.
-pub record PastOne (here w past : Place) : Type 0 where
-  pub is : past ≡ record { next = w .next; at = w .at; count = here .count + 1; visited = here .visited + 1 + w .visited }
+pub record StandsAt (next at count visited : ℕ) (w : Place) : Type 0 where
+  pub is : w ≡ record { next = next; at = at; count = count; visited = visited }
 
 -- The end of a row: additions follow the members of the root list or of a struct.
 unfoldable pub closing : List (Addition Source) → Option ℕ → (open? : Bool) → Forest Source

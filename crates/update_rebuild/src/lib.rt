@@ -37,7 +37,7 @@ ghost use Rattle.update_rebuild.specs.Planned.{
   Planned,
   AddedIn,
   HeadOf,
-  PastOne,
+  StandsAt,
   closing,
   RowPlanned,
   OnePlanned,
@@ -144,6 +144,48 @@ fn put_added(added: &[u8], slot: usize, count: usize, id: u32, plan: &mut PlanRo
     }
 }
 
+// Where a walk stands past a record that stays: one sibling more, and it and its inside visited.
+fn past(place: Place, inside: Place) -> Place
+    requires { ⌜ (place .count ≤ 1024) × (place .visited ≤ 2048) × (inside .visited ≤ 2048) ⌝ }
+    ensures { λ r. ⌜ StandsAt (inside .next) (inside .at) (place .count + 1)
+        (place .visited + 1 + inside .visited) r ⌝ }
+{
+    Place {
+        next: inside.next,
+        at: inside.at,
+        count: place.count + 1,
+        visited: place.visited + 1 + inside.visited,
+    }
+}
+
+// Past a dropped member, which ends before slot `end`: it is visited, and nothing inside it.
+fn over(here: Place, end: usize) -> Place
+    requires { ⌜ (here .visited ≤ 2048) × (here .next < end) × (end ≤ 1024) ⌝ }
+    ensures { λ r. ⌜ StandsAt end (here .at) (here .count) (here .visited + 1) r ⌝ }
+{
+    Place {
+        next: end,
+        at: here.at,
+        count: here.count,
+        visited: here.visited + 1,
+    }
+}
+
+// Behind an added tree of so many records: one sibling more, and each of them visited once.
+fn behind(place: Place, size: usize) -> Place
+    requires { ⌜ (place .at ≤ 1024) × (place .count ≤ 1024) × (place .visited ≤ 2048)
+        × (size ≤ 1024) ⌝ }
+    ensures { λ r. ⌜ StandsAt (place .next) (place .at + size) (place .count + 1)
+        (place .visited + size) r ⌝ }
+{
+    Place {
+        next: place.next,
+        at: place.at + size,
+        count: place.count + 1,
+        visited: place.visited + size as u32,
+    }
+}
+
 // One added tree, behind what is planned.
 fn add_tree(
     added: &[u8],
@@ -161,24 +203,16 @@ fn add_tree(
     ensures { λ r. ⌜ Planned (added-tree (now (added .entry)) m slot id) 0 (place .next) levels
         (place .at) (place .count) (place .visited) (now (plan .entry)) r (now (plan .exit)) ⌝ }
 {
-    let at = place.at;
-    let next = place.next;
-    let count = place.count;
     let walked = row_end(added, m, slot, 1, levels, 1);
     let Walked::End(end) = walked else {
         return Step::Full;
     };
     let size = end - slot;
-    if 1024 - at < size {
+    if 1024 - place.at < size {
         return Step::Full;
     }
-    put_added(added, slot, size, id, plan, at);
-    Step::Went(Place {
-        next,
-        at: at + size,
-        count: count + 1,
-        visited: place.visited + size as u32,
-    })
+    put_added(added, slot, size, id, plan, place.at);
+    Step::Went(behind(place, size))
 }
 
 // The additions under q, in entry order.
@@ -240,19 +274,6 @@ fn close(
         return add_all(added, given, decisions, under.q, levels, plan, place);
     }
     Step::Went(place)
-}
-
-// Where a walk stands past a record that stays: behind its inside, with one sibling more, and it and its inside visited.
-fn past(place: Place, inside: Place) -> Place
-    requires { ⌜ (place .count ≤ 1024) × (place .visited ≤ 2048) × (inside .visited ≤ 2048) ⌝ }
-    ensures { λ r. ⌜ PastOne place inside r ⌝ }
-{
-    Place {
-        next: inside.next,
-        at: inside.at,
-        count: place.count + 1,
-        visited: place.visited + 1 + inside.visited,
-    }
 }
 
 // A record that stays, and its inside rebuilt. Its place in the plan is filled once its members are counted.
@@ -349,8 +370,7 @@ pub fn rebuild_fields<'a>(
     while 0 < left {
         let k = here.next;
         if dropped_member(records, k, under.opens, dropped, drops) {
-            here.next = tree_end(records, given.base, k, levels - 1, 0);
-            here.visited += 1;
+            here = over(here, tree_end(records, given.base, k, levels - 1, 0));
             left -= 1;
             continue;
         }

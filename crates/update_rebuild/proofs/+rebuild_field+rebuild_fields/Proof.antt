@@ -6,7 +6,7 @@ use Rattle.update_dropped.specs.Set.{dropped-ids, set-of}
 use Rattle.update_rebuild.specs.Sources.{parent}
 use Rattle.update_rebuild.specs.Planned.{additions-in, RowPlanned}
 use Rattle.update_rebuild.proofs.Onward.{went-rows, onward-starts}
-use Rattle.update_rebuild.proofs.Rebuilding.{Rebuilding, inside-few, inside-asked, one-wide, one-leaf, one-stops, one-few, one-past, rebuild-ends, seen-few, inside-reads, inside-stands, next-room, next-low, rebuild-skips, rebuild-stops, rebuild-goes}
+use Rattle.update_rebuild.proofs.Rebuilding.{Rebuilding, inside-few, inside-asked, one-wide, one-leaf, one-stops, one-few, one-past, rebuild-ends, seen-few, inside-reads, inside-stands, next-room, next-low, held-past, held-few, rebuild-skips, rebuild-stops, rebuild-goes}
 use borrow.Fn.Kinds.{In}
 use borrow.Fn.PlainCycle.{Measures, is, falls, and}
 use Rattle.update_rebuild.proofs.rebuild_field.Reads as rebuild-field
@@ -22,6 +22,7 @@ use Rattle.update_dropped.proofs.dropped_member.Reads as dropped-member-reads
 use Rattle.update_rebuild.proofs.head_at.Reads as head-at-reads
 use Rattle.update_rebuild.proofs.is_leaf.Reads as is-leaf-reads
 use Rattle.update_rebuild.proofs.past.Reads as past-reads
+use Rattle.update_rebuild.proofs.over.Reads as over-reads
 use Rattle.update_rebuild.proofs.+rebuild_field+rebuild_fields.{statement}
 use Rattle.update_rebuild.proofs.+rebuild_field+rebuild_fields.Tie.{close}
 
@@ -90,13 +91,15 @@ pub +rebuild-field+rebuild-fields-spec : {M : Type 1} → statement M
     (λ c. search needs)  -- rebuild-field-cast-put-planned-2
     (λ c κs. search (went-rows, needs))  -- rebuild-field-put-planned-requires-2
     (λ c κs. let few = inside-few (c .before .before .before .before .before .before .before .before .before .before .before .before .pre .1 .0) in (search needs, search needs, search (one-few, needs)))  -- rebuild-field-past-requires
-    (λ c. one-past _ _ _ _ _ _ _ _ _ _ _ (c .before .before .before .before .before .before .before .before .before .before .head-at .ensures) _ _ (c .before .before .before .before .before .before .rebuild-fields .ensures) _ _ _ _ (c .before .before .before .before .before .before .before .before .before .before .before .before .before .pre .1 .0 .low) (c .before .before .before .before .step .given .1) (search needs) (search needs) (search needs) (c .past .ensures))  -- rebuild-field-returns-4
+    (λ c. one-past _ _ _ _ _ _ _ _ _ _ _ (c .before .before .before .before .before .before .before .before .before .before .head-at .ensures) _ _ (c .before .before .before .before .before .before .rebuild-fields .ensures) _ _ _ (c .before .before .before .before .before .before .before .before .before .before .before .before .before .pre .1 .0 .low) (c .before .before .before .before .step .given .1) (search needs) (c .past .ensures))  -- rebuild-field-returns-4
     )
     λ t. rebuild-fields-lts.spec (
       dropped-member-reads.Asked,
       dropped-member-reads.Learnt,
       tree-end-reads.Asked,
       tree-end-reads.Learnt,
+      over-reads.Asked,
+      over-reads.Learnt,
       rebuild-field-below t,
       rebuild-field.Post,
       close-reads.Asked,
@@ -111,7 +114,7 @@ pub +rebuild-field+rebuild-fields-spec : {M : Type 1} → statement M
     (λ c κs. search (next-room, needs))  -- rebuild-fields-dropped-member-requires
     (λ c. search (next-low, needs))  -- rebuild-fields-sub-tree-end
     (λ c κs. search (inside-stands, inside-reads, needs))  -- rebuild-fields-tree-end-requires
-    (λ c. search (seen-few, needs))  -- rebuild-fields-add-here
+    (λ c κs. search (seen-few, held-past, held-few, needs))  -- rebuild-fields-over-requires
     (λ c. search needs)  -- rebuild-fields-sub-left
     (λ c. search needs)  -- rebuild-fields-loop-less
     (λ c. search (rebuild-skips, needs))  -- rebuild-fields-loop-again
