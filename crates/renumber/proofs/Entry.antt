@@ -205,7 +205,7 @@ module _ (records pool identifiers : List ℕ) (lr ln li : ℕ) where
                     ∙ ap (λ (is : List ℕ). ids-in is (slots records)) (getD-set-same plan 1 new [] (let a = b .roomy .rows in omega arith))
 
                 pub done : (start : ℕ) (out-identifiers identifiers′ : List ℕ) → first ≡ turned start → Mapped identifiers (numbers plan) new (slots records) out-identifiers identifiers′
-                    → Answers changes (entry start) (for-records out-records ∷ for-names out-names ∷ for-identifiers out-identifiers ∷ []) (changed.Done (record { records = slots records; names = names; «last_id» = 0 })) (records′ ∷ names′ ∷ identifiers′ ∷ [])
+                    → Answers changes (entry start) (for-records out-records ∷ for-names out-names ∷ for-identifiers out-identifiers ∷ []) (changed.Done (record { records = slots records; names = names; «last_id» = 0; visited = 0 })) (records′ ∷ names′ ∷ identifiers′ ∷ [])
                 unfolding after-6 renumber _>>=_ changes leaves mapped-bytes
                 done start out-identifiers identifiers′ ef m =
                     let a = few in
