@@ -23,7 +23,7 @@ fn both_judges_still_give_the_recorded_answers() {
 /// The program that replays it without Rust holds a line at a time, and no more than so many bytes
 /// of it. Of the whole list it asks nothing: its bound keeps the checkout small. It was three
 /// million bytes before the identifiers, whose cases of 16 levels need them; edits need a quarter of
-/// a million more, and widenings 0.4 million, since every pair of codes is a case.
+/// a million more, widenings 0.4 million, since every pair of codes is a case, and visits 0.1.
 #[test]
 fn the_list_is_plain_and_small() {
     let text = text();
