@@ -408,7 +408,7 @@ static void visits(void)
                        (const uint8_t *)request_names, sizeof request_names - 1, ROOM)
     held("visited: a dropped struct once, though it be dropped twice, and nothing inside it",
          visited(VISITED(ARRAY(node), NOTHING, NOTHING), 7, 8));
-    held("visited: so too a dropped list", visited(VISITED(ARRAY(list), NOTHING, NOTHING), 8, 8));
+    held("visited: so too a dropped list", visited(VISITED(ARRAY(list), NOTHING, NOTHING), 7, 8));
     held("visited: an element that is dropped stays, and all inside it is visited",
          visited(VISITED(ARRAY(element), NOTHING, NOTHING), 10, 10));
     held("visited: a member that is dropped inside it goes, and is visited",
