@@ -44,7 +44,7 @@ fn a_dropped_member_counts_and_what_stands_inside_it_does_not() -> Tested {
         // nothing stands inside these
         (&["node.cost"], (9, 10)),
         (&["node.cost", "visits.day", "parts.price"], (7, 10)),
-        // what is dropped inside a dropped one is not met; and one that is dropped twice counts once
+        // what is dropped inside a dropped one is not met, and what is dropped twice counts once
         (&["node.cost", "node", "node"], (7, 8)),
         (&["visits.day", "visits.element", "visits"], (7, 8)),
     ] {
