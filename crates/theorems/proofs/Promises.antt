@@ -102,7 +102,7 @@ pub worked-examples : map (λ e. answer (e .asked)) examples ≡ map (λ e. e .g
 worked-examples = all-hold
 
 -- Rules that P1 to P13 don't show, each refusal, and the order of any two that can meet: one list, and one claim over it. Beside
--- it the six numbers, the bytes in the buffers, and the lister's text.
+-- it the seven numbers, the bytes in the buffers, and the lister's text.
 pub pinned-rules : Held
 pinned-rules = pins
 
