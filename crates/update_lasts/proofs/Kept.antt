@@ -1,6 +1,6 @@
 -- What a caller stores is the paper's run: after an acceptance the front of the buffers, as long as the answer
 -- says, is the answer's bytes; after a refusal nothing changes. So demand 3 over bytes speaks of what it stores.
-use Prim.Native.Nat.{ℕ, zero, suc, _+_, _*_}
+use Prim.Native.Nat.{ℕ, zero, suc, _*_}
 use mathlib.Core.Path.{_≡_, refl, sym, ap, subst, fun-ext, _∙_}
 use mathlib.Core.List.{List, [], _∷_}
 use mathlib.Core.Option.{Option, none, some}
@@ -10,7 +10,6 @@ use lib.ListN.{length, drop, getD}
 use lib.Seq.{take-at}
 use Rattle.paper.specs.Answer.{Answer, ok, refused}
 use Rattle.paper.specs.Forest.{size}
-use Rattle.paper.specs.Bytes.{turned}
 use Rattle.paper.specs.Encode.{record-bytes, pool-bytes}
 use Rattle.paper.specs.Lent.{Stored, Lent}
 use Rattle.paper.specs.Entries.{Result, update-entry}
