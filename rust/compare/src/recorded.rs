@@ -3,9 +3,10 @@
 use std::path::PathBuf;
 
 use cases::{
-    Case, Generator, Judge, Named, Recorded, Sizes, answer, named, read_line, read_recorded,
-    write_line,
+    Answer, Case, Generator, Judge, Named, Recorded, Sizes, answer, named, read_line,
+    read_recorded, write_line,
 };
+use judge::RECORD_BYTES;
 use oracle::Iceberg;
 
 use crate::agree::{Agreement, agreement};
@@ -26,6 +27,9 @@ const EDITS: u64 = 72;
 /// Random updates that widen.
 const WIDENINGS: u64 = 96;
 
+/// Random updates that don't visit all.
+const VISITS: usize = 20;
+
 /// Where the list stands in the repository.
 pub fn recorded_path() -> PathBuf {
     PathBuf::from(env!("CARGO_MANIFEST_DIR")).join("../../crates/recorded/data/recorded.txt")
@@ -34,7 +38,7 @@ pub fn recorded_path() -> PathBuf {
 /// The whole list: a header, the named cases, then the random ones, those of 02 last.
 pub fn recorded_list(iceberg: Iceberg) -> String {
     let mut lines = vec![];
-    for Named { title, case, .. } in named() {
+    for Named { title, case, .. } in named().into_iter().filter(|one| one.listed) {
         lines.push(format!("# {title}"));
         lines.push(entry(case, iceberg));
     }
@@ -56,7 +60,17 @@ pub fn recorded_list(iceberg: Iceberg) -> String {
     lines.extend((0..EDITS).map(|n| entry(generator.edits(n), iceberg)));
     lines.push(format!("# 6/13: widenings, random, seed {SEED}"));
     lines.extend((0..WIDENINGS).map(|n| entry(generator.widenings(n), iceberg)));
+    lines.push(format!("# 7/13: what is visited, random, seed {SEED}"));
+    let others = (RANDOM..).map(|n| generator.case(n)).filter(leaves_unvisited);
+    lines.extend(others.take(VISITS).map(|case| entry(case, iceberg)));
     header(&lines) + &lines.join("\n") + "\n"
+}
+
+/// Is it an accepted update that drops a member with an inside?
+fn leaves_unvisited(case: &Case) -> bool {
+    let Some(call) = case.update_call() else { return false };
+    let all = (call.records.len() + call.added_records.len()) / RECORD_BYTES;
+    matches!(answer(case), Answer::Updated { visited, .. } if (visited as usize) < all)
 }
 
 fn entry(case: Case, iceberg: Iceberg) -> String {
@@ -85,7 +99,7 @@ fn header(lines: &[String]) -> String {
 #
 # OP JUDGE RECORDS POOL inputs.. = answer..
 #
-# update   JUDGE RECORDS POOL IDENTIFIERS LAST_ID DELETIONS ADDITIONS ADDED_RECORDS REQUEST_POOL OUT_RECORDS OUT_NAMES = ok RECORDS NAMES LAST_ID
+# update   JUDGE RECORDS POOL IDENTIFIERS LAST_ID DELETIONS ADDITIONS ADDED_RECORDS REQUEST_POOL OUT_RECORDS OUT_NAMES = ok RECORDS NAMES LAST_ID VISITED
 #          with EDITS behind OUT_NAMES where there are any or a VERSION, and VERSION behind them where it is not 2
 # prune    JUDGE RECORDS POOL SELECTED FULL OUT_RECORDS OUT_NAMES = ok RECORDS NAMES
 # renumber JUDGE RECORDS POOL IDENTIFIERS START OUT_RECORDS OUT_NAMES OUT_IDENTIFIERS = ok RECORDS NAMES IDENTIFIERS

@@ -210,7 +210,7 @@ fn an_addition_to_a_dropped_parent_is_nowhere() {
     let x = || prim(0, "x");
     let smallest =
         update_of(&[strukt(1, "node", vec![])], &[], 1, &["node"], &[(Some("node"), x())]);
-    let nothing = Answer::Updated { records: vec![], names: vec![], last_id: 2 };
+    let nothing = Answer::Updated { records: vec![], names: vec![], last_id: 2, visited: 1 };
     assert_eq!(iceberg.verdict(&smallest), Verdict::Answer(nothing));
     let fixed = [required(strukt(1, "node", vec![required(prim(5, "cost"))]))];
     let t = the_tree();

@@ -1,14 +1,16 @@
 //! The comparison finds what is wrong with a port.
 
+use std::collections::HashSet;
+
 use cases::{
     Ask, Broken, ByJudge, Case, Generator, Of, Operations, Sizes, broken_in, named, outcome,
     read_line,
 };
 use compare::{Run, iceberg, replay};
 use judge::{
-    Change, Changed, DATE, DOUBLE, EDIT_BYTES, Edit, FLOAT, Found, ID_BYTES, INT, LONG, NO_SLOT,
-    Names, PRIMITIVE, RECORD_BYTES, RELAX, REQUIRED, Row, STRING, Searched, TIMESTAMP,
-    TIMESTAMP_NS, Tree, UpdateCall, VERSIONS, WIDEN, decimal, is_step,
+    Change, Changed, DATE, DOUBLE, EDIT_BYTES, ENTRY_BYTES, Edit, FLOAT, Found, ID_BYTES, INT,
+    LONG, NO_SLOT, Names, PRIMITIVE, RECORD_BYTES, RELAX, REQUIRED, Row, STRING, Searched,
+    TIMESTAMP, TIMESTAMP_NS, Tree, UpdateCall, VERSIONS, WIDEN, decimal, is_step,
 };
 use port::{Guarded, beside_paper};
 
@@ -1407,6 +1409,204 @@ fn widenings_that_are_wrongly_read_are_found() {
     for (what, updated) in wrong {
         assert!(failures(Altered { updated, ..right() }) > 0, "{what}");
     }
+}
+
+/// What an accepted update visits is told from.
+struct Visits {
+    tree: Tree,
+    /// The slots that the deletions find, one for each of them.
+    deleted: Vec<usize>,
+    /// Added columns, and their records.
+    columns: usize,
+    added: usize,
+    edits: usize,
+    /// The records of the answer.
+    answered: usize,
+    /// The ids of the answer.
+    ids: HashSet<i32>,
+    /// The right number.
+    right: usize,
+}
+
+impl Visits {
+    fn is_deleted(&self, slot: usize) -> bool {
+        self.deleted.contains(&slot)
+    }
+
+    fn goes(&self, slot: usize) -> bool {
+        self.is_deleted(slot) && is_member(&self.tree, slot)
+    }
+
+    /// The records above a slot.
+    fn above(&self, slot: usize) -> impl Iterator<Item = usize> {
+        std::iter::successors(self.tree.rows[slot].parent, |up| self.tree.rows[*up].parent)
+    }
+
+    /// Is a slot one that goes, with none above it that does?
+    fn goes_first(&self, slot: usize) -> bool {
+        self.goes(slot) && !self.above(slot).any(|up| self.goes(up))
+    }
+
+    /// How many slots of the base are such.
+    fn slots(&self, such: impl Fn(usize) -> bool) -> usize {
+        (0..self.tree.rows.len()).filter(|slot| such(*slot)).count()
+    }
+}
+
+/// An accepted update with another number of visited records.
+fn visited_by(
+    call: &UpdateCall,
+    r: &mut [u8],
+    n: &mut [u8],
+    other: fn(&Visits) -> usize,
+) -> Changed {
+    let answer = judge::update(call, r, n);
+    if answer.refusal != 0 {
+        return answer;
+    }
+    let tree = judge::read_tree(call.records, call.pool, judge::BASE).expect("it was accepted");
+    let names = Names::of(&tree);
+    let paths = judge::read_paths(call.deletions, call.request_pool, judge::DELETIONS);
+    let deleted = paths.expect("accepted").iter().flatten().filter_map(|p| names.find(p)).collect();
+    let answered = answer.records as usize;
+    let id = |r: &[u8]| i32::from_le_bytes([r[0], r[1], r[2], r[3]]);
+    let visits = Visits {
+        tree,
+        deleted,
+        columns: call.additions.len() / ENTRY_BYTES,
+        added: call.added_records.len() / RECORD_BYTES,
+        edits: call.edits.len() / EDIT_BYTES,
+        answered,
+        ids: r.chunks_exact(RECORD_BYTES).take(answered).map(id).collect(),
+        right: answer.visited as usize,
+    };
+    Changed { visited: other(&visits) as u32, ..answer }
+}
+
+/// The answer with a number where none belongs.
+fn refused_with_a_number(
+    call: &UpdateCall,
+    r: &mut [u8],
+    n: &mut [u8],
+    of: fn(Changed) -> bool,
+) -> Changed {
+    let answer = judge::update(call, r, n);
+    let visited = (call.records.len() / RECORD_BYTES) as u32;
+    if of(answer) { Changed { visited, ..answer } } else { answer }
+}
+
+/// 02, 7/13: what counts, what does not, and where there is no number.
+#[test]
+fn wrong_numbers_of_visited_records_are_found() {
+    let wrong: [(&str, Updated); 27] = [
+        ("none", |c, r, n| visited_by(c, r, n, |_| 0)),
+        ("the base's records", |c, r, n| visited_by(c, r, n, |v| v.tree.rows.len())),
+        ("the answer's records, so that what goes does not count", |c, r, n| {
+            visited_by(c, r, n, |v| v.answered)
+        }),
+        ("all, so that the inside of what goes counts", |c, r, n| {
+            visited_by(c, r, n, |v| v.tree.rows.len() + v.added)
+        }),
+        ("the members of what goes count", |c, r, n| {
+            visited_by(c, r, n, |v| {
+                let right_above = |up: usize| v.goes_first(up);
+                v.right + v.slots(|slot| v.above(slot).next().is_some_and(right_above))
+            })
+        }),
+        ("what is right above alone is asked", |c, r, n| {
+            visited_by(c, r, n, |v| {
+                v.added + v.slots(|slot| !v.above(slot).next().is_some_and(|up| v.goes(up)))
+            })
+        }),
+        ("only roots are asked", |c, r, n| {
+            visited_by(c, r, n, |v| {
+                let root = |up: usize| v.goes(up) && v.tree.rows[up].parent.is_none();
+                v.added + v.slots(|slot| !v.above(slot).any(root))
+            })
+        }),
+        ("only members of structs are asked", |c, r, n| {
+            visited_by(c, r, n, |v| {
+                let member = |up: usize| v.goes(up) && v.tree.rows[up].parent.is_some();
+                v.added + v.slots(|slot| !v.above(slot).any(member))
+            })
+        }),
+        ("a primitive that goes does not count", |c, r, n| {
+            visited_by(c, r, n, |v| {
+                let primitive = |slot: usize| v.tree.rows[slot].kind == PRIMITIVE;
+                v.right - v.slots(|slot| v.goes_first(slot) && primitive(slot))
+            })
+        }),
+        ("what goes counts within what goes too", |c, r, n| {
+            visited_by(c, r, n, |v| v.answered + v.slots(|slot| v.goes(slot)))
+        }),
+        ("each deletion counts", |c, r, n| visited_by(c, r, n, |v| v.answered + v.deleted.len())),
+        ("each deletion of what goes counts", |c, r, n| {
+            visited_by(c, r, n, |v| {
+                v.answered + v.deleted.iter().filter(|slot| v.goes_first(**slot)).count()
+            })
+        }),
+        ("a dropped element, key or value is taken for one that goes", |c, r, n| {
+            visited_by(c, r, n, |v| {
+                v.added + v.slots(|slot| !v.above(slot).any(|up| v.is_deleted(up)))
+            })
+        }),
+        ("a dropped element, key or value counts twice", |c, r, n| {
+            visited_by(c, r, n, |v| v.right + v.slots(|slot| v.is_deleted(slot) && !v.goes(slot)))
+        }),
+        ("what a dropped element, key or value is in does not go", |c, r, n| {
+            visited_by(c, r, n, |v| {
+                let held = |up: usize| v.is_deleted(up) && !v.goes(up);
+                let goes = |up: usize| v.goes(up) && !v.above(up).any(held);
+                v.added + v.slots(|slot| !v.above(slot).any(goes))
+            })
+        }),
+        ("a list or map that goes leaves its inside", |c, r, n| {
+            visited_by(c, r, n, |v| {
+                let goes = |up: usize| v.goes(up) && v.tree.rows[up].kind == judge::STRUCT;
+                v.added + v.slots(|slot| !v.above(slot).any(goes))
+            })
+        }),
+        ("additions count twice", |c, r, n| visited_by(c, r, n, |v| v.right + v.added)),
+        ("additions do not count", |c, r, n| visited_by(c, r, n, |v| v.right - v.added)),
+        ("of an added tree its root alone counts", |c, r, n| {
+            visited_by(c, r, n, |v| v.right - v.added + v.columns)
+        }),
+        ("each id counts once", |c, r, n| {
+            visited_by(c, r, n, |v| {
+                let again = |slot: usize| v.ids.contains(&v.tree.rows[slot].id);
+                v.right - v.slots(|slot| v.goes_first(slot) && again(slot))
+            })
+        }),
+        ("edits count", |c, r, n| visited_by(c, r, n, |v| v.right + v.edits)),
+        ("1,024 at most", |c, r, n| visited_by(c, r, n, |v| v.right.min(1_024))),
+        ("one byte", |c, r, n| visited_by(c, r, n, |v| v.right & 255)),
+        ("ten bits", |c, r, n| visited_by(c, r, n, |v| v.right & 1_023)),
+        ("a refusal has a number", |c, r, n| refused_with_a_number(c, r, n, |a| a.refusal > 0)),
+        ("a rebuilt tree that is refused has a number", |c, r, n| {
+            refused_with_a_number(c, r, n, |a| a.refusal > 0 && a.list == judge::REBUILT)
+        }),
+        ("a refused edit has a number", |c, r, n| refused_with_a_number(c, r, n, of_an_edit)),
+    ];
+    for (what, updated) in wrong {
+        assert!(failures(Altered { updated, ..right() }) > 0, "{what}");
+    }
+}
+
+/// Pruning and renumbering report 0.
+#[test]
+fn a_number_of_visited_records_elsewhere_is_found() {
+    let renumbered: Renumbered = |lent, start, out| {
+        let answer = renumbered(lent, start, out);
+        Changed { visited: answer.records, ..answer }
+    };
+    let renumberings = failures(Altered { renumbered, ..right() });
+    // an update without a last id may be among them
+    let changed = |answer: Changed, _: &mut [u8], _: &mut [u8]| Changed {
+        visited: if answer.last_id == 0 { answer.records } else { answer.visited },
+        ..answer
+    };
+    let all = failures(Altered { changed, ..right() });
+    assert!(renumberings > 20 && all > renumberings + 20, "{renumberings} of {all}");
 }
 
 /// A wrong rule for identifiers: which of the conditions are passed over, in which tree.

@@ -84,6 +84,50 @@ fn the_last_id_is_the_crates_own() {
     assert!(shown > 500, "{shown} cases");
 }
 
+/// The crate counts no visits. What it leaves out of the base it shows by rebuilding it with the
+/// deletions alone; with the records of its answer these are all that the first judge counts.
+#[test]
+fn what_is_visited_is_by_the_crates_own_rebuilding() {
+    let Some(iceberg) = iceberg() else { return };
+    let generator = Generator { seed: SEED, sizes: Sizes::Usual };
+    let (mut shown, mut fewer) = (0, 0);
+    for n in (0..36_000).step_by(OPERATIONS.len()) {
+        let case = generator.case(n);
+        let said = iceberg.verdict(&case);
+        let Verdict::Answer(Answer::Updated { records, visited, .. }) = said else { continue };
+        let left_out = iceberg.left_out(&case).expect("it is accepted with more");
+        let count = |records: &[u8]| records.len() / judge::RECORD_BYTES;
+        assert_eq!(visited as usize, count(&records) + left_out, "seed {SEED}, case {n}");
+        let call = case.update_call().expect("an update");
+        let whole = count(call.records) + count(call.added_records);
+        (shown, fewer) = (shown + 1, fewer + usize::from((visited as usize) < whole));
+    }
+    assert!(shown > 1_000 && fewer > 200, "{shown} and {fewer}");
+}
+
+/// No other number passes.
+#[test]
+fn a_number_of_visited_records_that_differs_is_told() {
+    let Some(iceberg) = iceberg() else { return };
+    let mut told = 0;
+    for Named { title, case, .. } in named() {
+        let (paper, said) = (answer(&case), iceberg.verdict(&case));
+        let Verdict::Answer(Answer::Updated { records, names, last_id, visited }) = said else {
+            continue;
+        };
+        if paper.refusal().is_some() {
+            continue;
+        }
+        for visited in [visited + 1, visited.wrapping_sub(1)] {
+            let (records, names) = (records.clone(), names.clone());
+            let wrong = Verdict::Answer(Answer::Updated { records, names, last_id, visited });
+            assert_eq!(agreement(&case, &paper, &wrong), Agreement::Differ, "{title}");
+        }
+        told += 1;
+    }
+    assert!(told > 300, "{told}");
+}
+
 #[test]
 fn a_word_that_differs_is_told() {
     let Some(iceberg) = iceberg() else { return };
@@ -132,7 +176,7 @@ fn an_identifier_that_one_of_them_takes_is_told() {
         let wrong = match paper.refusal() {
             None => Answer::Refused(Refusal::new(9, judge::IDENTIFIERS, 0)),
             Some(refusal) if refusal.number == 9 => {
-                Answer::Updated { records: vec![], names: vec![], last_id: 0 }
+                Answer::Updated { records: vec![], names: vec![], last_id: 0, visited: 0 }
             }
             _ => continue,
         };
@@ -158,8 +202,13 @@ fn a_word_that_differs_is_told_where_22_is_given_too() {
         let departs = agreement(&case, &paper, &said);
         assert_eq!(departs.words(), Some("no additions to a dropped parent"), "{title}");
         let wrong = match said {
-            Verdict::Answer(Answer::Updated { records, names, last_id }) => {
-                Verdict::Answer(Answer::Updated { records, names, last_id: last_id ^ 1 })
+            Verdict::Answer(Answer::Updated { records, names, last_id, visited }) => {
+                // each of the numbers in its turn
+                let (last_id, visited) = match departures % 2 {
+                    0 => (last_id ^ 1, visited),
+                    _ => (last_id, visited + 1),
+                };
+                Verdict::Answer(Answer::Updated { records, names, last_id, visited })
             }
             Verdict::Refused { number: 17, place, base, text } => {
                 Verdict::Refused { number: 15, place, base, text }
@@ -191,12 +240,12 @@ fn a_word_that_differs_is_told_where_there_are_edits() {
         let kind = EDITED.iter().position(|words| agreed.words() == Some(words));
         let Some(kind) = kind else { continue };
         let wrong = match said {
-            Verdict::Answer(Answer::Updated { mut records, names, last_id }) => {
+            Verdict::Answer(Answer::Updated { mut records, names, last_id, visited }) => {
                 // of the last record the flags, or the type code
                 let Some(at) = records.len().checked_sub([14, 8][kind]) else { continue };
                 records[at] ^= 1;
                 built[kind] += 1;
-                Verdict::Answer(Answer::Updated { records, names, last_id })
+                Verdict::Answer(Answer::Updated { records, names, last_id, visited })
             }
             Verdict::Refused { number: 23, place, base, text } => {
                 missed[kind] += 1;
@@ -204,7 +253,8 @@ fn a_word_that_differs_is_told_where_there_are_edits() {
             }
             Verdict::Refused { .. } => {
                 refused[kind] += 1;
-                Verdict::Answer(Answer::Updated { records: vec![], names: vec![], last_id: 0 })
+                let (records, names, last_id, visited) = (vec![], vec![], 0, 0);
+                Verdict::Answer(Answer::Updated { records, names, last_id, visited })
             }
             other => panic!("{title}: {other:?}"),
         };

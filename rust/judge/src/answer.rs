@@ -41,7 +41,7 @@ pub fn refuse(number: u32, list: u32, fault: Option<usize>) -> Result<(), Refusa
     }
 }
 
-/// The answer of update, prune and renumber. On a refusal the last three are 0.
+/// The answer of update, prune and renumber. On a refusal the last four are 0.
 #[derive(Clone, Copy, Debug, Default, PartialEq, Eq)]
 pub struct Changed {
     /// 0 where accepted, else the refusal's number.
@@ -54,6 +54,8 @@ pub struct Changed {
     pub names: u32,
     /// The last id consumed by an update; 0 for the others.
     pub last_id: i32,
+    /// The records that an update visits in its rebuild (02, 7/13); 0 for the others.
+    pub visited: u32,
 }
 
 impl From<Refusal> for Changed {

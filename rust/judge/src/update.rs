@@ -39,7 +39,8 @@ enum Beneath {
     Refused,
 }
 
-/// The tree after the deletions, additions and edits, and the last id consumed.
+/// The tree after the deletions, additions and edits, the last id consumed, and how many records
+/// were visited.
 pub fn update(call: &UpdateCall, out_records: &mut [u8], out_names: &mut [u8]) -> Changed {
     update_by(Beneath::Refused, call, out_records, out_names)
 }
@@ -62,7 +63,9 @@ fn update_by(
     let sizes = [(out_records.len(), OUT_RECORDS), (out_names.len(), OUT_NAMES)];
     match refusal_1(&sizes).and_then(|()| call.updated(beneath)) {
         Err(refusal) => refusal.into(),
-        Ok((tree, last_id)) => write(&tree, last_id, out_records, out_names),
+        Ok((tree, last_id, visited)) => {
+            Changed { visited, ..write(&tree, last_id, out_records, out_names) }
+        }
     }
 }
 
@@ -105,7 +108,7 @@ impl<'a> UpdateCall<'a> {
     /// The order of 01 and 02: 2 for everything; 25; base 3 to 6; additions tree 3 to 6; deletion
     /// entries 3, 4; addition entries 3, 4; edits 3, 4; base 7 to 9; 10; deletions one at a time;
     /// additions one at a time; edits one at a time; 19; rebuilt tree 7 to 9.
-    fn updated(&self, beneath: Beneath) -> Result<(Tree, i32), Refusal> {
+    fn updated(&self, beneath: Beneath) -> Result<(Tree, i32, u32), Refusal> {
         self.limits()?;
         refusal_25(self.version)?;
         let base = read_tree(self.records, self.pool, BASE)?;
@@ -143,7 +146,7 @@ impl<'a> UpdateCall<'a> {
         refusal_7(&rebuilt, REBUILT)?;
         refusal_8(&rebuilt, REBUILT)?;
         refusal_9(&rebuilt, &identifiers)?;
-        Ok((rebuilt, plan.last_id))
+        Ok((rebuilt, plan.last_id, plan.visited()))
     }
 
     fn limits(&self) -> Result<(), Refusal> {
@@ -376,6 +379,17 @@ impl Plan<'_> {
             }
         };
         refuse(17, ADDITIONS, taken.then_some(place))
+    }
+
+    /// The records visited (02, 7/13), told from the base and the request alone: each base record
+    /// with no dropped member above it, so that a dropped member counts and its inside does not;
+    /// and each added one in the tree.
+    fn visited(&self) -> u32 {
+        let beneath = |above: Option<usize>| above.is_some_and(|above| self.goes(above));
+        let base = (0..self.base.rows.len()).filter(|slot| !beneath(self.above(*slot))).count();
+        let in_the_tree = self.placed.iter().filter(|(receiver, _)| !beneath(*receiver));
+        let added: usize = in_the_tree.map(|(_, column)| size(column)).sum();
+        u32::try_from(base + added).expect("2,048 at most")
     }
 
     /// The root list or a struct: the dropped members go with their subtrees, and

@@ -61,6 +61,11 @@ impl Iceberg {
         crate::operations::last_id_by_one_more(case)
     }
 
+    /// How many columns an update's deletions take out, each counted without its inside.
+    pub fn left_out(&self, case: &Case) -> Option<usize> {
+        crate::operations::left_out_by_rebuilding(case)
+    }
+
     /// Renumbering by the crate's own `ReassignFieldIds`, without its builder: the ids.
     pub fn renumbered_without_builder(&self, case: &Case) -> Option<Vec<i32>> {
         crate::operations::renumbered_without_builder(case)
@@ -87,6 +92,11 @@ impl Iceberg {
 
     /// The last id consumed by an accepted update, as one more column shows it.
     pub fn last_id(&self, _: &Case) -> Option<i32> {
+        match *self {}
+    }
+
+    /// How many columns an update's deletions take out, each counted without its inside.
+    pub fn left_out(&self, _: &Case) -> Option<usize> {
         match *self {}
     }
 

@@ -4,9 +4,9 @@ use std::sync::atomic::{AtomicUsize, Ordering};
 
 use braidhurdle::c;
 use cases::{
-    Ask, ByJudge, Case, Generator, Sizes, answer, ask_of, by_version, decimal, edited, ids_by,
-    list_of, lists, map_of, outcome, packed, prim, prune_by, relax, rename, renumber_by, strukt,
-    the_tree, update_of, widen,
+    Answer, Ask, ByJudge, Case, Generator, Sizes, answer, ask_of, by_version, decimal, edited,
+    ids_by, list_of, lists, map_of, outcome, packed, prim, prune_by, relax, rename, renumber_by,
+    strukt, the_tree, update_of, widen,
 };
 use judge::{DATE, DEFAULT, DOUBLE, FLOAT, INT, LONG, Node, REQUIRED, TIMESTAMP_NS};
 use port::{Guarded, absent, beside_paper};
@@ -113,6 +113,38 @@ fn one_byte_makes_a_parent_go() {
         request_pool[at] = byte;
         assert_eq!(answer(&case).refusal().map(|r| (r.number, r.place)), Some((22, 1)));
     }
+}
+
+/// A dropped member with a dropped one inside, and a dropped element, which stays, with a dropped
+/// member below it: a byte can make other records visited.
+fn nearly_visited() -> Case {
+    let base = [
+        strukt(1, "a", vec![strukt(2, "b", vec![prim(3, "c")]), prim(4, "d")]),
+        list_of(5, "l", strukt(6, "element", vec![strukt(7, "s", vec![prim(8, "t")])])),
+    ];
+    let dropped = ["a.b", "a.b.c", "l.s", "l.element"];
+    update_of(&base, &[], 8, &dropped, &[(None, strukt(0, "x", vec![prim(0, "y")]))])
+}
+
+#[test]
+fn one_byte_changes_what_is_visited() {
+    let visited = |case: &Case| match answer(case) {
+        Answer::Updated { visited, .. } => visited,
+        other => panic!("{other:?}"),
+    };
+    assert_eq!(visited(&nearly_visited()), 8);
+    // the length of a path: all of a goes, or all of l
+    for (at, count) in [(4, 6), (20, 6)] {
+        let mut case = nearly_visited();
+        let Ask::Update { deletions, .. } = &mut case.ask else { panic!("an update") };
+        deletions[at] = 1;
+        assert_eq!(visited(&case), count);
+    }
+    // a path's last byte: d goes in the place of b, which has an inside
+    let mut case = nearly_visited();
+    let Ask::Update { request_pool, .. } = &mut case.ask else { panic!("an update") };
+    request_pool[2] = b'd';
+    assert_eq!(visited(&case), 9);
 }
 
 /// Edits of which a byte can break a rule: beside a dropped column and an added one, of a map with a
@@ -272,7 +304,8 @@ fn trees_damaged_in_every_byte_get_the_texts_answer_from_every_entry() {
     }
     let nearly =
         [nearly_ambiguous(), nearly_equal(), vec![nearly_gone(), nearly_edited()], nearly_broken()];
-    let cases = [asked_of_t(), nearly.concat(), vec![nearly_widened()]].concat();
+    let updates = vec![nearly_widened(), nearly_visited()];
+    let cases = [asked_of_t(), nearly.concat(), updates].concat();
     let next = AtomicUsize::new(0);
     let threads = std::thread::available_parallelism().map_or(1, usize::from);
     std::thread::scope(|scope| {
