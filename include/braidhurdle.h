@@ -142,7 +142,8 @@ extern "C" {
  * visited is how many records the rebuild of an update visits, to plan a time slot by: each record of the base with no dropped
  * member of a struct or of the root above it, and each added record. So a dropped member counts, and what stands inside it does
  * not. An element, key or value that is dropped stays, and is no reason to leave out what stands inside it. In all it is at most
- * the records of the base and those added, so at most 2,048. From version 9 on: before, last_id was the last number. */
+ * the records of the base and those added; and at most 1,088, since an answer has at most 1,024 records and a request at most 64
+ * deletions. From version 9 on: before, last_id was the last number. */
 struct braidhurdle_changed {
     uint32_t refusal, list, place;
     uint32_t records, names;

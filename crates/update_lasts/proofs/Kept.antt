@@ -106,5 +106,5 @@ module _ {A : Type 0} (f : Contract A) (reads : Reads f) where
         few = λ z e.
             let o = accepted-as s c h z e in
             let b = visits-few-stored s (c .lent) (o .0) (o .1) in
-            rw (o .3) (b .stored-and-added, b .at-most);
+            rw (o .3) (b .stored-and-added, b .within-limits);
       }

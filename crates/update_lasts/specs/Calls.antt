@@ -96,8 +96,8 @@ pub record LastingCalls {A : Type 0} (f : Contract A) (identifiers : List ℕ) (
 
 -- ---- 02, 7/13
 
--- What an accepted call says that it visited: at most the records that are stored and those that are added, so at most
--- 2,048.
+-- What an accepted call says that it visited: at most the records that are stored and those that are added; and, as an
+-- answer has at most 1,024 and a request at most 64 deletions, at most 1,088.
 pub record VisitsFew {A : Type 0} (f : Contract A) (s : Stored) (c : Call A) : Type 0 where
   pub few : (z : Sizes) → f .sizes (c .answer) ≡ some z
-      → (z .visited ≤ slots (s .records) + slots (c .lent .added-records)) × (z .visited ≤ 2048)
+      → (z .visited ≤ slots (s .records) + slots (c .lent .added-records)) × (z .visited ≤ 1088)

@@ -54,7 +54,8 @@ pub struct Updated<T = Tree> {
     /// was with no dropped member of a struct or of the root above it, and each added record. So a
     /// dropped member counts, and what stands inside it does not. An element, key or value that is
     /// dropped stays, and is no reason to leave out what stands inside it. At most the records of
-    /// the tree as it was and those added, so at most 2,048.
+    /// the tree as it was and those added; and at most 1,088, since an answer has at most 1,024
+    /// records and a request at most 64 deletions.
     pub visited: u32,
 }
 
