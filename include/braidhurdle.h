@@ -53,7 +53,7 @@
 #include <stdint.h>
 
 /* The version of this boundary. It changes with any name, argument, result or size here, and with a call answered otherwise. */
-#define BRAIDHURDLE_VERSION 8
+#define BRAIDHURDLE_VERSION 9
 /* The least output buffers, in bytes. */
 #define BRAIDHURDLE_RECORD_ROOM 24576
 #define BRAIDHURDLE_NAME_ROOM 32768
@@ -136,11 +136,19 @@ extern "C" {
 #endif
 
 /* What update, prune and renumber answer. refusal 0: accepted; then the first `records` * 24 bytes of out_records and the first
- * `names` bytes of out_names are the tree. last_id is 0 but for an accepted update. On a refusal the last three are 0. */
+ * `names` bytes of out_names are the tree. last_id and visited are 0 but for an accepted update. On a refusal the last four are
+ * 0.
+ *
+ * visited is how many records the rebuild of an update visits, to plan a time slot by: each record of the base with no dropped
+ * member of a struct or of the root above it, and each added record. So a dropped member counts, and what stands inside it does
+ * not. An element, key or value that is dropped stays, and is no reason to leave out what stands inside it. In all it is at most
+ * the records of the base and those added; and at most 1,088, since an answer has at most 1,024 records and a request at most 64
+ * deletions. From version 9 on: before, last_id was the last number. */
 struct braidhurdle_changed {
     uint32_t refusal, list, place;
     uint32_t records, names;
     int32_t last_id;
+    uint32_t visited;
 };
 
 /* What a look-up answers. found is 0 or 1. Where nothing is found, or on a refusal, id and slot are 0. */
@@ -165,9 +173,9 @@ struct braidhurdle_name {
     uint32_t offset, length;
 };
 
-/* Answers 8, the version of this boundary, which its name has too: an archive of another version has another name here. A program
+/* Answers 9, the version of this boundary, which its name has too: an archive of another version has another name here. A program
  * that refers to it therefore links with no archive whose functions are declared otherwise. */
-uint32_t braidhurdle_abi_8(void);
+uint32_t braidhurdle_abi_9(void);
 
 /* Drops, adds and edits columns. Deletions and additions are path entries into request_pool; the k-th root of added_records
  * belongs to the k-th addition, its names too stand in request_pool, and ids in it are ignored. Ids are handed out from last_id +

@@ -5,8 +5,8 @@
  *     target/calls
  *
  * It prints each answer, and ends with another status than 0 if one is not what 01 says, or 02 where case is forgotten (1/13),
- * where many ids are looked up (2/13), of additions to what is dropped (3/13), of identifiers (4/13), of edits (5/13) and of
- * wider types (6/13). */
+ * where many ids are looked up (2/13), of additions to what is dropped (3/13), of identifiers (4/13), of edits (5/13), of wider
+ * types (6/13) and of the records that an update visits (7/13). */
 #include <stdio.h>
 #include <string.h>
 
@@ -76,10 +76,12 @@ static int all_untouched(void)
            untouched(identifiers, identifiers + sizeof identifiers);
 }
 
-/* Is the answer this tree, and is every byte beyond it as it was? */
-static int answered(struct braidhurdle_changed a, const uint8_t *tree, size_t bytes, const char *packed)
+/* Is the answer this tree, and is every byte beyond it as it was? Its last two numbers are 0 but for an update. */
+static int answered(struct braidhurdle_changed a, const uint8_t *tree, size_t bytes, const char *packed, int32_t last_id,
+                    uint32_t visited)
 {
-    return a.refusal == 0 && a.records * RECORD_BYTES == bytes && a.names == strlen(packed) &&
+    return a.refusal == 0 && a.records * RECORD_BYTES == bytes && a.names == strlen(packed) && a.last_id == last_id &&
+           a.visited == visited &&
            memcmp(records, tree, bytes) == 0 && untouched(records + bytes, records + sizeof records) &&
            memcmp(out_names, packed, a.names) == 0 && untouched(out_names + a.names, out_names + sizeof out_names);
 }
@@ -87,7 +89,7 @@ static int answered(struct braidhurdle_changed a, const uint8_t *tree, size_t by
 static int refused(struct braidhurdle_changed a, uint32_t number, uint32_t list, uint32_t place)
 {
     return a.refusal == number && a.list == list && a.place == place && a.records == 0 && a.names == 0 && a.last_id == 0 &&
-           all_untouched();
+           a.visited == 0 && all_untouched();
 }
 
 static int found(struct braidhurdle_found f, int32_t id, uint32_t slot)
@@ -188,8 +190,8 @@ static void updates(void)
     expected[2 * RECORD_BYTES] = 11;
     a = braidhurdle_update(T, NOTHING, 10, BRAIDHURDLE_FORMAT_2, ARRAY(drop), ARRAY(under_node), ARRAY(cost), NOTHING,
                            request_pool, 14, ROOM);
-    held("update: node.cost dropped and added again has id 11 (P4)", answered(a, expected, sizeof expected, names));
-    held("update: the last id is 11", a.last_id == 11);
+    held("update: node.cost dropped and added again has id 11, which is the last id (P4)",
+         answered(a, expected, sizeof expected, names, 11, 11));
     fresh();
     a = braidhurdle_update(T, NOTHING, 10, BRAIDHURDLE_FORMAT_2, NOTHING, ARRAY(at_root_twice), ARRAY(floor_twice), NOTHING,
                            request_pool, 14, ROOM);
@@ -210,11 +212,11 @@ static void prunings(void)
     };
     fresh();
     held("prune: 7 keeps 2, 6, 7 (P8)",
-         answered(braidhurdle_prune(T, day, sizeof day, 0, ROOM), expected, sizeof expected, "visitselementday"));
+         answered(braidhurdle_prune(T, day, sizeof day, 0, ROOM), expected, sizeof expected, "visitselementday", 0, 0));
     fresh();
     held("prune: 2 is refused with 20 at place 3 (P10)", refused(braidhurdle_prune(T, visits, sizeof visits, 0, ROOM), 20, 0, 3));
     held("prune: 2 in full mode keeps 2, 6, 7",
-         answered(braidhurdle_prune(T, visits, sizeof visits, 1, ROOM), expected, sizeof expected, "visitselementday"));
+         answered(braidhurdle_prune(T, visits, sizeof visits, 1, ROOM), expected, sizeof expected, "visitselementday", 0, 0));
 }
 
 /* A required struct of a required serial and an optional cost, and a required site. T has no column that can be an identifier:
@@ -237,12 +239,12 @@ static void renumberings(void)
 
     fresh();
     held("renumber: from 1 T's ids are as they were (P1)",
-         answered(braidhurdle_renumber(T, NOTHING, 1, ROOM, NOTHING), t, sizeof t, names));
+         answered(braidhurdle_renumber(T, NOTHING, 1, ROOM, NOTHING), t, sizeof t, names, 0, 0));
     fresh();
     memcpy(expected, t, sizeof t);
     for (slot = 0; slot < sizeof t / RECORD_BYTES; slot++) expected[slot * RECORD_BYTES] += 99;
     a = braidhurdle_renumber(T, NOTHING, 100, ROOM, NOTHING);
-    held("renumber: from 100 every id is 99 more", answered(a, expected, sizeof expected, names));
+    held("renumber: from 100 every id is 99 more", answered(a, expected, sizeof expected, names, 0, 0));
     fresh();
     a = braidhurdle_renumber(T, NOTHING, 2147483638, ROOM, NOTHING);
     held("renumber: from 2,147,483,638 is refused with 18 (P2)", refused(a, 18, 0, 0));
@@ -286,7 +288,7 @@ static void identifying(void)
                            (const uint8_t *)"node", 4, ROOM);
     held("identifiers: and of the tree that it would write", no_identifier(a, 1));
     a = braidhurdle_update(KEYED, ARRAY(both), 4, BRAIDHURDLE_FORMAT_2, NOTHING, NOTHING, NOTHING, NOTHING, NOTHING, ROOM);
-    held("identifiers: required columns below required structs are accepted", answered(a, keyed, sizeof keyed, keyed_names));
+    held("identifiers: required columns below required structs are accepted", answered(a, ARRAY(keyed), keyed_names, 4, 4));
 }
 
 /* A new name, or no longer required (02, 5/13), of columns of the tree as it was. */
@@ -311,10 +313,10 @@ static void edits(void)
     expected[3 * RECORD_BYTES + 10] = OPTIONAL;
     a = EDITED(NOTHING, NOTHING, rename_and_relax);
     held("edits: node.serial is named unit and site is optional, ids and all else as they were",
-         answered(a, expected, sizeof expected, "nodeunitcostsite") && a.last_id == 4);
+         answered(a, expected, sizeof expected, "nodeunitcostsite", 4, 4));
     fresh();
     a = EDITED(NOTHING, NOTHING, exchange);
-    held("edits: node and site exchange their names", answered(a, keyed, sizeof keyed, "siteserialcostnode"));
+    held("edits: node and site exchange their names", answered(a, keyed, sizeof keyed, "siteserialcostnode", 4, 4));
     fresh();
     a = EDITED(NOTHING, NOTHING, site_again);
     held("edits: a second site is refused with 8 at list 4, place 3",
@@ -362,7 +364,7 @@ static void widenings(void)
     set_type(expected, 2, wide_price);
     a = WIDENED(BRAIDHURDLE_FORMAT_2, ARRAY(wider));
     held("widenings: an int is long and a decimal has more digits, ids and all else as they were; the first still identifies",
-         answered(a, ARRAY(expected), keyed_names) && a.last_id == 4);
+         answered(a, ARRAY(expected), keyed_names, 4, 4));
     fresh();
     a = WIDENED(BRAIDHURDLE_FORMAT_2, ARRAY(to_timestamp));
     held("widenings: format version 2 refuses date to timestamp with 26",
@@ -380,7 +382,39 @@ static void widenings(void)
     memcpy(expected, typed, sizeof typed);
     set_type(expected, 3, BRAIDHURDLE_TYPE_TIMESTAMP);
     a = WIDENED(BRAIDHURDLE_FORMAT_3, ARRAY(to_timestamp));
-    held("widenings: format version 3 has date to timestamp", answered(a, ARRAY(expected), keyed_names));
+    held("widenings: format version 3 has date to timestamp", answered(a, ARRAY(expected), keyed_names, 4, 4));
+}
+
+static int visited(struct braidhurdle_changed a, uint32_t left, uint32_t count)
+{
+    return a.refusal == BRAIDHURDLE_ACCEPTED && a.records == left && a.visited == count;
+}
+
+/* How many records an update of T, which has 10, visits (02, 7/13), and how many it leaves. */
+static void visits(void)
+{
+    /* node at 0, node.cost too, visits at 9, visits.element and visits.element.day too */
+    static const char request_names[] = "node.costvisits.element.day";
+    const uint8_t node[] = {PATH(0, 4), PATH(0, 9), PATH(0, 4)}, list[] = {PATH(9, 6), PATH(9, 14)};
+    const uint8_t element[] = {PATH(9, 14)}, member[] = {PATH(9, 14), PATH(9, 18)}, at_root[] = {ROOT};
+    const uint8_t added[] = {
+        RECORD(0, 5, 4, STRUCT, OPTIONAL, 2),
+        RECORD(0, 0, 4, PRIMITIVE, OPTIONAL, 0),
+        RECORD(0, 5, 4, PRIMITIVE, OPTIONAL, 0),
+    };
+
+#define VISITED(deletions, additions, records) \
+    braidhurdle_update(T, NOTHING, 10, BRAIDHURDLE_FORMAT_2, deletions, additions, records, NOTHING, \
+                       (const uint8_t *)request_names, sizeof request_names - 1, ROOM)
+    held("visited: a dropped struct once, though it be dropped twice, and nothing inside it",
+         visited(VISITED(ARRAY(node), NOTHING, NOTHING), 7, 8));
+    held("visited: so too a dropped list", visited(VISITED(ARRAY(list), NOTHING, NOTHING), 7, 8));
+    held("visited: an element that is dropped stays, and all inside it is visited",
+         visited(VISITED(ARRAY(element), NOTHING, NOTHING), 10, 10));
+    held("visited: a member that is dropped inside it goes, and is visited",
+         visited(VISITED(ARRAY(member), NOTHING, NOTHING), 9, 10));
+    held("visited: each added record", visited(VISITED(NOTHING, ARRAY(at_root), ARRAY(added)), 13, 13));
+    held("visited: both in one update", visited(VISITED(ARRAY(node), ARRAY(at_root), ARRAY(added)), 10, 11));
 }
 
 /* A list of length 0 may be null; so may a buffer, which is then below its size. */
@@ -390,13 +424,14 @@ static void nulls(void)
 
     fresh();
     a = braidhurdle_update(NOTHING, NOTHING, NOTHING, 10, BRAIDHURDLE_FORMAT_2, NOTHING, NOTHING, NOTHING, NOTHING, NOTHING, ROOM);
-    held("null: an update of nothing by nothing gives nothing", answered(a, t, 0, "") && a.last_id == 10);
+    held("null: an update of nothing by nothing gives nothing", answered(a, t, 0, "", 10, 0));
     a = braidhurdle_update(T, NOTHING, 10, BRAIDHURDLE_FORMAT_2, NOTHING, NOTHING, NOTHING, NOTHING, NOTHING, ROOM);
-    held("null: T updated by nothing is T", answered(a, t, sizeof t, names) && a.last_id == 10);
+    held("null: T updated by nothing is T", answered(a, t, sizeof t, names, 10, 10));
     fresh();
-    held("null: nothing pruned", answered(braidhurdle_prune(NOTHING, NOTHING, NOTHING, 1, ROOM), t, 0, ""));
-    held("null: T pruned to nothing (P13)", answered(braidhurdle_prune(T, NOTHING, 0, ROOM), t, 0, ""));
-    held("null: nothing renumbered", answered(braidhurdle_renumber(NOTHING, NOTHING, NOTHING, 1, ROOM, NOTHING), t, 0, ""));
+    held("null: nothing pruned", answered(braidhurdle_prune(NOTHING, NOTHING, NOTHING, 1, ROOM), t, 0, "", 0, 0));
+    held("null: T pruned to nothing (P13)", answered(braidhurdle_prune(T, NOTHING, 0, ROOM), t, 0, "", 0, 0));
+    a = braidhurdle_renumber(NOTHING, NOTHING, NOTHING, 1, ROOM, NOTHING);
+    held("null: nothing renumbered", answered(a, t, 0, "", 0, 0));
     held("null: no name", nothing(braidhurdle_find_name(T, NOTHING)));
     held("null: no column of that name", nothing(braidhurdle_find_name(NOTHING, NOTHING, pool, 4)));
     held("null: no name in any case", nothing(braidhurdle_find_folded(T, NOTHING)));
@@ -414,7 +449,7 @@ static void nulls(void)
 
 int main(void)
 {
-    held("abi_8: the version is the header's", braidhurdle_abi_8() == BRAIDHURDLE_VERSION);
+    held("abi_9: the version is the header's", braidhurdle_abi_9() == BRAIDHURDLE_VERSION);
     look_ups();
     look_ups_without_case();
     look_ups_of_many_ids();
@@ -425,6 +460,7 @@ int main(void)
     identifying();
     edits();
     widenings();
+    visits();
     nulls();
     return failed;
 }

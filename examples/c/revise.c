@@ -239,6 +239,8 @@ static uint32_t update(const struct tree *from, const struct request *q, struct 
     to->records_len = (size_t)a.records * RECORD_BYTES;
     to->names_len = a.names;
     to->last_id = a.last_id;
+    /* by these a time slot is planned */
+    printf("visited %u records in the rebuild\n", (unsigned)a.visited);
     return BRAIDHURDLE_ACCEPTED;
 }
 

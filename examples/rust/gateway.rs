@@ -23,6 +23,8 @@ fn main() -> Result<(), Box<dyn Error>> {
         .widen("visits.day", Type::Timestamp)?;
     let updated = tree.update(&request)?;
     print("after the update", &updated.tree)?;
+    // The time of a rebuild grows with these: a time slot is planned by them.
+    println!("visited {} records in the rebuild", updated.visited);
 
     // The next update needs the tree and its last id. What was stored needs no check first.
     let (tree, last_id) = stored_and_read(updated)?;

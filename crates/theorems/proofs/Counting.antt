@@ -1,15 +1,16 @@
 -- Numbers in a row: what stands in `range`, and how often.
 use Prim.Native.Nat.{ℕ, zero, suc, _+_, _<_, _≤_}
-use mathlib.Core.Path.{_≡_, refl, ap}
+use mathlib.Core.Path.{_≡_, refl, sym, ap}
 use mathlib.Core.Logic.{inl, inr}
-use mathlib.Core.Bool.{Bool, true, false, _||_, cond}
+use mathlib.Core.Bool.{Bool, true, false, _||_, cond, true≢false}
 use mathlib.Core.Option.{none}
 use mathlib.Core.List.{List, [], _∷_, _++_}
 use native.Mathlib.Omega.{arith}
 use native.Mathlib.Nat.{suc-add, add-suc, zero-add, add-zero}
 use lib.Dec.{eqb, leb}
+use lib.ListN.{length}
 use borrow.Author.Tests.{eq-eqb, eqb-true, eqb-false, leb-true, leb-false}
-use Rattle.paper.specs.Answer.{any, repeated}
+use Rattle.paper.specs.Answer.{any, repeated, among}
 use Rattle.laws.specs.Members.{_∈_}
 use Rattle.laws.proofs.Basics.{Distinct}
 use Rattle.theorems.specs.Numbers.{range, tally}
@@ -64,6 +65,35 @@ tally-distinct i (x ∷ s) d = go (eqb i x) refl (tally-distinct i s (d .1))
     go : (b : Bool) → eqb i x ≡ b → tally i s ≤ 1 → cond b 1 0 + tally i s ≤ 1
     go true e l = let z = tally-out i s (rw (← (eqb-true i x e)) at (d .0)) in omega arith
     go false e l = omega arith
+
+-- How often the numbers of one list stand in another, all together: where nothing stands there twice, at most as often
+-- as there are numbers.
+abbrev pub tallies : (asked s : List ℕ) → ℕ
+tallies [] s = 0
+tallies (i ∷ asked) s = tally i s + tallies asked s
+
+pub tallies-append : (asked s t : List ℕ) → tallies asked (s ++ t) ≡ tallies asked s + tallies asked t
+tallies-append [] s t = refl
+tallies-append (i ∷ asked) s t =
+    let a = tally-append i s t in
+    let r = tallies-append asked s t in
+    omega arith
+
+pub tallies-among : (asked : List ℕ) (x : ℕ) → among x asked ≡ true → 1 ≤ tallies asked (x ∷ [])
+tallies-among [] x e = absurd (true≢false (sym e))
+tallies-among (i ∷ asked) x e = go (eqb x i) refl e (tallies-among asked x)
+  where
+    go : (b : Bool) → eqb x i ≡ b → (b || among x asked) ≡ true → (among x asked ≡ true → 1 ≤ tallies asked (x ∷ []))
+        → 1 ≤ tallies (i ∷ asked) (x ∷ [])
+    go true q h r = rw (eq-eqb i x (sym (eqb-true x i q))) (omega arith)
+    go false q h r = let l = r h in omega arith
+
+pub tallies-distinct : (asked s : List ℕ) → Distinct s → tallies asked s ≤ length asked
+tallies-distinct [] s d = omega arith
+tallies-distinct (i ∷ asked) s d =
+    let a = tally-distinct i s d in
+    let r = tallies-distinct asked s d in
+    omega arith
 
 -- Each number of a range stands in it once, and no other does.
 pub record Once (i c n : ℕ) : Type 0 where

@@ -33,14 +33,17 @@ ids-few most s p i e = both (sized s p) (whole 4 most i) e .1
 
 sized-trees : (s : Stored) (q : Lent) → sized-update s q ≡ true
     → (sized (s .records) (s .pool) ≡ true) × (sized (q .added-records) (q .request-pool) ≡ true)
-    × (whole 4 64 (q .identifiers) ≡ true)
+    × (whole 4 64 (q .identifiers) ≡ true) × (whole 8 64 (q .deletions) ≡ true)
 unfolding sized-update
 sized-trees s q e =
-    let entries = (whole 8 64 (q .deletions) && whole 8 64 (q .additions)) && whole 16 64 (q .edits) in
-    let o = both (sized-ids 64 (s .records) (s .pool) (q .identifiers)) (entries && sized _ _) e in (
+    let paths = whole 8 64 (q .deletions) && whole 8 64 (q .additions) in
+    let entries = paths && whole 16 64 (q .edits) in
+    let o = both (sized-ids 64 (s .records) (s .pool) (q .identifiers)) (entries && sized _ _) e in
+    let l = both entries (sized _ _) (o .1) in (
       ids-sized 64 _ _ (q .identifiers) (o .0),
-      both entries (sized _ _) (o .1) .1,
+      l .1,
       ids-few 64 (s .records) (s .pool) (q .identifiers) (o .0),
+      both (whole 8 64 (q .deletions)) (whole 8 64 (q .additions)) (both paths (whole 16 64 (q .edits)) (l .0) .0) .0,
     )
 
 -- ---- a tree that was read
@@ -112,6 +115,7 @@ pub record OpenedUpdate (s : Stored) (q : Lent) (r : Result) : Type 0 where
   pub tree : Forest Field
   pub base : Base (s .records) (s .pool) tree
   pub few : whole 4 64 (q .identifiers) ≡ true
+  pub few-deletions : whole 8 64 (q .deletions) ≡ true
   pub new : Forest Field
   pub new-sizes : sized (q .added-records) (q .request-pool) ≡ true
   pub new-decodes : decode 1 (q .added-records) (q .request-pool) ≡ ok new
@@ -138,6 +142,7 @@ open-update s q r e =
       tree = t;
       base = record { sizes = z .0; decodes = e₃; sound-tree = sound-without 0 t (id-list (q .identifiers)) e₉ };
       few = z .2;
+      few-deletions = z .3;
       new = n;
       new-sizes = z .1;
       new-decodes = e₄;

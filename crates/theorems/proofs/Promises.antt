@@ -6,6 +6,7 @@ use mathlib.Core.Bool.{Bool, true}
 use mathlib.Core.List.{List, [], _∷_, map}
 use mathlib.Core.Option.{Option, some}
 use lib.IntN.{pos, negsuc}
+use lib.ListN.{length}
 use Rattle.paper.specs.Answer.{Answer, ok, refused}
 use Rattle.paper.specs.Forest.{Forest, size}
 use Rattle.paper.specs.Field.{Field}
@@ -64,8 +65,8 @@ use Rattle.theorems.proofs.Passing.{update-passes, renumber-passes}
 use Rattle.theorems.proofs.Standing as Standing
 use Rattle.theorems.proofs.Standing.{additions-stand, consumed-added, gone-left-out}
 use Rattle.theorems.proofs.Visits as Visits
-use Rattle.theorems.proofs.Visits.{visits-answer, visits-added, visits-all, of-visited, few-stored, all-stored}
-use Rattle.theorems.proofs.Visits.{none-visited}
+use Rattle.theorems.proofs.Visits.{visits-answer, visits-added, visits-deletions, visits-all, of-visited}
+use Rattle.theorems.proofs.Visits.{few-stored, all-stored, none-visited}
 use Rattle.theorems.proofs.Carried.{stays-as-set}
 use Rattle.theorems.proofs.Renaming.{renames-found}
 use Rattle.theorems.proofs.Before.{as-before, as-before-stored}
@@ -102,7 +103,7 @@ pub worked-examples : map (λ e. answer (e .asked)) examples ≡ map (λ e. e .g
 worked-examples = all-hold
 
 -- Rules that P1 to P13 don't show, each refusal, and the order of any two that can meet: one list, and one claim over it. Beside
--- it the six numbers, the bytes in the buffers, and the lister's text.
+-- it the seven numbers, the bytes in the buffers, and the lister's text.
 pub pinned-rules : Held
 pinned-rules = pins
 
@@ -319,7 +320,13 @@ pub visits-all-added-stored : (stored : Stored) (lent : Lent) (result : Result) 
 visits-all-added-stored stored lent result bytes added accepted =
     of-visited stored lent result bytes added accepted ReachedAndAdded visits-all-added
 
--- They are at most as many as the base has and the request adds; over bytes at most 2,048.
+-- They are at most the records of the answer, and one for each deletion;
+pub visits-answer-and-deletions : (schema : Schema) (request : Request) (updated : Schema)
+    → update schema request ≡ ok updated
+    → visited schema request ≤ size (updated .tree) + length (request .deletions)
+visits-answer-and-deletions = visits-deletions
+
+-- and at most as many as the base has and the request adds. Over bytes both, so at most 2,048, and at most 1,088.
 pub visits-few : (schema : Schema) (request : Request)
     → visited schema request ≤ size (schema .tree) + size (request .added)
 visits-few = Visits.visits-few

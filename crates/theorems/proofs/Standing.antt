@@ -13,13 +13,13 @@ use lib.ListN.{length}
 use Rattle.paper.specs.Answer.{ok}
 use Rattle.paper.specs.Forest.{Forest, empty, node, size, _then_}
 use Rattle.paper.specs.Field.{Field, id-of, kind-of, is-struct}
-use Rattle.paper.specs.Sound.{ids}
+use Rattle.paper.specs.Sound.{ids, within}
 use Rattle.paper.specs.Gone.{dropped-member, gone, gone-columns}
 use Rattle.paper.specs.Edits.{edited-tree}
 use Rattle.paper.specs.Update.{Request, Schema, Plan, planned}
 use Rattle.paper.specs.Rebuild.{Addition, same-parent, arriving, rebuilt, added, carried-out, update}
 use Rattle.laws.specs.Members.{_∈_}
-use Rattle.laws.proofs.Basics.{unbind, ok-is, in-left, in-right, in-append, Distinct, eqb-self}
+use Rattle.laws.proofs.Basics.{unbind, ok-is, passed, in-left, in-right, in-append, Distinct, eqb-self}
 use Rattle.laws.proofs.Own.{sound-distinct}
 use Rattle.laws.proofs.Receiving.{StructIn, struct-id, gone-node, Stays, AllStay, still-stay}
 use Rattle.laws.proofs.Weighing.{sum, sum-append, loads, sum-ones, sum-rebuilt, size-rebuilt}
@@ -108,22 +108,24 @@ arrives t ds (a ∷ rest) c s (inr h) =
 
 -- ---- an accepted update
 
--- The base has no id twice, and the answer is the base, edited and rebuilt.
+-- The base has no id twice, and the answer is the base, edited and rebuilt, within the limits.
 pub record Accepted (s : Schema) (q : Request) (p : Plan) (u : Schema) : Type 0 where
   pub distinct : Distinct (ids (s .tree))
   pub tree : u .tree ≡ rebuilt id-of kind-of (p .dropped) (added s q p) none true (edited-tree (p .edits) (s .tree))
+  pub limits : within (u .tree) ≡ true
 
 pub accepted : (s : Schema) (q : Request) (p : Plan) (u : Schema) → planned s q ≡ ok p → update s q ≡ ok u
     → Accepted s q p u
 unfolding update planned carried-out
 accepted s q p u e₁ e =
-    unbind _ _ e λ p′ e₂ a. unbind _ _ a λ _ _ a₁. unbind _ _ a₁ λ _ _ a₂. unbind _ _ e₁ λ _ e₃ _.
+    unbind _ _ e λ p′ e₂ a. unbind _ _ a λ _ f a₁. unbind _ _ a₁ λ _ _ a₂. unbind _ _ e₁ λ _ e₃ _.
     let same : p′ ≡ p = ok-is (sym e₂ ∙ e₁) in
     record {
       distinct = sound-distinct 0 (s .tree) (q .identifiers) e₃;
       tree = sym (ap (λ (x : Schema). x .tree) (ok-is a₂))
           ∙ ap (λ (x : Plan). rebuilt id-of kind-of (x .dropped) (added s q x) none true (edited-tree (x .edits) (s .tree)))
           same;
+      limits = subst (λ (x : Schema). within (x .tree) ≡ true) (ok-is a₂) (passed 19 4 0 (within _) f);
     }
 
 pub additions-stand : (s : Schema) (q : Request) (p : Plan) (u : Schema) → planned s q ≡ ok p → update s q ≡ ok u

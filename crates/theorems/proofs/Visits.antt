@@ -1,24 +1,32 @@
--- How many records an accepted update visits: by the laws of what the rebuild reaches and of what arrives.
-use Prim.Native.Nat.{ℕ, _+_, _≤_}
+-- How many records an accepted update visits: by the laws of what the rebuild reaches and of what arrives. The dropped
+-- members among them are at most as many as the deletions, because an id stands once in the base.
+use Prim.Native.Nat.{ℕ, suc, _+_, _*_, _%_, _≤_}
 use mathlib.Core.Path.{_≡_, refl, sym, ap, subst, _∙_}
-use mathlib.Core.Bool.{true}
-use mathlib.Core.List.{[]}
+use mathlib.Core.Bool.{Bool, true, false, _&&_, cond}
+use mathlib.Core.List.{List, [], _∷_, _++_}
 use native.Mathlib.Omega.{arith}
-use lib.ListN.{length}
-use Rattle.paper.specs.Answer.{Answer, ok, refused, _>>=_}
-use Rattle.paper.specs.Forest.{size}
-use Rattle.paper.specs.Field.{id-of, kind-of}
+use lib.Dec.{eqb, leb}
+use lib.ListN.{length, length-append}
+use borrow.Author.Tests.{leb-true}
+use Rattle.paper.specs.Answer.{Answer, ok, refused, _>>=_, among}
+use Rattle.paper.specs.Forest.{Forest, empty, node, size, levels}
+use Rattle.paper.specs.Field.{Field, id-of, kind-of, is-struct}
+use Rattle.paper.specs.Sound.{ids, name-bytes, within}
+use Rattle.paper.specs.Gone.{dropped-member, outermost}
 use Rattle.paper.specs.Update.{Request, Schema, Plan, Placed, deleted, placed-all, planned}
 use Rattle.paper.specs.Rebuild.{arrivals, added, update}
 use Rattle.paper.specs.Visited.{reached, arrived, visited}
 use Rattle.paper.specs.Bytes.{slots, from}
-use Rattle.paper.specs.Lists.{deletion-paths, addition-paths}
+use Rattle.paper.specs.Lists.{entries, path-of, deletion-paths, addition-paths}
+use Rattle.paper.specs.Limits.{whole}
 use Rattle.paper.specs.Lent.{Stored, Lent}
 use Rattle.paper.specs.Entries.{Result, schema-in, request-in, update-entry, prune-entry, renumber-entry}
 use Rattle.paper.specs.Outcome.{changed}
 use Rattle.laws.specs.Fit.{Bytes}
 use Rattle.laws.proofs.Basics.{unbind, ok-is}
+use Rattle.laws.proofs.Runs.{length-from}
 use Rattle.laws.proofs.Preorder.{length-preorder}
+use Rattle.laws.proofs.RoundTrip.{both}
 use Rattle.laws.proofs.Fitting.{sized-slots}
 use Rattle.laws.proofs.Whole.{decode-size}
 use Rattle.laws.proofs.Receiving.{all-stay}
@@ -26,6 +34,7 @@ use Rattle.laws.proofs.Visiting.{reached-few, reached-all, arrived-all, visited
 use Rattle.theorems.specs.Stored.{schema-of, request-of, BytesLent, to-store}
 use Rattle.theorems.specs.Standing.{OfStored}
 use Rattle.theorems.specs.Visits.{AnswerAndDropped, ReachedAndAdded, FewVisited, NoneVisited}
+use Rattle.theorems.proofs.Counting.{tallies, tallies-append, tallies-among, tallies-distinct}
 use Rattle.theorems.proofs.Opened.{open-update}
 use Rattle.theorems.proofs.Storing.{of-stored}
 use Rattle.theorems.proofs.Standing.{accepted, loads-added}
@@ -62,6 +71,63 @@ visits-few s q = go (planned s q) refl
         omega arith
     go (refused n l k) e = rw e (omega arith)
 
+-- Each has an id that is dropped, so they are at most as many as such ids stand in the tree.
+outermost-met : (ds : List ℕ) (b : Bool) (t : Forest Field)
+    → length (outermost id-of kind-of ds b t) ≤ tallies ds (ids t)
+unfolding outermost ids
+outermost-met ds b empty = omega arith
+outermost-met ds b (node f m n) =
+    let own = tallies-append ds (f .id ∷ []) (ids m ++ ids n) in
+    let others = tallies-append ds (ids m) (ids n) in
+    let r = go (dropped-member b ds (f .id)) refl (outermost id-of kind-of ds (is-struct (f .kind)) m)
+    (outermost id-of kind-of ds b n) (outermost-met ds (is-struct (f .kind)) m) (outermost-met ds b n) in
+    omega arith
+  where
+    go : (d : Bool) → dropped-member b ds (f .id) ≡ d → (om on : List Field) → length om ≤ tallies ds (ids m)
+        → length on ≤ tallies ds (ids n)
+        → length (cond d (f ∷ []) om ++ on) ≤ tallies ds (f .id ∷ []) + (tallies ds (ids m) + tallies ds (ids n))
+    go true e om on hm hn =
+        let met = tallies-among ds (f .id) (both b (among (f .id) ds) e .1) in
+        omega arith
+    go false e om on hm hn = let l = length-append om on in omega arith
+
+-- A deletion drops one id.
+deleted-many : (t : Forest Field) (identifiers : List ℕ) (k : ℕ) (paths : List (List ℕ)) (ds : List ℕ)
+    → deleted t identifiers k paths ≡ ok ds → length ds ≡ length paths
+unfolding deleted
+deleted-many t i k [] ds e = ap length (sym (ok-is e))
+deleted-many t i k (path ∷ paths) ds e =
+    unbind _ _ e λ _ _ a₁. unbind _ _ a₁ λ _ _ a₂. unbind _ _ a₂ λ rest e₃ a₃.
+    ap length (sym (ok-is a₃)) ∙ ap suc (deleted-many t i (suc k) paths rest e₃)
+
+dropped-many : (s : Schema) (q : Request) (p : Plan) → planned s q ≡ ok p → length (p .dropped) ≡ length (q .deletions)
+unfolding planned
+dropped-many s q p e =
+    unbind _ _ e λ _ _ a₁. unbind _ _ a₁ λ _ _ a₂. unbind _ _ a₂ λ ds e₃ a₃. unbind _ _ a₃ λ _ _ a₄.
+    unbind _ _ a₄ λ _ _ a₅.
+    ap (λ (p : Plan). length (p .dropped)) (sym (ok-is a₅)) ∙ deleted-many _ _ _ _ ds e₃
+
+-- An id stands there once, so they are at most as many as the deletions.
+pub visits-deletions : (s : Schema) (q : Request) (u : Schema) → update s q ≡ ok u
+    → visited s q ≤ size (u .tree) + length (q .deletions)
+unfolding update
+visits-deletions s q u e =
+    unbind _ _ e λ p e₁ _.
+    let v = visits-answer s q p u e₁ e in
+    let o = outermost-met (p .dropped) true (s .tree) in
+    let l = tallies-distinct (p .dropped) (ids (s .tree)) (accepted s q p u e₁ e .distinct) in
+    let d = dropped-many s q p e₁ in
+    omega arith
+
+-- 19 lets no more through.
+answer-few : (s : Schema) (q : Request) (u : Schema) → update s q ≡ ok u → size (u .tree) ≤ 1024
+unfolding update within
+answer-few s q u e =
+    unbind _ _ e λ p e₁ _.
+    let limits = accepted s q p u e₁ e .limits in
+    leb-true (size (u .tree)) 1024
+    (both (leb (size (u .tree)) 1024) (leb (levels (u .tree)) 16 && leb (name-bytes (u .tree)) 32768) limits .0)
+
 nothing-planned : (s : Schema) (q : Request) (p : Plan) → planned s q ≡ ok p → q .deletions ≡ [] → q .additions ≡ []
     → (p .dropped ≡ []) × (p .parents ≡ [])
 unfolding planned deleted placed-all
@@ -87,6 +153,16 @@ visits-all s q u e d a =
 
 -- ---- over bytes
 
+-- 2 lets no more through.
+whole-few : (item most : ℕ) (bytes : List ℕ) → whole item most bytes ≡ true → length bytes ≤ item * most
+unfolding whole
+whole-few item most bytes e =
+    leb-true (length bytes) (item * most) (both (eqb (length bytes % item) 0) (leb (length bytes) (item * most)) e .1)
+
+deletions-many : (pool deletions : List ℕ) → length (deletion-paths pool deletions) ≡ entries 8 deletions
+unfolding deletion-paths
+deletions-many pool deletions = length-from (path-of pool deletions) 0 (entries 8 deletions)
+
 module _ (s : Stored) (q : Lent) (r : Result) (e : update-entry s q ≡ ok r) where
   answered : r .visited ≡ visited (schema-of s) (request-of q)
   answered =
@@ -102,7 +178,17 @@ module _ (s : Stored) (q : Lent) (r : Result) (e : update-entry s q ≡ ok r) wh
       let n = decode-size 1 (q .added-records) (q .request-pool) (o .new) (o .new-decodes) in
       let l = sized-slots (s .records) (s .pool) (o .base .sizes) .0 in
       let m = sized-slots (q .added-records) (q .request-pool) (o .new-sizes) .0 in
-      record { stored-and-added = omega arith; at-most = omega arith }
+      let d = visits-deletions (schema-in s (o .tree)) (request-in q (o .new)) (o .answer) (o .updates) in
+      let t = ap (λ (x : Result). size (x .tree)) (o .result) in
+      let p = deletions-many (q .request-pool) (q .deletions) in
+      let w = answer-few (schema-in s (o .tree)) (request-in q (o .new)) (o .answer) (o .updates) in
+      let x = whole-few 8 64 (q .deletions) (o .few-deletions) in
+      record {
+        stored-and-added = omega arith;
+        at-most = omega arith;
+        answer-and-deletions = omega arith;
+        within-limits = omega arith;
+      }
 
   pub all-stored : q .deletions ≡ [] → q .additions ≡ [] → r .visited ≡ slots (s .records)
   unfolding deletion-paths addition-paths from

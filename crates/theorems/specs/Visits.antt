@@ -12,6 +12,7 @@ use Rattle.paper.specs.Gone.{outermost}
 use Rattle.paper.specs.Update.{Request, Schema, Plan}
 use Rattle.paper.specs.Visited.{reached}
 use Rattle.paper.specs.Bytes.{slots}
+use Rattle.paper.specs.Lists.{entries}
 use Rattle.paper.specs.Lent.{Stored, Lent}
 use Rattle.paper.specs.Entries.{Result, prune-entry, renumber-entry}
 use Rattle.paper.specs.Outcome.{changed}
@@ -26,10 +27,13 @@ abbrev pub ReachedAndAdded : (visited : ℕ) → Schema → Request → Plan →
 ReachedAndAdded visited schema request plan updated =
     visited ≡ length (reached id-of kind-of (plan .dropped) true (schema .tree)) + size (request .added)
 
--- Over bytes: at most the records that are stored and those that are added, so at most 2,048.
+-- Over bytes: at most the records that are stored and those that are added, so at most 2,048; and at most the records of
+-- the answer and one for each deletion. By the limits on both, 1,024 (19) and 64 (2), that is at most 1,088.
 pub record FewVisited (stored : Stored) (lent : Lent) (result : Result) : Type 0 where
   pub stored-and-added : result .visited ≤ slots (stored .records) + slots (lent .added-records)
   pub at-most : result .visited ≤ 2048
+  pub answer-and-deletions : result .visited ≤ size (result .tree) + entries 8 (lent .deletions)
+  pub within-limits : result .visited ≤ 1088
 
 -- A refusal tells 0, and so do a pruning and a renumbering, accepted or not.
 pub record NoneVisited : Type 0 where

@@ -1,6 +1,6 @@
 -- What a caller stores is the paper's run: after an acceptance the front of the buffers, as long as the answer
 -- says, is the answer's bytes; after a refusal nothing changes. So demand 3 over bytes speaks of what it stores.
-use Prim.Native.Nat.{ℕ, zero, suc, _+_, _*_}
+use Prim.Native.Nat.{ℕ, zero, suc, _*_}
 use mathlib.Core.Path.{_≡_, refl, sym, ap, subst, fun-ext, _∙_}
 use mathlib.Core.List.{List, [], _∷_}
 use mathlib.Core.Option.{Option, none, some}
@@ -10,7 +10,6 @@ use lib.ListN.{length, drop, getD}
 use lib.Seq.{take-at}
 use Rattle.paper.specs.Answer.{Answer, ok, refused}
 use Rattle.paper.specs.Forest.{size}
-use Rattle.paper.specs.Bytes.{turned}
 use Rattle.paper.specs.Encode.{record-bytes, pool-bytes}
 use Rattle.paper.specs.Lent.{Stored, Lent}
 use Rattle.paper.specs.Entries.{Result, update-entry}
@@ -19,10 +18,10 @@ use Rattle.laws.proofs.Basics.{none≢some, some-is}
 use Rattle.laws.proofs.RoundTrip.{length-written}
 use Rattle.theorems.specs.One.{Told, turned-down}
 use Rattle.theorems.specs.Stored.{next-stored, run-stored, BeginsStored, LastingStored}
-use Rattle.theorems.proofs.Promises.{runs-last-stored, refusals-are-told}
+use Rattle.theorems.proofs.Promises.{runs-last-stored, refusals-are-told, visits-few-stored}
 use Rattle.record.specs.declared.Sizes.{Sizes}
 use Rattle.record.specs.Says.{changes}
-use Rattle.update_lasts.specs.Calls.{Call, Contract, of-update, of-c-update, keeps, Calls, LastingCalls}
+use Rattle.update_lasts.specs.Calls.{Call, Contract, Ensures, of-update, of-c-update, keeps, Calls, LastingCalls, VisitsFew}
 
 -- ---- what the paper's answer says
 
@@ -53,11 +52,13 @@ is-run at requests f zero = refl
 is-run at requests f (suc i) =
     f i ∙ ap (λ (s : Stored). next-stored s (update-entry s (requests i))) (is-run at requests f i)
 
--- The last id that an accepted answer says, from what the paper's accepted update consumes.
-last-said : (last n : ℕ) (a : Answer Result) (z : Sizes) → said a ≡ some z
-    → ((r : Result) → a ≡ ok r → turned (r .last) ≡ turned last + n) → turned (z .«last_id») ≡ turned last + n
-last-said last n (ok r) z h f = rw (ap (λ (x : Sizes). x .«last_id») (sym (some-is h))) (f r refl)
-last-said last n (refused x l p) z h f = absurd (none≢some h)
+-- What is said of an acceptance is the last id and the number of records visited of the paper's result.
+said-ok : (a : Answer Result) (z : Sizes) → said a ≡ some z
+    → (r : Result) × (a ≡ ok r) × (z .«last_id» ≡ r .last) × (z .visited ≡ r .visited)
+said-ok (ok r) z h =
+    let e : _ ≡ z = some-is h in
+    (r, refl, sym (ap (λ (x : Sizes). x .«last_id») e), sym (ap (λ (x : Sizes). x .visited) e))
+said-ok (refused n l p) z h = absurd (none≢some h)
 
 module _ {A : Type 0} (f : Contract A) (reads : Reads f) where
   pub keeps-next : (s : Stored) (a : Answer Result) (c : Call A) → Told a
@@ -76,6 +77,13 @@ module _ {A : Type 0} (f : Contract A) (reads : Reads f) where
       ))
   keeps-next s (refused n l p) c t h = rw (h .told, reads (refused n l p) t)
 
+  -- A caller who reads an acceptance has the paper's result.
+  accepted-as : (s : Stored) (c : Call A) → Ensures f s c → (z : Sizes) → f .sizes (c .answer) ≡ some z
+      → (r : Result) × (update-entry s (c .lent) ≡ ok r) × (z .«last_id» ≡ r .last) × (z .visited ≡ r .visited)
+  accepted-as s c h z e =
+      said-ok (update-entry s (c .lent)) z
+      (sym (ap (f .sizes) (h .told) ∙ reads _ (refusals-are-told .update _ _)) ∙ e)
+
   pub calls-last : (identifiers : List ℕ) (at : ℕ → Stored) (calls : ℕ → Call A) → BeginsStored (at 0) identifiers
       → Calls f at calls → LastingCalls f identifiers at calls
   calls-last identifiers at calls b c =
@@ -88,6 +96,15 @@ module _ {A : Type 0} (f : Contract A) (reads : Reads f) where
       record {
         lasts = l;
         last-id = λ i z e.
-            last-said (at i .last) _ (update-entry (at i) (requests i)) z
-            (sym (ap (f .sizes) (c .ensures i .told) ∙ reads _ (told i)) ∙ e) (λ r h. l .consumes i r h .last-id);
+            let o = accepted-as (at i) (calls i) (c .ensures i) z e in
+            rw (o .2) (l .consumes i (o .0) (o .1) .last-id);
+      }
+
+  pub calls-visit : (s : Stored) (c : Call A) → Ensures f s c → VisitsFew f s c
+  calls-visit s c h =
+      record {
+        few = λ z e.
+            let o = accepted-as s c h z e in
+            let b = visits-few-stored s (c .lent) (o .0) (o .1) in
+            rw (o .3) (b .stored-and-added, b .within-limits);
       }

@@ -16,8 +16,8 @@ use Rattle.theorems.proofs.Promises.{runs-edit-stored, runs-widen-stored}
 use Rattle.record.specs.declared.Sizes.{Sizes}
 use Rattle.record.specs.declared.Changed.{Changed}
 use Rattle.braidhurdle.specs.declared.ChangedNumbers.{ChangedNumbers}
-use Rattle.update_lasts.specs.Calls.{Call, Contract, of-update, of-c-update, Calls, LastingCalls}
-use Rattle.update_lasts.proofs.Kept.{update-reads, c-update-reads, calls-last}
+use Rattle.update_lasts.specs.Calls.{Call, Contract, Ensures, of-update, of-c-update, Calls, LastingCalls, VisitsFew}
+use Rattle.update_lasts.proofs.Kept.{update-reads, c-update-reads, calls-last, calls-visit}
 use Rattle.update_lasts.proofs.Going.{calls-of, calls-run, shown-accepted, refused-shown}
 
 -- Whoever calls `update` again and again and stores what it answers has demand 3 of all that was stored.
@@ -30,6 +30,11 @@ update-lasts = calls-last of-update update-reads
 pub c-update-lasts : (identifiers : List ℕ) (at : ℕ → Stored) (calls : ℕ → Call ChangedNumbers)
     → BeginsStored (at 0) identifiers → Calls of-c-update at calls → LastingCalls of-c-update identifiers at calls
 c-update-lasts = calls-last of-c-update c-update-reads
+
+-- What a call says that it visited, of either function.
+pub updates-visit-few : ((s : Stored) (c : Call Changed) → Ensures of-update s c → VisitsFew of-update s c)
+    × ((s : Stored) (c : Call ChangedNumbers) → Ensures of-c-update s c → VisitsFew of-c-update s c)
+updates-visit-few = (calls-visit of-update update-reads, calls-visit of-c-update c-update-reads)
 
 -- So the type code of a column that was stored twice only rises, whatever versions the calls between named.
 pub types-stored-rise : {A : Type 0} (f : Contract A) (identifiers : List ℕ) (at : ℕ → Stored) (calls : ℕ → Call A)

@@ -1,6 +1,6 @@
 -- Demand 3 of the functions themselves: what a caller of `update` does, call after call, and what then holds of
--- all that it stored. Nothing is known of a call but what the function's `ensures` says.
-use Prim.Native.Nat.{ℕ, suc, _+_, _*_}
+-- all that it stored; and how much a call visits. Nothing is known of a call but what the function's `ensures` says.
+use Prim.Native.Nat.{ℕ, suc, _+_, _*_, _≤_}
 use mathlib.Core.Path.{_≡_}
 use mathlib.Core.Bool.{cond}
 use mathlib.Core.List.{List, [], _∷_}
@@ -93,3 +93,11 @@ pub record LastingCalls {A : Type 0} (f : Contract A) (identifiers : List ℕ) (
   -- The last id of an accepted answer is the given one plus the number of records that were added.
   pub last-id : (i : ℕ) (z : Sizes) → f .sizes (calls i .answer) ≡ some z
       → turned (z .«last_id») ≡ turned (at i .last) + slots (calls i .lent .added-records)
+
+-- ---- 02, 7/13
+
+-- What an accepted call says that it visited: at most the records that are stored and those that are added; and, as an
+-- answer has at most 1,024 and a request at most 64 deletions, at most 1,088.
+pub record VisitsFew {A : Type 0} (f : Contract A) (s : Stored) (c : Call A) : Type 0 where
+  pub few : (z : Sizes) → f .sizes (c .answer) ≡ some z
+      → (z .visited ≤ slots (s .records) + slots (c .lent .added-records)) × (z .visited ≤ 1088)

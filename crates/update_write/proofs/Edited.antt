@@ -1,12 +1,12 @@
 -- The rebuild with its marks. Without edits there are none, and nothing is marked.
-use Prim.Native.Nat.{ℕ, _≤_, _<_}
-use mathlib.Core.Path.{_≡_, refl, sym, ap, _∙_}
+use Prim.Native.Nat.{ℕ, _≤_}
+use mathlib.Core.Path.{_≡_, refl, sym, _∙_}
 use mathlib.Core.Bool.{Bool, true, false}
 use mathlib.Core.List.{List}
 use native.Mathlib.Omega.{arith}
-use borrow.Author.Tests.{ltb-true, ltb-false, lt-ltb, le-ltb}
+use borrow.Author.Tests.{ltb-true}
 use lib.Dec.{ltb}
-use lib.ListN.{length, getD, replicate, getD-replicate}
+use lib.ListN.{length, replicate, getD-replicate}
 use Rattle.paper.specs.Forest.{Forest, empty, node, mapped}
 use Rattle.laws.proofs.Preorder.{size-mapped, siblings-mapped, levels-mapped}
 use Rattle.plan.specs.Plan.{Source}

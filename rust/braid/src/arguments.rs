@@ -342,7 +342,9 @@ fn update() -> Command {
              looked up in the tree as it was; a path may be a number, so ids have options of\n\
              their own. The last id is not the largest id present: a dropped id never returns.\n\
              A --last-id below an id of the tree or below IN.last is not taken without --force.\n\
-             Prints what became of each column, and the new last id, which OUT.last keeps.\n\n\
+             Prints what became of each column, the new last id, which OUT.last keeps, and how\n\
+             many records the rebuild visited, with which its time grows: those of IN, without\n\
+             what stands inside a dropped column, and those added.\n\n\
              Renamed, relaxed and widened are columns that were there and stay, after all\n\
              additions. A column keeps its id, and gets one new name at most: not its path, and\n\
              without a dot. In PATH=NAME both may have a = of their own: PATH is what names a\n\

@@ -270,9 +270,11 @@ fn update(given: Given, asked: changes::Asked, out: &Out, note: String) -> Resul
     let given = Given { ask: Asked::Update { asked, request }, ..given };
     let mut room = Room::boxed();
     let answer = given.tree.lent().update_in(request, &mut room);
-    let Updated { tree, last_id } = answer.map_err(|why| given.refused(why))?;
+    let Updated { tree, last_id, visited } = answer.map_err(|why| given.refused(why))?;
     let lines = Changes::of(given.tree, asked).map(|changes| changes.lines());
-    let said = format!("{note}{}last id {last_id}\n", lines.unwrap_or_default());
+    let mut said = format!("{note}{}last id {last_id}\n", lines.unwrap_or_default());
+    let noun = if visited == 1 { "record" } else { "records" };
+    said += &format!("visited {visited} {noun} in the rebuild\n");
     write(Stored { tree: tree.to_tree(), last_id: Some(last_id) }, out, said)
 }
 

@@ -1,5 +1,6 @@
 //! What the tool works out for words, beside what the library decides.
 
+use std::collections::BTreeSet;
 use std::path::Path;
 
 use braidhurdle::layout::{EDIT_BYTES, ENTRY_BYTES, ID_BYTES, RECORD_BYTES};
@@ -166,6 +167,11 @@ fn a_tree_that_is_rebuilt_for_words_is_the_librarys_own() {
                 let changes = Changes::of(&tree, asked).expect("every path finds its column");
                 let rebuilt = Tree::build(&changes.rebuilt()).expect("it fits");
                 assert_eq!(rebuilt, answer.tree.to_tree(), "case {n}");
+                // what is left, and each that was dropped with no other
+                let alone = |slot: &&usize| changes.taken_by(**slot) == Some(**slot);
+                let dropped = changes.drops.iter().filter(alone).collect::<BTreeSet<_>>().len();
+                let left = rebuilt.records.len() / RECORD_BYTES;
+                assert_eq!(answer.visited as usize, left + dropped, "case {n}");
                 same += 1;
             }
             Err(refusal) if refusal.number != 1 && refusal.list != 1 => {

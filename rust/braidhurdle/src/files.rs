@@ -148,7 +148,7 @@ impl Stored {
 }
 
 impl From<Updated> for Stored {
-    fn from(Updated { tree, last_id }: Updated) -> Stored {
+    fn from(Updated { tree, last_id, .. }: Updated) -> Stored {
         Stored { tree, last_id: Some(last_id) }
     }
 }

@@ -31,8 +31,10 @@
 //!     .rename("button", "switch")?
 //!     .widen("button", Type::Long)?
 //!     .identifiers(&[FieldId(1)]);
-//! let Updated { tree, last_id } = tree.update(&request)?;
+//! let Updated { tree, last_id, visited } = tree.update(&request)?;
 //! assert_eq!(last_id, FieldId(6));
+//! // The time of a rebuild grows with the records that it visits: here 4 old ones and 2 new ones.
+//! assert_eq!(visited, 6);
 //!
 //! // The new `day` is another column than the old one.
 //! assert_eq!(tree.find_name("visits.day")?.map(|(id, _)| id), Some(FieldId(5)));

@@ -151,7 +151,7 @@ impl Request {
     /// let column = |id, name| Field::primitive(name, Type::Int).id(FieldId(id));
     /// let tree = Tree::build(&[column(1, "a"), column(2, "b")])?;
     /// let request = Request::new(FieldId(2)).rename("a", "b")?.rename("b", "a")?;
-    /// let Updated { tree, last_id } = tree.update(&request)?;
+    /// let Updated { tree, last_id, .. } = tree.update(&request)?;
     /// assert_eq!(tree.to_string(), "1 b: int\n2 a: int\n");
     ///
     /// // All paths are looked up in the tree as it was: there is no column `c` yet.
@@ -200,7 +200,7 @@ impl Request {
     /// let price = Field::primitive("price", Type::Int).id(FieldId(1));
     /// let tree = Tree::build(&[price, Field::primitive("day", Type::Date).id(FieldId(2))])?;
     /// let request = Request::new(FieldId(2)).widen("price", Type::Long)?;
-    /// let Updated { tree, last_id } = tree.update(&request)?;
+    /// let Updated { tree, last_id, .. } = tree.update(&request)?;
     /// assert_eq!(tree.to_string(), "1 price: long\n2 day: date\n");
     ///
     /// // A date is widened by version 3 alone.

@@ -27,12 +27,36 @@ pub struct TreeRef<'a> {
 }
 
 /// What an accepted update gives.
+///
+/// ```
+/// use braidhurdle::{Field, FieldId, Request, Tree, Type, Updated};
+///
+/// let cost = Field::primitive("cost", Type::Int).id(FieldId(2));
+/// let node = Field::structure("node", [cost]).id(FieldId(1));
+/// let tree = Tree::build(&[node, Field::primitive("site", Type::Int).id(FieldId(3))])?;
+/// let floor = Field::primitive("floor", Type::Int);
+/// let request = Request::new(FieldId(3)).drop("node")?.add(floor)?;
+///
+/// let Updated { tree, last_id, visited } = tree.update(&request)?;
+/// assert_eq!(tree.to_string(), "3 site: int\n4 floor: int\n");
+/// assert_eq!(last_id, FieldId(4));
+/// // `node`, `site` and `floor`: what is inside a dropped column is not visited.
+/// assert_eq!(visited, 3);
+/// # Ok::<(), Box<dyn std::error::Error>>(())
+/// ```
 #[derive(Clone, Copy, Debug, Default, PartialEq, Eq, Hash)]
 pub struct Updated<T = Tree> {
     /// The tree after the update.
     pub tree: T,
     /// The last id that was consumed: keep it, and give it to the next request.
     pub last_id: FieldId,
+    /// The records visited in the rebuild, to plan a time slot by: each record of the tree as it
+    /// was with no dropped member of a struct or of the root above it, and each added record. So a
+    /// dropped member counts, and what stands inside it does not. An element, key or value that is
+    /// dropped stays, and is no reason to leave out what stands inside it. At most the records of
+    /// the tree as it was and those added; and at most 1,088, since an answer has at most 1,024
+    /// records and a request at most 64 deletions.
+    pub visited: u32,
 }
 
 /// What an accepted renumbering gives.
@@ -76,8 +100,9 @@ impl Tree {
     /// Refusals 2 to 19, 22 to 24 and 26.
     pub fn update(&self, request: &Request) -> Result<Updated, Refusal> {
         let mut room = Room::boxed();
-        let Updated { tree, last_id } = self.lent().update_in(request.lent(), &mut room)?;
-        Ok(Updated { tree: tree.to_tree(), last_id })
+        let Updated { tree, last_id, visited } =
+            self.lent().update_in(request.lent(), &mut room)?;
+        Ok(Updated { tree: tree.to_tree(), last_id, visited })
     }
 
     /// Keeps the chosen columns and what stands above them. Ids that the tree has not are ignored.
@@ -263,7 +288,8 @@ impl<'a> TreeRef<'a> {
             &mut room.names,
         );
         let numbers = numbers.accepted()?;
-        Ok(Updated { tree: answered(numbers, room), last_id: FieldId(numbers.last_id) })
+        let c::Changed { last_id, visited, .. } = numbers;
+        Ok(Updated { tree: answered(numbers, room), last_id: FieldId(last_id), visited })
     }
 
     /// Keeps the chosen columns; the answer stands in the room.

@@ -1,4 +1,4 @@
--- Each case of the answer has its six numbers.
+-- Each case of the answer has its seven numbers.
 -- Assumes nothing.
 use Rattle.braidhurdle.proofs.Telling.{telling}
 use borrow.Author.Needs.{needs}

@@ -174,8 +174,36 @@ fn update_drops_and_adds() {
     folder.braid("update T --drop node.cost --add cost:0 --under node --out U").answer();
     assert_eq!(ids(&folder, "U"), [1, 4, 11, 2, 6, 7, 3, 8, 9, 10]);
     let arguments = "update T --drop visits --add fault:0 --under node --add floor:0 --out V";
-    assert!(folder.braid(arguments).answer().ends_with("\nlast id 12\n"));
+    let ends = "\nlast id 12\nvisited 10 records in the rebuild\n";
+    assert!(folder.braid(arguments).answer().ends_with(ends));
     assert_eq!(ids(&folder, "V"), [1, 4, 5, 11, 3, 8, 9, 10, 12]);
+}
+
+/// T has 10 records, of which 2 stand inside node, 2 inside visits and 3 inside parts.
+#[test]
+fn update_tells_how_many_records_it_visited() {
+    let folder = Folder::with_t();
+    folder.draw("more", "1 s: struct\n  2 a: int\n");
+    folder.draw("E", "");
+    for (asked, visited) in [
+        ("T", "10 records"),
+        ("T --rename node=board --relax parts", "10 records"),
+        ("T --drop node.cost", "10 records"),
+        ("T --drop node", "8 records"),
+        ("T --drop node --drop node.cost --drop node", "8 records"),
+        ("T --drop node --drop visits --drop parts", "3 records"),
+        ("T --drop visits.element --drop parts.key --drop parts.value", "10 records"),
+        ("T --drop parts --add-tree more --under visits", "9 records"),
+        ("E", "0 records"),
+        ("E --add x:int", "1 record"),
+    ] {
+        let said = folder.braid(&format!("update {asked} --out U --force")).answer();
+        let ends = format!("visited {visited} in the rebuild");
+        assert_eq!(said.lines().last(), Some(&ends[..]), "{asked}");
+    }
+    // a refusal rebuilds nothing
+    let said = folder.braid("update T --drop node --drop node.prise --out V").refusal();
+    assert!(said.iter().all(|line| !line.contains("visited")), "{said:?}");
 }
 
 #[test]
@@ -243,14 +271,14 @@ fn negative_ids_are_arguments_like_any_other() {
     folder.braid("prune low --keep -1,-2 --out less").answer();
     assert_eq!(ids(&folder, "less"), [-5, -2, -1]);
     let said = folder.braid("update less --last-id -1 --add x:0 --out more");
-    assert_eq!(said.answer(), "added 0 x\nlast id 0\n");
+    assert_eq!(said.answer(), "added 0 x\nlast id 0\nvisited 4 records in the rebuild\n");
     let folder = Folder::with_k();
     let said = folder.braid("renumber K --from -5 --identifiers 2,4 --out low").answer();
     assert_eq!(said, "last id -2\nidentifiers -3,-4\n");
     let columns = "identifier id -3 slot 1 node.serial\nidentifier id -4 slot 3 site\n";
     assert!(folder.braid("check low --identifiers -3,-4").answer().contains(columns));
     let said = folder.braid("update low --identifiers -4,-3 --add x:0 --out more");
-    assert_eq!(said.answer(), "added -1 x\nlast id -1\n");
+    assert_eq!(said.answer(), "added -1 x\nlast id -1\nvisited 5 records in the rebuild\n");
 }
 
 #[test]

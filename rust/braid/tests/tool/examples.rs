@@ -50,7 +50,8 @@ fn running_make_gives_the_very_files_that_are_here() {
         let last = folder.last(tree).expect("it is made with its last id");
         assert!(page.contains(&format!("\n- **{tree}**, last id {}: ", last.trim())), "{tree}");
     }
-    assert!(said.contains("\nadded 18 parts.value.price\nlast id 18\n"), "{said}");
+    let added = "\nadded 18 parts.value.price\nlast id 18\nvisited 17 records in the rebuild\n";
+    assert!(said.contains(added), "{said}");
     assert!(said.contains("\nwidened 18 parts.value.price from int to long\n"), "{said}");
 }
 
@@ -59,7 +60,8 @@ fn show_shows_a_picture_an_update_look_ups_and_a_refusal() {
     let said = script("examples/show", &[]);
     assert!(said.starts_with("$ braid list examples/node-4\n1 node: struct required\n"), "{said}");
     let edited = "renamed 3 faults to failures\nrelaxed 19 node.battery\n\
-                  widened 18 parts.value.price from int to long\nlast id 25\n";
+                  widened 18 parts.value.price from int to long\nlast id 25\n\
+                  visited 22 records in the rebuild\n";
     assert!(said.contains(edited), "{said}");
     assert!(said.contains("\n  19 battery: date default\n"), "{said}");
     for price in ["int", "long"] {
@@ -77,6 +79,9 @@ fn show_shows_a_picture_an_update_look_ups_and_a_refusal() {
     assert!(said.contains("\nrefused 26 at 6 0: "), "{said}");
     assert!(said.contains("\nwidened 15 visits.element.day from date to timestamp\n"), "{said}");
     assert!(said.contains("\nrefused 25 at 0 0: "), "{said}");
+    let dropped = "\ndropped 20 alarms, and 3 columns inside it\nlast id 25\n\
+                   visited 18 records in the rebuild\n";
+    assert!(said.contains(dropped), "{said}");
     assert!(said.contains("\nidentifier id 5 slot 1 node.serial\n"), "{said}");
     assert!(said.contains("\nrefused 9 at 5 1: "), "{said}");
 }

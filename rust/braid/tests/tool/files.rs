@@ -79,9 +79,10 @@ fn force_replaces_all_files_and_leaves_no_other() {
 fn a_tree_can_be_updated_in_its_place() {
     let folder = Folder::with_t();
     let said = folder.braid("update T --add floor:0 --out T --force").answer();
-    assert_eq!(said, "added 11 floor\nlast id 11\n");
+    assert_eq!(said, "added 11 floor\nlast id 11\nvisited 11 records in the rebuild\n");
     let said = folder.braid("update T --drop floor --add floor:1 --out T --force").answer();
-    assert_eq!(said, "dropped 11 floor\nadded 12 floor\nlast id 12\n");
+    let ends = "last id 12\nvisited 12 records in the rebuild\n";
+    assert_eq!(said, format!("dropped 11 floor\nadded 12 floor\n{ends}"));
     assert_eq!(folder.files(), ["T.last", "T.names", "T.rec"]);
 }
 
@@ -115,7 +116,7 @@ fn a_link_gives_way_by_force_and_what_it_leads_to_stays() {
     let update = "update T --drop node.cost --out U";
     assert!(folder.braid(update).complaint(3).starts_with("U.rec: already there; "));
     let said = folder.braid(&format!("{update} --force")).answer();
-    let lines = "dropped 5 node.cost\nlast id 10\n\
+    let lines = "dropped 5 node.cost\nlast id 10\nvisited 10 records in the rebuild\n\
                  U.rec was a link, and what it led to is as it was\n\
                  U.names was a link, and what it led to is as it was\n";
     assert_eq!(said, lines);

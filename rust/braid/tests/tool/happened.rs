@@ -19,6 +19,7 @@ added 11 node.cost
 added 12 visits.element.fault
 added 13 floor
 last id 13
+visited 10 records in the rebuild
 ";
     assert_eq!(folder.braid(arguments).answer(), lines);
 }
@@ -29,7 +30,7 @@ fn a_key_and_a_value_stay_too() {
     let said = folder.braid("update T --drop parts.key --drop parts.value --out U").answer();
     let lines = "stays 8 parts.key: a map's key is not dropped alone; drop 3 parts\n\
                  stays 9 parts.value: a map's value is not dropped alone; drop 3 parts\n\
-                 last id 10\n";
+                 last id 10\nvisited 10 records in the rebuild\n";
     assert_eq!(said, lines);
     assert_eq!(folder.pair("U"), folder.pair("T"));
 }
@@ -42,11 +43,12 @@ fn a_column_inside_a_dropped_one_goes_with_it() {
     let lines = "dropped 7 visits.element.day, with 2 visits\n\
                  dropped 6 visits.element, with 2 visits\n\
                  dropped 2 visits, and 2 columns inside it\n\
-                 last id 10\n";
+                 last id 10\nvisited 8 records in the rebuild\n";
     assert_eq!(folder.braid(arguments).answer(), lines);
     folder.piped("make - --out A", b"1 a: struct\n  2 b: struct\n").answer();
     let said = folder.braid("update A --drop a --out B").answer();
-    assert_eq!(said, "dropped 1 a, and 1 column inside it\nlast id 2\n");
+    let lines = "dropped 1 a, and 1 column inside it\nlast id 2\nvisited 1 record in the rebuild\n";
+    assert_eq!(said, lines);
 }
 
 #[test]
@@ -55,7 +57,7 @@ fn a_tree_is_told_column_by_column() {
     folder.piped("make - --out s", b"1 s: struct\n  2 a: int\n3 t: int\n").answer();
     let said = folder.braid("update T --add-tree s --under visits --out U").answer();
     let lines = "added 11 visits.element.s\nadded 12 visits.element.s.a\n\
-                 added 13 visits.element.t\nlast id 13\n";
+                 added 13 visits.element.t\nlast id 13\nvisited 13 records in the rebuild\n";
     assert_eq!(said, lines);
 }
 
@@ -88,16 +90,20 @@ fn columns_are_dropped_by_id_too_in_the_order_given() {
     let said =
         folder.braid("update T --drop-id 7 --drop node.cost --drop-id 4,10 --out U").answer();
     let lines = "dropped 7 visits.element.day\ndropped 5 node.cost\ndropped 4 node.button\n\
-                 dropped 10 parts.value.price\nlast id 10\n";
+                 dropped 10 parts.value.price\nlast id 10\nvisited 10 records in the rebuild\n";
     assert_eq!(said, lines);
     // a path may be a number, so --drop never takes it for an id
     folder.piped("make - --out N", b"1 7: struct\n7 a: struct\n").answer();
-    assert_eq!(folder.braid("update N --drop 7 --out O").answer(), "dropped 1 7\nlast id 7\n");
-    assert_eq!(folder.braid("update N --drop-id 7 --out P").answer(), "dropped 7 a\nlast id 7\n");
+    for (by, dropped) in [("--drop 7", "1 7"), ("--drop-id 7", "7 a")] {
+        let said = folder.braid(&format!("update N {by} --out O --force")).answer();
+        let lines = format!("dropped {dropped}\nlast id 7\nvisited 2 records in the rebuild\n");
+        assert_eq!(said, lines, "{by}");
+    }
     assert_eq!(folder.braid("update N --drop-id 8 --out Q").complaint(1), "no column has id 8\n");
     folder.piped("make - --out M", b"-1 a: struct\n-2 b: struct\n").answer();
     let said = folder.braid("update M --drop-id -1,-2 --out L").answer();
-    assert_eq!(said, "dropped -1 a\ndropped -2 b\nlast id -1\n");
+    let lines = "dropped -1 a\ndropped -2 b\nlast id -1\nvisited 2 records in the rebuild\n";
+    assert_eq!(said, lines);
 }
 
 #[test]
@@ -105,7 +111,8 @@ fn a_parent_is_named_by_its_id_too() {
     let folder = Folder::with_t();
     let arguments = "update T --add a:1 --under-id 2 --required --default --add b:1 --under-id 1 \
                      --add c:1 --out U";
-    let lines = "added 11 visits.element.a\nadded 12 node.b\nadded 13 c\nlast id 13\n";
+    let lines = "added 11 visits.element.a\nadded 12 node.b\nadded 13 c\nlast id 13\n\
+                 visited 13 records in the rebuild\n";
     assert_eq!(folder.braid(arguments).answer(), lines);
     assert!(folder.braid("list U").answer().contains("11 a: boolean required default\n"));
     let said = folder.braid("update T --add a:1 --under-id 11 --out V").complaint(1);
@@ -129,6 +136,7 @@ stays 4 site: it is optional already
 stays 2 node.serial: it is optional already
 stays 4 site: it has this name already
 last id 5
+visited 5 records in the rebuild
 ";
     assert_eq!(folder.braid(arguments).answer(), lines);
     let picture = "1 board: struct required\n  2 no: string\n  5 cost: int\n\
@@ -144,10 +152,8 @@ fn a_new_name_may_be_empty_or_look_like_anything_but_a_path() {
         .answer();
     let name = r#""a b\"""#;
     let below = r#""a b\".""#;
-    assert_eq!(
-        said,
-        format!("renamed 5 node.cost to {below}\nrenamed 1 node to {name}\nlast id 10\n")
-    );
+    let renamed = format!("renamed 5 node.cost to {below}\nrenamed 1 node to {name}\n");
+    assert_eq!(said, format!("{renamed}last id 10\nvisited 10 records in the rebuild\n"));
     let picture = folder.braid("list U").answer();
     assert!(picture.starts_with(&format!("1 {name}: struct\n  4 button: primitive 0\n  5 \"\": ")));
 }
@@ -169,6 +175,7 @@ widened 10 l.element from int to long
 widened 12 m.key from int to long
 widened 13 m.value from decimal(37,0) to decimal(38,0)
 last id 14
+visited 14 records in the rebuild
 ";
     assert_eq!(folder.braid(arguments).answer(), lines);
     let picture = "\
@@ -192,12 +199,14 @@ last id 14
         for to_type in [to, code] {
             let arguments = format!("update W --format-version 3 --widen day:{to_type}");
             let said = folder.braid(&format!("{arguments} --out V --force")).answer();
-            assert_eq!(said, format!("widened 3 day from date to {to}\nlast id 14\n"));
+            let ends = "last id 14\nvisited 14 records in the rebuild\n";
+            assert_eq!(said, format!("widened 3 day from date to {to}\n{ends}"));
         }
     }
     folder.draw("N", "-3 c: int\n");
     let said = folder.braid("update N --widen-id -3:long --out M").answer();
-    assert_eq!(said, "widened -3 c from int to long\nlast id -3\n");
+    let lines = "widened -3 c from int to long\nlast id -3\nvisited 1 record in the rebuild\n";
+    assert_eq!(said, lines);
     let said = folder.braid("update N --widen-id 3:long --out L").complaint(1);
     assert_eq!(said, "no column has id 3\n");
 }
@@ -220,7 +229,8 @@ fn a_version_is_named_or_is_2() {
 fn an_identifier_may_be_widened() {
     let folder = Folder::with_k();
     let update = "update K --identifiers site,node.serial --widen site:long --out U";
-    assert_eq!(folder.braid(update).answer(), "widened 4 site from int to long\nlast id 4\n");
+    let lines = "widened 4 site from int to long\nlast id 4\nvisited 4 records in the rebuild\n";
+    assert_eq!(folder.braid(update).answer(), lines);
     let said = folder.braid("check U --identifiers site").answer();
     assert!(said.contains("\nidentifier id 4 slot 3 site\n"), "{said}");
 }
@@ -232,7 +242,8 @@ fn a_rename_is_parted_where_a_column_is_named_before_it() {
     folder.draw("X", "1 a: struct\n  2 b=c: primitive 0\n3 d=: primitive 0\n4 =: primitive 0\n");
     let renamed = |edit: &str, line: &str| {
         let said = folder.braid(&format!("update X {edit} --out U --force")).answer();
-        assert_eq!(said, format!("renamed {line}\nlast id 4\n"), "{edit}");
+        let ends = "last id 4\nvisited 4 records in the rebuild\n";
+        assert_eq!(said, format!("renamed {line}\n{ends}"), "{edit}");
     };
     renamed("--rename a=x", "1 a to x");
     renamed("--rename a=b=c", "1 a to b=c");
@@ -254,7 +265,8 @@ fn a_rename_is_parted_where_a_column_is_named_before_it() {
     );
     for (id, line) in [("1=b=c", "1 a to b=c"), ("2=c=", "2 a=b to c="), ("-3=d", "-3 c to d")] {
         let said = folder.braid(&format!("update Y --rename-id {id} --out V --force")).answer();
-        assert_eq!(said, format!("renamed {line}\nlast id 2\n"));
+        let ends = "last id 2\nvisited 3 records in the rebuild\n";
+        assert_eq!(said, format!("renamed {line}\n{ends}"));
     }
     for wrong in ["--rename a", "--rename-id 1", "--rename-id a=b", "--rename-id =b"] {
         folder.braid(&format!("update Y {wrong} --out W")).complaint(3);
@@ -404,6 +416,12 @@ fn what_is_told_is_what_the_library_did() {
         );
         assert!(told(&said, "stays ").is_subset(&after), "{arguments}\n{said}");
         assert_eq!(told(&said, "added "), new, "{arguments}\n{said}");
+        // what is left, and what went by itself
+        let with_another = |line: &&str| line.contains(", with ");
+        let dropped = said.lines().filter(|line| line.starts_with("dropped "));
+        let visited = after.len() + dropped.filter(|line| !with_another(line)).count();
+        let ends = format!("\nvisited {visited} records in the rebuild\n");
+        assert!(said.ends_with(&ends), "{arguments}\n{said}");
         let last: i32 = folder.last("U").expect("it is kept").trim().parse().expect("a number");
         assert_eq!(new, (11..=last).collect(), "{arguments}\n{said}");
         let renamed = said.lines().filter_map(|line| line.strip_prefix("renamed "));

@@ -10,7 +10,8 @@ fn five_revisions_need_no_last_id() {
     folder.braid("update r2 --add b:3 --under a --out r3").answer();
     folder.braid("update r3 --drop a --add c:2 --out r4").answer();
     let said = folder.braid("update r4 --drop c --add a:4 --out r5").answer();
-    assert_eq!(said, "dropped 4 c\nadded 5 a\nlast id 5\n");
+    let lines = "dropped 4 c\nadded 5 a\nlast id 5\nvisited 2 records in the rebuild\n";
+    assert_eq!(said, lines);
     let lasts = ["r1", "r2", "r3", "r4", "r5"].map(|stem| folder.last(stem).expect("it is kept"));
     assert_eq!(lasts, ["2\n", "2\n", "3\n", "4\n", "5\n"]);
 }
@@ -39,7 +40,8 @@ fn a_last_id_that_is_said_below_an_id_of_the_tree_is_taken_by_force_alone() {
     assert_eq!(said, format!("{below}: {twice}\n"));
     let said = folder.braid(&format!("{update} --force")).answer();
     assert!(said.starts_with(&format!("by force: {below}\n")), "{said}");
-    assert!(said.ends_with("added 10 floor\nlast id 10\n"), "{said}");
+    let ends = "added 10 floor\nlast id 10\nvisited 8 records in the rebuild\n";
+    assert!(said.ends_with(ends), "{said}");
 }
 
 #[test]
@@ -52,7 +54,7 @@ fn a_last_id_that_is_kept_below_an_id_of_the_tree_is_not_taken_by_force_either()
     let update = "update T --add floor:2 --out T --force";
     assert_eq!(folder.braid(update).complaint(3), format!("{below}: {twice}\n"));
     let said = folder.braid(&format!("{update} --last-id 10")).answer();
-    assert_eq!(said, "added 11 floor\nlast id 11\n");
+    assert_eq!(said, "added 11 floor\nlast id 11\nvisited 11 records in the rebuild\n");
     folder.braid("check T").answer();
 }
 
@@ -63,7 +65,7 @@ fn a_last_id_below_the_one_that_is_kept_is_taken_by_force_alone() {
     let said = folder.braid("update T --last-id 11 --add floor:2 --out U").complaint(3);
     assert!(said.starts_with("--last-id 11 is below 12, which T.last keeps: "), "{said}");
     let said = folder.braid("update T --last-id 12 --add floor:2 --out U").answer();
-    assert_eq!(said, "added 13 floor\nlast id 13\n");
+    assert_eq!(said, "added 13 floor\nlast id 13\nvisited 11 records in the rebuild\n");
     let said = folder.braid("update T --last-id 11 --add floor:2 --out V --force").answer();
     assert!(said.starts_with("by force: --last-id 11 is below 12, which T.last keeps\n"), "{said}");
 }
@@ -117,10 +119,12 @@ fn renumbering_begins_anew() {
     folder.put_last("T", "5000\n");
     folder.braid("renumber T --from 1 --out U").answer();
     assert_eq!(folder.last("U").as_deref(), Some("10\n"));
-    assert_eq!(folder.braid("update U --add x:2 --out V").answer(), "added 11 x\nlast id 11\n");
+    let said = folder.braid("update U --add x:2 --out V").answer();
+    assert_eq!(said, "added 11 x\nlast id 11\nvisited 11 records in the rebuild\n");
     folder.put("E", b"", b"");
     assert_eq!(folder.braid("renumber E --from 100 --out F").answer(), "last id 99\n");
-    assert_eq!(folder.braid("update F --add x:2 --out G").answer(), "added 100 x\nlast id 100\n");
+    let said = folder.braid("update F --add x:2 --out G").answer();
+    assert_eq!(said, "added 100 x\nlast id 100\nvisited 1 record in the rebuild\n");
     let least = format!("renumber E --from {} --out H", i32::MIN);
     assert_eq!(folder.braid(&least).answer(), format!("last id {}\n", i32::MIN));
 }

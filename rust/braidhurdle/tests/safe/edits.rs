@@ -11,7 +11,7 @@ fn request() -> Request {
 
 /// The picture of T after a request.
 fn picture(request: Result<Request, Overlong>) -> Result<String, Box<dyn std::error::Error>> {
-    let Updated { tree, last_id } = t().update(&request?)?;
+    let Updated { tree, last_id, .. } = t().update(&request?)?;
     assert_eq!(last_id, FieldId(10), "no edit hands out an id");
     Ok(tree.to_string())
 }
@@ -94,7 +94,7 @@ fn edits_stand_beside_deletions_additions_and_identifiers() -> Tested {
         .add_under("node", Field::primitive("cost", 3))?
         .rename("node", "board")?
         .relax("site")?;
-    let Updated { tree, last_id } = keyed().update(&request)?;
+    let Updated { tree, last_id, .. } = keyed().update(&request)?;
     assert_eq!(
         tree.to_string(),
         "1 board: struct required\n  2 serial: primitive 0 required\n  5 cost: long\n\

@@ -16,5 +16,6 @@ mod t;
 mod tables;
 mod text;
 mod types;
+mod visited;
 mod widenings;
 mod worked;

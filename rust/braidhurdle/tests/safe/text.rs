@@ -45,7 +45,8 @@ fn safe(case: &Case, room: &mut Room) -> Option<Result<Answer, Refusal>> {
             };
             tree.update_in(request, room).map(|updated| {
                 let (records, names) = bytes(updated.tree);
-                Answer::Updated { records, names, last_id: updated.last_id.0 }
+                let (last_id, visited) = (updated.last_id.0, updated.visited);
+                Answer::Updated { records, names, last_id, visited }
             })
         }
         Ask::Prune { selected, full, .. } => {

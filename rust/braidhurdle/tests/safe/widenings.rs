@@ -75,7 +75,7 @@ fn a_widening_gives_a_new_type_in_any_role_and_changes_nothing_else() -> Tested 
         let request = request().version(Version::V3).widen(path, to)?;
         let mut expected = roots();
         set(&mut expected, FieldId(id), to);
-        let Updated { tree, last_id } = typed().update(&request)?;
+        let Updated { tree, last_id, .. } = typed().update(&request)?;
         assert_eq!(tree, Tree::build(&expected)?, "{path} to {to}");
         assert_eq!(last_id, FieldId(20), "no widening hands out an id");
     }
@@ -194,7 +194,7 @@ fn widenings_stand_beside_deletions_and_additions() -> Tested {
         .add_under("node", Field::primitive("heat", Type::Double))?
         .widen("days.element", Type::TimestampNs)?
         .widen("node.price", decimal(18, 2))?;
-    let Updated { tree, last_id } = typed().update(&request)?;
+    let Updated { tree, last_id, .. } = typed().update(&request)?;
     assert_eq!(
         tree.to_string(),
         "10 serial: int required default attribute 1\n1 node: struct required\n  \

@@ -46,7 +46,7 @@ fn p3_short_names_leave_out_elements_and_values() {
 #[test]
 fn p4_a_dropped_name_is_added_again_under_a_new_id() -> Result<(), Box<dyn std::error::Error>> {
     let request = request().drop("node.cost")?.add_under("node", new("cost"))?;
-    let Updated { tree, last_id } = t().update(&request)?;
+    let Updated { tree, last_id, .. } = t().update(&request)?;
     assert_eq!(ids(&tree), [1, 4, 11, 2, 6, 7, 3, 8, 9, 10]);
     assert_eq!(last_id, FieldId(11));
     Ok(())
