@@ -98,7 +98,7 @@ fn the_named_cases_hold_every_refusal_and_all_worked_examples() {
     }
     // 25 and 36 are points that no input can show; 36 has a case all the same
     let of_02 = (145..=148).chain(161..=164).chain(168..=171).chain(181..=189).chain(197..=203);
-    let of_02 = of_02.chain(209..=211);
+    let of_02 = of_02.chain(209..=213);
     for reading in (1..=67).filter(|n| *n != 25).chain(of_02) {
         let start = format!("reading {reading}:");
         assert!(titles.iter().any(|title| title.starts_with(&start)), "{start}");

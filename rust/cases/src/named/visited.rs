@@ -66,7 +66,7 @@ fn dropped_members(all: &mut Cases) {
     all.put("7/13: a dropped struct without members", update(&empty, 2, &["a"], &[]), {
         visited(&[2], 2)
     });
-    let title = "7/13: a dropped struct, list or map counts, its inside does not";
+    let title = "reading 210: a dropped struct, list or map counts, its inside does not";
     all.put(title, update(&t, 10, &["node"], &[]), without(&[1, 4, 5], 8));
     all.put(title, update(&t, 10, &["visits"], &[]), without(&[2, 6, 7], 8));
     all.put(title, update(&t, 10, &["parts"], &[]), without(&[3, 8, 9, 10], 7));
@@ -85,7 +85,7 @@ fn dropped_members(all: &mut Cases) {
 
 fn dropped_within_dropped(all: &mut Cases) {
     let base = [s(1, "a", vec![s(2, "b", vec![p(3, "c")]), p(4, "d")]), p(5, "e")];
-    let title = "7/13: a dropped member inside a dropped one does not count";
+    let title = "reading 211: a dropped member inside a dropped one does not count";
     for drop in [&["a", "a.b"][..], &["a.b", "a"], &["a", "a.b.c"], &["a.d", "a.b.c", "a.b", "a"]] {
         all.put(title, update(&base, 5, drop, &[]), visited(&[5], 2));
     }
@@ -98,7 +98,7 @@ fn dropped_within_dropped(all: &mut Cases) {
 fn dropped_twice(all: &mut Cases) {
     let t = the_tree();
     let title = "reading 211: a column deleted twice is dropped once";
-    all.put(title, update(&t, 10, &["node", "node"], &[]), without(&[1, 4, 5], 8));
+    all.put(title, update(&t, 10, &["node", "node.cost", "node"], &[]), without(&[1, 4, 5], 8));
     let case = update(&t, 10, &["visits.day", "visits.element.day"], &[]);
     all.put(title, case, without(&[7], 10));
     let small = [s(1, "a", vec![p(2, "b")]), p(3, "c")];
@@ -175,7 +175,7 @@ fn added(all: &mut Cases) {
     let one = |path: Option<&str>| update(&t, 10, &[], &[(path, p(0, "x"))]);
     let with = |at: usize| [&T[..at], &[11], &T[at..]].concat();
     all.put("7/13: an addition at the root", one(None), visited(&with(10), 11));
-    all.put("7/13: an addition to a struct", one(Some("node")), visited(&with(3), 11));
+    all.put("reading 209: an addition to a struct", one(Some("node")), visited(&with(3), 11));
     let title = "7/13: an addition to a list's element";
     all.put(title, one(Some("visits")), visited(&with(6), 11));
     all.put("7/13: an addition to a map's value", one(Some("parts")), visited(&with(10), 11));
@@ -240,10 +240,10 @@ fn edits(all: &mut Cases) {
     let mut t = the_tree();
     t[0].inside[1].type_code = judge::INT;
     let changes = [rename("node", "box"), relax("parts.value"), widen("node.cost", judge::LONG)];
-    let title = "7/13: edits are not counted";
-    let case = edited(update(&t, 10, &[], &[]), &changes);
-    all.put(title, by_version(3, case.clone()), visited(&T, 10));
-    all.put(title, case, visited(&T, 10));
+    let title = "reading 213: edits are not counted";
+    for some in [&changes[..1], &changes] {
+        all.put(title, edited(update(&t, 10, &[], &[]), some), visited(&T, 10));
+    }
     let case = edited(update(&t, 10, &["visits"], &[(Some("node"), p(0, "x"))]), &changes);
     all.put(title, case, visited(&[1, 4, 5, 11, 3, 8, 9, 10], 9));
     let case = edited(update(&t, 10, &["node"], &[]), &[rename("visits", "node")]);
@@ -253,7 +253,7 @@ fn edits(all: &mut Cases) {
 /// A refusal reports 0, wherever it comes.
 fn refusals(all: &mut Cases) {
     let base = [s(1, "a", vec![p(2, "b")]), p(3, "c")];
-    let title = "7/13: a refusal reports 0";
+    let title = "reading 212: a refusal reports 0";
     let dropping = |added: &[(Option<&str>, Node)]| update(&base, 3, &["a"], added);
     let small = but(dropping(&[]), |case| {
         let Ask::Update { out_names, .. } = &mut case.ask else { unreachable!("an update") };
