@@ -104,7 +104,7 @@ impl Ask {
 #[derive(Clone, Debug, PartialEq, Eq)]
 pub enum Answer {
     Refused(Refusal),
-    Updated { records: Vec<u8>, names: Vec<u8>, last_id: i32 },
+    Updated { records: Vec<u8>, names: Vec<u8>, last_id: i32, visited: u32 },
     Pruned { records: Vec<u8>, names: Vec<u8> },
     Renumbered { records: Vec<u8>, names: Vec<u8>, identifiers: Vec<u8> },
     Found { id: i32, slot: u32 },
@@ -300,7 +300,9 @@ pub fn shown(case: &Case, o: &Outcome) -> Answer {
             let records = o.out_records[..c.records as usize * judge::RECORD_BYTES].to_vec();
             let names = o.out_names[..c.names as usize].to_vec();
             match &case.ask {
-                Ask::Update { .. } => Answer::Updated { records, names, last_id: c.last_id },
+                Ask::Update { .. } => {
+                    Answer::Updated { records, names, last_id: c.last_id, visited: c.visited }
+                }
                 Ask::Renumber { identifiers, .. } => {
                     let identifiers = o.out_identifiers[..identifiers.len()].to_vec();
                     Answer::Renumbered { records, names, identifiers }

@@ -196,13 +196,14 @@ fn records(random: &mut Random, operation: &str, past: usize) -> Case {
     update_by(packed(&[]), &[], 5, request(&[], &[Addition { path: None, column }]))
 }
 
-/// A rebuilt tree at a limit or one past it: records, levels or name sum (19).
+/// A rebuilt tree at a limit or one past it: records, levels or name sum (19); or records with as
+/// many visited as can be.
 fn rebuilt(random: &mut Random, past: usize) -> Case {
     let fresh = |path: Option<&str>, name: &str| Addition {
         path: path.map(|p| p.as_bytes().to_vec()),
         column: prim(0, name),
     };
-    match random.below(3) {
+    match random.below(4) {
         0 => {
             let roots = sized(random, MOST_RECORDS - 1, LEVELS);
             let added: Vec<Addition> =
@@ -218,6 +219,7 @@ fn rebuilt(random: &mut Random, past: usize) -> Case {
             }
             update_by(packed(&[deep]), &[], 50, request(&[], &[fresh(Some(&path), "x")]))
         }
+        2 => most_visited(random, past),
         _ => {
             let long = |k: usize| format!("{k:0255}");
             let roots: Vec<Node> = (0..128).map(|k| prim(k, &long(k as usize))).collect();
@@ -225,4 +227,19 @@ fn rebuilt(random: &mut Random, past: usize) -> Case {
             update_by(packed(&roots), &[], 500, request(&[], &[fresh(None, &name)]))
         }
     }
+}
+
+/// A base of 1,024 records, of which 64 members are dropped, with or without an inside; what is
+/// added makes 1,024 records again, or one more.
+fn most_visited(random: &mut Random, past: usize) -> Case {
+    let inside = *random.pick(&[0, MOST_RECORDS / MOST_DELETIONS - 1]);
+    let members = || (0..inside).map(|at| prim(0, &format!("m{at}"))).collect();
+    let name = |at: usize| format!("dropped_{at}");
+    let dropped = (0..MOST_DELETIONS).map(|at| strukt(0, &name(at), members()));
+    let stay = MOST_RECORDS - MOST_DELETIONS * (1 + inside);
+    let mut base: Vec<Node> = dropped.chain(sized(random, stay, LEVELS)).collect();
+    give_ids(random, &mut base);
+    let deletions: Vec<Vec<u8>> = (0..MOST_DELETIONS).map(|at| name(at).into_bytes()).collect();
+    let column = strukt(0, "fresh", sized(random, MOST_RECORDS - stay - 1 + past, LEVELS - 1));
+    update_by(packed(&base), &[], 10_000, request(&deletions, &[Addition { path: None, column }]))
 }

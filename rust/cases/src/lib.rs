@@ -20,6 +20,7 @@ mod shapes;
 mod shrink;
 mod tally;
 mod trees;
+mod visited;
 mod widened;
 mod widenings;
 

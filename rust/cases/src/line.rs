@@ -15,7 +15,7 @@
 //! list
 //!
 //! refused NUMBER LIST PLACE
-//! ok RECORDS NAMES LAST_ID          update
+//! ok RECORDS NAMES LAST_ID VISITED  update
 //! ok RECORDS NAMES                  prune
 //! ok RECORDS NAMES IDENTIFIERS      renumber
 //! found ID SLOT | nothing           name, folded, id, parent (the record above)
@@ -149,9 +149,13 @@ fn answer_words(answer: &Answer) -> Vec<String> {
         Answer::Refused(r) => {
             vec!["refused".into(), r.number.to_string(), r.list.to_string(), r.place.to_string()]
         }
-        Answer::Updated { records, names, last_id } => {
-            vec!["ok".into(), hex(records), hex(names), (*last_id as u32).to_string()]
-        }
+        Answer::Updated { records, names, last_id, visited } => vec![
+            "ok".into(),
+            hex(records),
+            hex(names),
+            (*last_id as u32).to_string(),
+            visited.to_string(),
+        ],
         Answer::Pruned { records, names } => vec!["ok".into(), hex(records), hex(names)],
         Answer::Renumbered { records, names, identifiers } => {
             vec!["ok".into(), hex(records), hex(names), hex(identifiers)]
@@ -279,9 +283,12 @@ fn read_answer(ask: &Ask, words: &mut Words) -> Result<Answer, String> {
             list: words.number()?,
             place: words.number()?,
         }),
-        ("ok", Ask::Update { .. }) => {
-            Answer::Updated { records: words.bytes()?, names: words.bytes()?, last_id: words.id()? }
-        }
+        ("ok", Ask::Update { .. }) => Answer::Updated {
+            records: words.bytes()?,
+            names: words.bytes()?,
+            last_id: words.id()?,
+            visited: words.number()?,
+        },
         ("ok", Ask::Prune { .. }) => {
             Answer::Pruned { records: words.bytes()?, names: words.bytes()? }
         }

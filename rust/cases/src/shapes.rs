@@ -10,12 +10,13 @@ use crate::broken::{SHAPES_OF_9, nine_shapes};
 use crate::case::{Answer, Ask, Case};
 use crate::edited::{SHAPES_OF_EDITS, edit_refused_shapes, edit_shapes};
 use crate::trees::{held, path_up, receiver};
+use crate::visited::{SHAPES_OF_VISITS, visit_shapes};
 use crate::widened::{SHAPES_OF_WIDENINGS, version_shapes};
 
-/// Every shape: those of 9, of edits and of widenings are last.
+/// Every shape: those of 9, of edits, of widenings and of visits are last.
 pub fn all_shapes() -> impl Iterator<Item = &'static str> {
     let more = SHAPES_OF_9.as_flattened().iter().chain(SHAPES_OF_EDITS).chain(SHAPES_OF_WIDENINGS);
-    SHAPES.iter().chain(more).copied()
+    SHAPES.iter().chain(more).chain(SHAPES_OF_VISITS).copied()
 }
 
 /// The shapes. Those of a tree can come up in every operation, the others in the one named.
@@ -425,7 +426,7 @@ fn update_shapes(
     else {
         return;
     };
-    let Answer::Updated { records, names, last_id: consumed } = answer else { return };
+    let Answer::Updated { records, names, last_id: consumed, visited } = answer else { return };
     let (before, after) = (ids_in(&case.records), ids_in(records));
     met("update: accepted", true);
     met("update: by version 2", *version == 2);
@@ -465,6 +466,10 @@ fn update_shapes(
     let found = |path: &[u8]| called.find(path).expect("an accepted path finds a record");
     deletion_shapes(case, tree, &found, &after, met);
     addition_shapes(case, tree, &found, met);
+    let dropped = paths(deletions, request_pool);
+    let dropped: Vec<usize> = dropped.iter().flatten().map(|path| found(path)).collect();
+    let added = added_records.len() / RECORD_BYTES;
+    visit_shapes(tree, &dropped, added, *visited as usize, met);
 }
 
 fn deletion_shapes(

@@ -67,9 +67,11 @@ fn only_the_answer_is_written() {
             let beyond = buffer.iter().copied().zip(fresh(buffer.len())).skip(written);
             assert!(beyond.into_iter().all(|(now, then)| now == then), "case {n}");
         }
+        if changed.refusal != 0 || case.update_call().is_none() {
+            assert_eq!((changed.last_id, changed.visited), (0, 0), "case {n}");
+        }
         if changed.refusal != 0 {
-            let zeros = (changed.records, changed.names, changed.last_id);
-            assert_eq!(zeros, (0, 0, 0), "case {n}");
+            assert_eq!((changed.records, changed.names), (0, 0), "case {n}");
             let untouched = left.out_identifiers.iter().copied();
             assert!(untouched.eq(fresh(left.out_identifiers.len())), "case {n}");
         }

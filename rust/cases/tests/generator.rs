@@ -159,6 +159,59 @@ fn widenings_and_versions_are_common() {
     }
 }
 
+/// What is dropped with an inside and without one, inside another, and beneath what stays.
+#[test]
+fn visits_that_differ_are_common() {
+    let tally = tally_of("update");
+    let cases = tally.cases.sum();
+    for (often, shape) in [
+        (10, "update: every record visited, and no member dropped"),
+        (20, "update: every record visited, and a member dropped"),
+        (20, "update: the inside of a dropped member not visited"),
+        (120, "update: a dropped member inside a dropped one not visited"),
+        (40, "update: two dropped members visited"),
+        (120, "update: a dropped member visited beneath a dropped element, key or value"),
+        (60, "update: the inside of a dropped element visited"),
+        (150, "update: the inside of a dropped key visited"),
+        (80, "update: the inside of a dropped value visited"),
+    ] {
+        let times = tally.shapes[shape].sum();
+        assert!(times * often > cases, "{shape}: {times} of {cases}");
+    }
+}
+
+/// 02, 7/13: as many as the answer has and, of what is gone, those that stand beneath nothing that
+/// is gone; at most base and additions; and the base where nothing is asked.
+#[test]
+fn what_is_visited_stays_or_is_the_first_that_goes() {
+    let (mut shown, mut fewer) = (0, 0);
+    for n in of("update", 12_000) {
+        let mut case = usual().case(n);
+        let Answer::Updated { records, last_id: after, visited, .. } = answer(&case) else {
+            continue;
+        };
+        let base = judge::read_tree(&case.records, &case.pool, judge::BASE).expect("accepted");
+        let Ask::Update { last_id, deletions, additions, added_records, .. } = &mut case.ask else {
+            continue;
+        };
+        let most = base.rows.len() + added_records.len() / 24;
+        let id = |r: &[u8]| i32::from_le_bytes([r[0], r[1], r[2], r[3]]);
+        let given = |id: &i32| (*last_id..after).contains(&id.wrapping_sub(1));
+        let there: Vec<i32> = records.chunks(24).map(id).filter(|id| !given(id)).collect();
+        let gone = |slot: usize| !there.contains(&base.rows[slot].id);
+        let first = |slot: &usize| gone(*slot) && !base.rows[*slot].parent.is_some_and(gone);
+        let first = (0..base.rows.len()).filter(first).count();
+        assert_eq!(visited as usize, records.len() / 24 + first, "case {n}");
+        assert!(visited as usize <= most, "case {n}");
+        (shown, fewer) = (shown + 1, fewer + usize::from((visited as usize) < most));
+        [deletions, additions, added_records].into_iter().for_each(Vec::clear);
+        if let Answer::Updated { visited, .. } = answer(&case) {
+            assert_eq!(visited as usize, base.rows.len(), "case {n}");
+        }
+    }
+    assert!(shown > 3_000 && fewer > 500, "{shown} and {fewer}");
+}
+
 /// Where widenings are accepted it does not matter which comes first, and each column that is
 /// widened has its new code, by a step of the version; all else is as it is without them.
 #[test]

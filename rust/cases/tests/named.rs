@@ -33,6 +33,7 @@ fn a_damaged_line_is_told() {
         "update both - - - 0 - - - - 0 0 00 = refused 1 0 0",
         "update both - - - 0 - - - - 0 0 00 3 = refused 1 0 0",
         "update both - - - 0 - - - - 0 0 - 4294967295 = refused 1 0 0",
+        "update both - - - 0 - - - - 0 0 = ok - - 0 2048",
     ] {
         assert!(read_line(line).is_ok());
     }
@@ -55,6 +56,11 @@ fn a_damaged_line_is_told() {
         "update both - - - 0 - - - - 0 0 - 2 = refused 1 0 0",
         "update both - - - 0 - - - - 0 0 3 = refused 1 0 0",
         "update both - - - 0 - - - - 0 0 00 3 3 = refused 1 0 0",
+        "update both - - - 0 - - - - 0 0 = ok - - 0",
+        "update both - - - 0 - - - - 0 0 = ok - - 0 -",
+        "update both - - - 0 - - - - 0 0 = ok - - 0 0 0",
+        "update both - - - 0 - - - - 0 0 = refused 1 0 0 0",
+        "prune both - - - 0 0 0 = ok - - 0",
         "id both 0 - 7 = nothing",
         "id both 0G - 7 = nothing",
         "id both AB - 7 = nothing",
@@ -92,6 +98,7 @@ fn the_named_cases_hold_every_refusal_and_all_worked_examples() {
     }
     // 25 and 36 are points that no input can show; 36 has a case all the same
     let of_02 = (145..=148).chain(161..=164).chain(168..=171).chain(181..=189).chain(197..=203);
+    let of_02 = of_02.chain(209..=211);
     for reading in (1..=67).filter(|n| *n != 25).chain(of_02) {
         let start = format!("reading {reading}:");
         assert!(titles.iter().any(|title| title.starts_with(&start)), "{start}");

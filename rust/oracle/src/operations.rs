@@ -7,14 +7,14 @@ use std::panic::{AssertUnwindSafe, catch_unwind};
 use std::sync::{Arc, Once};
 
 use cases::{Answer, Ask, Case};
-use judge::{Change, Edit, NO_SLOT, Node, REQUIRED};
+use judge::{Change, Edit, NO_SLOT, Node, RECORD_BYTES, REQUIRED};
 
 use crate::Error;
 use crate::fields::{Unfit, bytes, fields, ids, nodes, nodes_of, text};
 use crate::request::{Request, edits};
 use crate::spec::beside::id_reassigner::ReassignFieldIds;
 use crate::spec::beside::index::index_parents;
-use crate::spec::{NestedFieldRef, Schema, Type, prune_columns};
+use crate::spec::{NestedFieldRef, Schema, StructType, Type, prune_columns};
 use crate::table::Table;
 use crate::verdict::Verdict;
 
@@ -176,16 +176,48 @@ fn update(case: &Case) -> Stop<Answer> {
         Err(verdict) if of_the_request(&verdict) => Err(placed(verdict, &table, &request)?),
         // whatever the rebuilt tree was, the edited one is another
         _ if !edits.is_empty() => update_edited(case, &request, last_id, &edits),
-        Ok(schema) => Ok(updated(&schema, last_id, &request)),
+        Ok(schema) => updated(table.metadata().current_schema(), &schema, last_id, &request),
         Err(verdict) => Err(verdict),
     }
 }
 
-fn updated(schema: &Schema, last_id: i32, request: &Request) -> Answer {
+fn updated(base: &Schema, schema: &Schema, last_id: i32, request: &Request) -> Stop<Answer> {
     let (records, names) = bytes(&nodes_of(schema.as_struct().fields()));
     // the crate's counter is a local variable that moves on with every added record
     let last_id = (i64::from(last_id) + request.added() as i64) as i32;
-    Answer::Updated { records, names, last_id }
+    // the crate counts no visits: what it answers was visited, and so was what it leaves out first
+    let visited = (records.len() / RECORD_BYTES + left_out(base, request)?) as u32;
+    Ok(Answer::Updated { records, names, last_id, visited })
+}
+
+/// How many members of the crate's own base are dropped and stand beneath no other one that is.
+fn left_out(base: &Schema, request: &Request) -> Stop<usize> {
+    let mut dropped = HashSet::new();
+    for path in &request.deletions {
+        let path = fit(text(path))?;
+        dropped.extend(base.field_by_name(&path).map(|field| field.id));
+    }
+    Ok(left_out_of(base.as_struct(), &dropped))
+}
+
+fn left_out_of(members: &StructType, dropped: &HashSet<i32>) -> usize {
+    fn inside(of: &Type, dropped: &HashSet<i32>) -> usize {
+        match of {
+            Type::Primitive(_) => 0,
+            Type::Struct(members) => left_out_of(members, dropped),
+            // these stay, dropped or not
+            Type::List(list) => inside(&list.element_field.field_type, dropped),
+            Type::Map(map) => {
+                inside(&map.key_field.field_type, dropped)
+                    + inside(&map.value_field.field_type, dropped)
+            }
+        }
+    }
+    let each = members.fields().iter().map(|member| match dropped.contains(&member.id) {
+        true => 1,
+        false => inside(&member.field_type, dropped),
+    });
+    each.sum()
 }
 
 fn edits_of(case: &Case) -> Stop<Vec<Edit>> {
@@ -236,7 +268,7 @@ fn update_edited(case: &Case, request: &Request, last_id: i32, edits: &[Edit]) -
         let found = schema.field_by_name(name).map(|field| field.id);
         assert_eq!(found, Some(id), "an edited column by its full name");
     }
-    Ok(updated(&schema, last_id, request))
+    updated(&base, &schema, last_id, request)
 }
 
 /// What 23 says, by the crate's own look-up and rebuilding.

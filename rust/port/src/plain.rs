@@ -9,8 +9,8 @@ pub struct Port;
 
 /// The numbers, as the judge has them.
 fn changed(c: c::Changed) -> Changed {
-    let c::Changed { refusal, list, place, records, names, last_id } = c;
-    Changed { refusal, list, place, records, names, last_id }
+    let c::Changed { refusal, list, place, records, names, last_id, visited } = c;
+    Changed { refusal, list, place, records, names, last_id, visited }
 }
 
 /// The numbers, as the judge has them.

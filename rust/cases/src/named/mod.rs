@@ -1,4 +1,5 @@
-//! The cases that stand in the recorded list by name, each with the answer that it must have.
+//! The cases that have a name, each with the answer that it must have. All but the longest stand in
+//! the recorded list.
 
 mod dropped;
 mod edits;
@@ -9,6 +10,7 @@ mod identifiers;
 mod ids;
 mod limits;
 mod readings;
+mod visited;
 mod widenings;
 mod worked;
 
@@ -25,6 +27,8 @@ pub struct Named {
     pub title: String,
     pub case: Case,
     pub expected: Expected,
+    /// Does it stand in the recorded list? A line of thousands of records is too long for it.
+    pub listed: bool,
 }
 
 /// What must come of a case.
@@ -36,6 +40,8 @@ pub enum Expected {
     Ids(Vec<i32>),
     /// Accepted, with these ids and this last id.
     Last(Vec<i32>, i32),
+    /// Accepted, with these ids and so many records visited.
+    Visited(Vec<i32>, u32),
     /// Accepted, with these ids, names and flags in slot order.
     Columns(Vec<(i32, String, u8)>),
     /// Accepted, with these ids, names, flags and type codes in slot order.
@@ -65,6 +71,9 @@ impl Expected {
             (Expected::Ids(want), answer) => answer.records().map(ids).as_ref() == Some(want),
             (Expected::Last(want, last), Answer::Updated { records, last_id, .. }) => {
                 ids(records) == *want && last_id == last
+            }
+            (Expected::Visited(want, count), Answer::Updated { records, visited, .. }) => {
+                ids(records) == *want && visited == count
             }
             (Expected::Columns(want), Answer::Updated { records, names, .. }) => {
                 let tree = read_tree(records, names, judge::REBUILT).expect("an answer is read");
@@ -98,7 +107,7 @@ impl Expected {
 
 /// Every named case: the worked tree, the readings, the limits, faults two at a time, what
 /// iceberg's own code decided, the look-up that forgets case, that of many ids, additions beneath
-/// what is dropped, the columns that can be identifiers, edits, and widenings.
+/// what is dropped, the columns that can be identifiers, edits, widenings, and what is visited.
 pub fn named() -> Vec<Named> {
     let mut all = Cases(vec![]);
     worked::put(&mut all);
@@ -112,6 +121,7 @@ pub fn named() -> Vec<Named> {
     identifiers::put(&mut all);
     edits::put(&mut all);
     widenings::put(&mut all);
+    visited::put(&mut all);
     all.0
 }
 
@@ -120,7 +130,12 @@ struct Cases(Vec<Named>);
 
 impl Cases {
     fn put(&mut self, title: &str, case: Case, expected: Expected) {
-        self.0.push(Named { title: title.into(), case, expected });
+        self.0.push(Named { title: title.into(), case, expected, listed: true });
+    }
+
+    /// A case that is too long for the recorded list.
+    fn put_beside(&mut self, title: &str, case: Case, expected: Expected) {
+        self.0.push(Named { title: title.into(), case, expected, listed: false });
     }
 }
 
