@@ -81,10 +81,10 @@ lay-looked w f r e h = rw e h
 
 -- ---- update, pruning, renumbering
 
-pub lay-done : (c : Changed) (s : Sizes) → c ≡ changing.Done s → record { refusal = 0; list = 0; place = 0; records = s .records; names = s .names; «last_id» = s .«last_id» } ≡ changed-numbers c
+pub lay-done : (c : Changed) (s : Sizes) → c ≡ changing.Done s → record { refusal = 0; list = 0; place = 0; records = s .records; names = s .names; «last_id» = s .«last_id»; visited = s .visited } ≡ changed-numbers c
 lay-done c s e = rw e
 
-pub lay-turned-down : (c : Changed) (x : Refusal) → c ≡ changing.Refused x → record { refusal = x .number; list = x .list; place = x .place; records = 0; names = 0; «last_id» = 0 } ≡ changed-numbers c
+pub lay-turned-down : (c : Changed) (x : Refusal) → c ≡ changing.Refused x → record { refusal = x .number; list = x .list; place = x .place; records = 0; names = 0; «last_id» = 0; visited = 0 } ≡ changed-numbers c
 lay-turned-down c x e = rw e
 
 changed-told : (a : Answer Result) → changed-numbers (changes a) ≡ changed-in (changed a)

@@ -50,7 +50,7 @@ word n = enc (tyInt w32) (vint w32 n)
 
 pub changed-laid : (c : outcome.Changed)
     → enc changed-laws.mir (changed-laws.lowered (changed-in c))
-    ≡ word (c .refusal) ++ word (c .list) ++ word (c .place) ++ word (c .records) ++ word (c .names) ++ word (c .last-id)
+    ≡ word (c .refusal) ++ word (c .list) ++ word (c .place) ++ word (c .records) ++ word (c .names) ++ word (c .last-id) ++ word (c .visited)
 changed-laid c = refl
 
 pub found-laid : (f : outcome.Found)

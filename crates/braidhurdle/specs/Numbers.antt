@@ -36,15 +36,15 @@ sought-numbers (seeks.Refused r) = record { refusal = r .number; list = r .list;
 
 -- The same for update, pruning and renumbering.
 abbrev pub changed-in : outcome.Changed → ChangedNumbers
-changed-in c = record { refusal = c .refusal; list = c .list; place = c .place; records = c .records; names = c .names; «last_id» = c .last-id }
+changed-in c = record { refusal = c .refusal; list = c .list; place = c .place; records = c .records; names = c .names; «last_id» = c .last-id; visited = c .visited }
 
 -- How a C function tells the paper's answer.
 abbrev pub laid : Answer Result → ChangedNumbers
 laid answer = changed-in (changed answer)
 
 abbrev pub changed-numbers : Changed → ChangedNumbers
-changed-numbers (changes.Done s) = record { refusal = 0; list = 0; place = 0; records = s .records; names = s .names; «last_id» = s .«last_id» }
-changed-numbers (changes.Refused r) = record { refusal = r .number; list = r .list; place = r .place; records = 0; names = 0; «last_id» = 0 }
+changed-numbers (changes.Done s) = record { refusal = 0; list = 0; place = 0; records = s .records; names = s .names; «last_id» = s .«last_id»; visited = s .visited }
+changed-numbers (changes.Refused r) = record { refusal = r .number; list = r .list; place = r .place; records = 0; names = 0; «last_id» = 0; visited = 0 }
 
 -- The same for a search for many ids.
 abbrev pub searched-in : outcome.Searched → SearchedNumbers

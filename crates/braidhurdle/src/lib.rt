@@ -33,7 +33,7 @@ ghost use Rattle.braidhurdle.specs.Numbers.{
 ghost use Rattle.braidhurdle.specs.Lent.{stored, lent};
 ghost use Rattle.braidhurdle.specs.Name.{found-name, name-numbers};
 
-// The answer of update, pruning and renumbering. On a refusal the last three are 0.
+// The answer of update, pruning and renumbering. On a refusal the last four are 0.
 #[repr(C)]
 pub struct ChangedNumbers {
     pub refusal: u32,
@@ -42,6 +42,7 @@ pub struct ChangedNumbers {
     pub records: u32,
     pub names: u32,
     pub last_id: u32,
+    pub visited: u32,
 }
 
 // The answer of a look-up. On a refusal, and where nothing is found, id and slot are 0.
@@ -86,6 +87,7 @@ fn lay_changed(changed: Changed) -> ChangedNumbers
             records: sizes.records,
             names: sizes.names,
             last_id: sizes.last_id,
+            visited: sizes.visited,
         },
         Changed::Refused(refusal) => ChangedNumbers {
             refusal: refusal.number,
@@ -94,6 +96,7 @@ fn lay_changed(changed: Changed) -> ChangedNumbers
             records: 0,
             names: 0,
             last_id: 0,
+            visited: 0,
         },
     }
 }
@@ -159,10 +162,10 @@ fn lay_searched(searched: Searched) -> SearchedNumbers
 // The version of these functions, in its name too: whoever is compiled against other declarations asks for another name, and finds
 // none here. A change of any declaration raises both, and so does a call that is answered otherwise than before.
 #[no_mangle]
-pub extern "C" fn braidhurdle_abi_8() -> u32
-    ensures { λ r. ⌜ r ≡ 8 ⌝ }
+pub extern "C" fn braidhurdle_abi_9() -> u32
+    ensures { λ r. ⌜ r ≡ 9 ⌝ }
 {
-    8
+    9
 }
 
 // Drops, adds and edits columns; ids are handed out from `last_id` + 1, and types widened by the steps of `version`.

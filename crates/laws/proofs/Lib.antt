@@ -26,3 +26,6 @@ pub mod Ordered
 pub mod Rows
 pub mod Sited
 pub mod Identified
+pub mod Receiving
+pub mod Weighing
+pub mod Visiting

@@ -2,12 +2,13 @@
 use Prim.Native.Nat.{ℕ, suc, _+_, _<_}
 use mathlib.Core.Path.{_≡_, refl, ap, ap₂, _∙_}
 use mathlib.Core.Bool.{Bool, true, false, _&&_, cond}
-use mathlib.Core.List.{List, [], _∷_}
+use mathlib.Core.List.{List, [], _∷_, _++_}
 use mathlib.Core.Option.{Option, some}
 use Rattle.paper.specs.declared.Kind.{Kind}
 use Rattle.paper.specs.Answer.{among}
 use Rattle.paper.specs.Forest.{Forest, empty, node, size, mapped, _then_}
 use Rattle.paper.specs.Field.{is-struct}
+use Rattle.paper.specs.Gone.{outermost}
 use Rattle.paper.specs.Rebuild.{Addition, same-parent, arriving, rebuilt}
 use Rattle.laws.proofs.Taken.{Laid}
 
@@ -50,6 +51,16 @@ module _ {A : Type 0} (id id′ : A → ℕ) (kind kind′ : A → Kind) (ds ds�
       let f : rebuilt id kind ds adds (some (id a)) (is-struct (kind a)) m ≡ rebuilt id′ kind′ ds′ adds (some (id′ a)) (is-struct (kind′ a)) m = rebuilt-same (some (id a)) (is-struct (kind a)) m (e .1) ∙ rw (e .0 .0, e .0 .1) in
       ap (λ (z : Bool). cond (b && z) (rebuilt id kind ds adds q b n) (node a (rebuilt id kind ds adds (some (id a)) (is-struct (kind a)) m) (rebuilt id kind ds adds q b n))) d
       ∙ ap₂ (λ (y z : Forest A). cond (b && among (id′ a) ds′) z (node a y z)) f (rebuilt-same q b n (e .2))
+
+module _ {A : Type 0} (id id′ : A → ℕ) (kind kind′ : A → Kind) (ds ds′ : List ℕ) (drops : (x : ℕ) → among x ds ≡ among x ds′) where
+  pub outermost-same : (b : Bool) (t : Forest A) → Each (λ a. (id a ≡ id′ a) × (kind a ≡ kind′ a)) t → outermost id kind ds b t ≡ outermost id′ kind′ ds′ b t
+  unfolding outermost
+  outermost-same b empty e = refl
+  outermost-same b (node a m n) e =
+      let d : among (id a) ds ≡ among (id′ a) ds′ = drops (id a) ∙ ap (λ (x : ℕ). among x ds′) (e .0 .0) in
+      let f : outermost id kind ds (is-struct (kind a)) m ≡ outermost id′ kind′ ds′ (is-struct (kind′ a)) m = outermost-same (is-struct (kind a)) m (e .1) ∙ rw (e .0 .1) in
+      ap (λ (z : Bool). cond (b && z) (a ∷ []) (outermost id kind ds (is-struct (kind a)) m) ++ outermost id kind ds b n) d
+      ∙ ap₂ (λ (y z : List A). cond (b && among (id′ a) ds′) (a ∷ []) y ++ z) f (outermost-same b n (e .2))
 
 -- What holds of each record of a tree and of the additions holds of each record of the rebuild.
 module _ {A : Type 0} (P : A → Type 0) (id : A → ℕ) (kind : A → Kind) (ds : List ℕ) where

@@ -1,5 +1,5 @@
 -- What Pinned lists holds: one claim over it. Beside it what is handed back, which no list of questions and answers shows: the
--- six numbers, the bytes that stand in the buffers, the lister's text. All of it computes.
+-- seven numbers, the bytes that stand in the buffers, the lister's text. All of it computes.
 use Prim.Native.Nat.{ℕ}
 use mathlib.Core.Path.{_≡_, refl}
 use mathlib.Core.Bool.{true, false}
@@ -18,6 +18,7 @@ use Rattle.paper.specs.Promotions.{known-version, is-decimal, more-digit
 use Rattle.paper.specs.Edits.{edited-one, edited-all, edit-fields}
 use Rattle.paper.specs.Update.{deleted, member-taken, placed, placed-all, planned}
 use Rattle.paper.specs.Rebuild.{fresh, arrivals, arriving, rebuilt, carried-out, update}
+use Rattle.paper.specs.Visited.{reached, arrived, visited}
 use Rattle.paper.specs.Bytes.{word16, word32, turned, ok-bytes, in-pool, kind-from, name-of, field-at}
 use Rattle.paper.specs.Bytes.{from}
 use Rattle.paper.specs.Lists.{ok-deletion, ok-addition, path-in, ok-edit, edit-in, entries-ok, path-of, parent-path}
@@ -74,9 +75,17 @@ farthest = lending (row24 2_147_483_648 0 1 1 0 1 0 0 ++ row24 2_147_483_647 1 1
 abbrev listed : Lending → List ℕ
 listed b = lister (b .records) (b .pool)
 
-abbrev numbers : (refusal list place records names last-id : ℕ) → Changed
-numbers refusal list place records names last-id =
-    record { refusal = refusal; list = list; place = place; records = records; names = names; last-id = last-id }
+abbrev numbers : (refusal list place records names last-id visited : ℕ) → Changed
+numbers refusal list place records names last-id visited =
+    record {
+      refusal = refusal;
+      list = list;
+      place = place;
+      records = records;
+      names = names;
+      last-id = last-id;
+      visited = visited;
+    }
 
 abbrev sought : (refusal list place found id slot : ℕ) → Found
 sought refusal list place found id slot =
@@ -92,9 +101,9 @@ pub record Held : Type 0 where
   pub answers : map (λ e. answer (e .asked)) pinned ≡ map (λ e. e .given) pinned
   -- Each refusal is met, from 1 to the last.
   pub each-met : map (λ e. number-told (e .given)) met ≡ from (λ i. i) 1 last-refusal
-  -- The six numbers: refusal, list, place; then record count, name bytes, last id of an acceptance.
+  -- The seven numbers: refusal, list, place; then record count, name bytes, last id and records visited of an acceptance.
   pub changed-numbers : map changed (P7 ∷ dropped ∷ from-11 ∷ [])
-      ≡ numbers 8 4 11 0 0 0 ∷ numbers 0 0 0 7 34 10 ∷ numbers 0 0 0 4 18 0 ∷ []
+      ≡ numbers 8 4 11 0 0 0 0 ∷ numbers 0 0 0 7 34 10 8 ∷ numbers 0 0 0 4 18 0 0 ∷ []
   -- The six numbers of a look-up: refusal, list, place; then whether it is found, its id and its slot.
   pub found-numbers :
       found (find-name T-records T-pool (text "parts")) ∷ found (find-id T-records T-pool 9)
@@ -129,7 +138,7 @@ unfolding answer answer-of signed-id _>>=_ lowest size siblings levels preorder 
     rows entered look-name look-id look-parent fold folded matching look-folded
     fitting misnamed names ids sound name-bytes within prune level numbered renumber
     known-version is-decimal more-digits allowed gone edited-one edited-all edit-fields deleted member-taken placed placed-all planned fresh arrivals arriving rebuilt carried-out update
-    word16 word32 turned ok-bytes in-pool kind-from name-of field-at from
+    reached arrived visited word16 word32 turned ok-bytes in-pool kind-from name-of field-at from
     ok-deletion ok-addition path-in ok-edit edit-in entries-ok path-of parent-path deletion-paths addition-paths
     edit-path new-name edit-of edit-list id-list
     deep row-with row roots fields decode row24 encode-records encode-names record-bytes pool-bytes Encode.id-bytes

@@ -90,6 +90,7 @@ pub record Lists : Type 0 where
 
 infix 20 drop_add_
 infix 20 edit_drop_add_
+infix 20 count-edit_drop_add_
 infix 15 of_ask_
 pub data Ask : Type 0 where
   renumber-from : (start : ℕ) → Ask
@@ -102,6 +103,8 @@ pub data Ask : Type 0 where
   find-numbers : (ids : List ℕ) (room : ℕ) → Ask
   drop_add_ : List String → List New → Ask
   edit_drop_add_ : List Editing → List String → List New → Ask
+  -- How many records such an update visits.
+  count-edit_drop_add_ : List Editing → List String → List New → Ask
   request : Lists → Ask
   choose : List ℕ → Ask
   choose-full : List ℕ → Ask
@@ -130,13 +133,14 @@ shows-coded id name flags code = record { id = pos id; name = text name; flags =
 abbrev pub shows : (id : ℕ) → String → (flags : ℕ) → Shown
 shows id name flags = shows-coded id name flags 0
 
--- What is answered: a tree's ids in slot order, and with an update's the last id, or with edits its columns; what is found; the
--- slots of many ids; a refusal.
+-- What is answered: a tree's ids in slot order, and with an update's the last id, or with edits its columns, or how many records it
+-- visits; what is found; the slots of many ids; a refusal.
 infix 20 refusal_list_place_
 pub data Reply : Type 0 where
   tree : (ids : List ℤ) → Reply
   updated : (ids : List ℤ) (last : ℤ) → Reply
   columns-are : List Shown → Reply
+  visits : ℕ → Reply
   found : ℤ → Reply
   nothing : Reply
   at-slots : List (Option ℕ) → Reply
@@ -281,6 +285,10 @@ abbrev edits-reply : Answer Result → Reply
 edits-reply (ok result) = columns-are (map shown-column (preorder (result .tree)))
 edits-reply (refused n l p) = refusal n list l place p
 
+abbrev visits-reply : Answer Result → Reply
+visits-reply (ok result) = visits (result .visited)
+visits-reply (refused n l p) = refusal n list l place p
+
 abbrev find-reply : Answer (Option Row) → Reply
 find-reply (ok none) = nothing
 find-reply (ok (some row)) = found (signed-id (row .field .id))
@@ -305,6 +313,8 @@ answer-of given (find-numbers ids room) = slots-reply (find-ids (given .records)
 answer-of given (drop drops add adds) = update-reply (put-update update-entry given (lists [] drops adds))
 answer-of given (edit edits drop drops add adds) =
     edits-reply (put-update update-entry given (lists edits drops adds))
+answer-of given (count-edit edits drop drops add adds) =
+    visits-reply (put-update update-entry given (lists edits drops adds))
 answer-of given (request asked) = update-reply (put-update update-entry given asked)
 answer-of given (choose selected) = tree-reply (put-prune prune-entry given selected false)
 answer-of given (choose-full selected) = tree-reply (put-prune prune-entry given selected true)

@@ -21,6 +21,14 @@ gone id kind dropped open? (node a m n) =
     cond (dropped-member open? dropped (id a)) (a ∷ preorder m) (gone id kind dropped (is-struct (kind a)) m)
     ++ gone id kind dropped open? n
 
--- The ids of those of a tree.
+-- The dropped members that stand beneath no other dropped member.
+unfoldable pub outermost : {A : Type 0} → (id : A → ℕ) → (kind : A → Kind) → (dropped : List ℕ) → (open? : Bool) → Forest A
+    → List A
+outermost id kind dropped open? empty = []
+outermost id kind dropped open? (node a m n) =
+    cond (dropped-member open? dropped (id a)) (a ∷ []) (outermost id kind dropped (is-struct (kind a)) m)
+    ++ outermost id kind dropped open? n
+
+-- The ids of those that go of a tree.
 abbrev pub gone-columns : (dropped : List ℕ) → Forest Field → List ℕ
 gone-columns dropped tree = map id-of (gone id-of kind-of dropped true tree)

@@ -17,9 +17,9 @@ use Rattle.paper.specs.Sample.{column, primitive, required, struct, list
 use Rattle.paper.specs.Asked.{Lending, lending, lent, T-lent, New, new, at-root, _under_, Lists, entry}
 use Rattle.paper.specs.Asked.{Editing, _to_, relaxing, _into_, edit_drop_add_, edit-entry, shows, shows-coded, columns-are}
 use Rattle.paper.specs.Asked.{Ask, renumber-from, identifiers-from, find, find-folding, find-number, find-above, find-numbers, find-each}
-use Rattle.paper.specs.Asked.{drop_add_, request}
+use Rattle.paper.specs.Asked.{drop_add_, count-edit_drop_add_, request}
 use Rattle.paper.specs.Asked.{choose, choose-full, of_ask_}
-use Rattle.paper.specs.Asked.{Reply, tree, updated, ids-are, _with-last_, found, nothing, at-slots, refusal_list_place_}
+use Rattle.paper.specs.Asked.{Reply, tree, updated, ids-are, _with-last_, found, nothing, visits, at-slots, refusal_list_place_}
 use Rattle.paper.specs.Worked.{Example, _gives_}
 
 -- ---- small trees
@@ -242,6 +242,32 @@ going =
     -- What is dropped beneath the receiving struct, or beside it, is no reason; at the root nothing is.
     ∷ (of tree-of struct-in-list ask drop ("l.s" ∷ []) add (("x" under "l") ∷ at-root "s" ∷ []) gives (1 ∷ 2 ∷ 11 ∷ 12 ∷ []) with-last 12)
     ∷ (drop ("node" ∷ "visits" ∷ "parts" ∷ []) add (at-root "x" ∷ []) gives (11 ∷ []) with-last 11)
+    ∷ []
+
+-- 02, 7/13: the records visited. T has ten.
+abbrev visiting : List Example
+visiting =
+    (count-edit [] drop [] add [] gives visits 10)
+    ∷ (of tree-of empty ask count-edit [] drop [] add [] gives visits 0)
+    -- A dropped member counts, what is inside it does not, dropped or not; a column dropped twice is dropped once.
+    ∷ (count-edit [] drop ("node.cost" ∷ []) add [] gives visits 10)
+    ∷ (count-edit [] drop ("node" ∷ []) add [] gives visits 8)
+    ∷ (count-edit [] drop ("node" ∷ "node.cost" ∷ "node" ∷ []) add [] gives visits 8)
+    ∷ (count-edit [] drop ("visits" ∷ []) add [] gives visits 8)
+    ∷ (count-edit [] drop ("node" ∷ "visits" ∷ "parts" ∷ []) add [] gives visits 3)
+    ∷ (of tree-of (chain 16) ask count-edit [] drop ("a.a" ∷ []) add [] gives visits 2)
+    -- A dropped element, key or value stays; all inside it counts, but for what is inside a dropped member there.
+    ∷ (count-edit [] drop ("visits.element" ∷ []) add [] gives visits 10)
+    ∷ (of tree-of structs ask count-edit [] drop ("m.key" ∷ "m.value" ∷ []) add [] gives visits 5)
+    ∷ (of tree-of struct-in-list ask count-edit [] drop ("l.element" ∷ []) add [] gives visits 4)
+    ∷ (of tree-of struct-in-list ask count-edit [] drop ("l.element" ∷ "l.s" ∷ []) add [] gives visits 3)
+    -- Each added record counts once, wherever it goes.
+    ∷ (count-edit [] drop [] add (at-root "x" ∷ ("x" under "node") ∷ ("x" under "visits") ∷ []) gives visits 13)
+    ∷ (count-edit [] drop ("node" ∷ []) add (new branched none ∷ []) gives visits 12)
+    ∷ (of tree-of empty ask count-edit [] drop [] add (new branched none ∷ []) gives visits 4)
+    -- Edits visit nothing more; a refusal is a refusal.
+    ∷ (count-edit ("node" to "board" ∷ relaxing "node.cost" ∷ []) drop [] add [] gives visits 10)
+    ∷ (count-edit [] drop ("none" ∷ []) add [] gives refusal 11 list 2 place 0)
     ∷ []
 
 -- A required struct; one of a required column and an optional one, with a required column beside it.
@@ -637,6 +663,7 @@ abbrev pub number-told : Reply → ℕ
 number-told (tree i) = 0
 number-told (updated i last) = 0
 number-told (columns-are c) = 0
+number-told (visits n) = 0
 number-told (found i) = 0
 number-told nothing = 0
 number-told (at-slots s) = 0
@@ -794,4 +821,4 @@ decided-order =
     ∷ []
 
 abbrev pub pinned : List Example
-pinned = names ++ folded-names ++ many-ids ++ updates ++ going ++ identifier-columns ++ edits ++ widenings ++ others ++ byte-rules ++ met ++ base-order ++ own-order ++ lists-order ++ decided-order
+pinned = names ++ folded-names ++ many-ids ++ updates ++ going ++ visiting ++ identifier-columns ++ edits ++ widenings ++ others ++ byte-rules ++ met ++ base-order ++ own-order ++ lists-order ++ decided-order

@@ -125,13 +125,13 @@ taken-id s n old plan k h room few l =
 -- ---- the entry
 
 the-result : Forest Field → Result
-the-result t = record { tree = t; identifiers = []; last = 0 }
+the-result t = record { tree = t; identifiers = []; last = 0; visited = 0 }
 
 abbrev Answering : Answer Result → (out names : List ℕ) → Changed → (out′ names′ : List ℕ) → Type 0
 Answering x out names r out′ names′ = Answers changes x (for-records out ∷ for-names names ∷ []) r (out′ ∷ names′ ∷ [])
 
 accepts : (x : Answer Result) (out names : List ℕ) (t : Forest Field) (m n : ℕ) (out′ names′ : List ℕ) → x ≡ ok (the-result t) → size t ≡ m → Written t out names n out′ names′
-    → Answering x out names (changed.Done (record { records = m; names = n; «last_id» = 0 })) out′ names′
+    → Answering x out names (changed.Done (record { records = m; names = n; «last_id» = 0; visited = 0 })) out′ names′
 unfolding changes leaves the-result
 accepts x out names t m n out′ names′ e em w = rw (e, ← em, w .bytes) (record { told = refl; left = rw (w .rows, w .pool) refl })
 
@@ -238,7 +238,7 @@ module _ {s p sel : List ℕ} {lr ln c : ℕ} (h : Passed s p sel lr ln c) where
         stop-20 out names y i = refuses _ y (for-records out ∷ for-names names ∷ []) (whole-is ∙ chain-stops 20 0 _ x _ y (g .answer) i)
 
         pub all-written : {a : Step} {plan′ : List (List ℕ)} {m : ℕ} {out names out′ names′ : List ℕ} → x ≡ check.Fine → Kept s marks full Member 16 c 0 plan 0 a plan′ → Written (fields-in (alone s p) plan′ (a .at)) out names m out′ names′
-            → Answering (prune-entry s p sel full lr ln) out names (changed.Done (record { records = a .at; names = m; «last_id» = 0 })) out′ names′
+            → Answering (prune-entry s p sel full lr ln) out names (changed.Done (record { records = a .at; names = m; «last_id» = 0; visited = 0 })) out′ names′
         all-written {a} {plan′} {m} {out} {names} {out′} {names′} i k v =
             let q = kept marks full k in
             accepts _ out names (fields-in (alone s p) plan′ (a .at)) (a .at) m out′ names′

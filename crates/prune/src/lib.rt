@@ -116,6 +116,7 @@ pub fn prune<'a>(
                 records: kept.at as u32,
                 names: names as u32,
                 last_id: 0,
+                visited: 0,
             })
         }
     }

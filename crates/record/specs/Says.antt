@@ -47,5 +47,5 @@ looked (ok o) = sought.Looked (found-row o)
 looked (refused n l p) = sought.Refused (refusal-of n l p)
 
 unfoldable pub changes : Answer Result → Changed
-changes (ok r) = changed.Done (record { records = size (r .tree); names = length (pool-bytes (r .tree)); «last_id» = r .last })
+changes (ok r) = changed.Done (record { records = size (r .tree); names = length (pool-bytes (r .tree)); «last_id» = r .last; visited = r .visited })
 changes (refused n l p) = changed.Refused (refusal-of n l p)

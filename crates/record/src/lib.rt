@@ -77,11 +77,12 @@ pub enum Sought {
     Refused(Refusal),
 }
 
-// How much an accepted answer holds: records, name bytes, and for an update the last id consumed.
+// How much an accepted answer holds: records, name bytes; and for an update the last id consumed and the records visited.
 pub struct Sizes {
     pub records: u32,
     pub names: u32,
     pub last_id: u32,
+    pub visited: u32,
 }
 
 // What update, pruning and renumbering answer; the bytes stand in the lent buffers.

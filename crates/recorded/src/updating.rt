@@ -93,7 +93,7 @@ fn agrees_over(
     fill(records, pattern);
     fill(names, pattern);
     let changed = changed_by(line, inputs, last_id, version, records, names);
-    is_changed(answer(line), changed, records, names, pattern) & is_consumed(answer(line), changed)
+    is_changed(answer(line), changed, records, names, pattern) & is_counted(answer(line), changed)
 }
 
 // Where the inputs of the request end in the buffer.
@@ -171,10 +171,14 @@ fn call(
     update(&trees, &lists, last_id, version, records, names)
 }
 
-// Whether the last id consumed is the recorded one.
-fn is_consumed(answer: &[u8], changed: Changed) -> bool {
+// Whether the last id consumed and the number of records visited are the recorded ones.
+fn is_counted(answer: &[u8], changed: Changed) -> bool {
     match changed {
-        Changed::Done(sizes) => is_number(field(answer, 3), sizes.last_id) & ends(answer, 4),
+        Changed::Done(sizes) => {
+            is_number(field(answer, 3), sizes.last_id)
+                & is_number(field(answer, 4), sizes.visited)
+                & ends(answer, 5)
+        }
         Changed::Refused(_) => true,
     }
 }

@@ -107,7 +107,7 @@ module _ (records pool identifiers : List ℕ) (lr ln li : ℕ) where
   opens = opened records pool identifiers lr ln li
 
   after-6 : (start : ℕ) → Forest Field → Answer Result
-  after-6 start t = renumber t (id-list identifiers) (turned start) >>= λ u. ok (record { tree = u .tree; identifiers = u .identifiers; last = 0 })
+  after-6 start t = renumber t (id-list identifiers) (turned start) >>= λ u. ok (record { tree = u .tree; identifiers = u .identifiers; last = 0; visited = 0 })
 
   module _ (w : Shaped) (ew : w ≡ decoded opens) where
     pub stop-6 : (start : ℕ) (y : Refusal) (out-r out-n out-i : List ℕ) → w ≡ shaped.Refused y → Stops (entry start) y out-r out-n out-i
@@ -205,14 +205,14 @@ module _ (records pool identifiers : List ℕ) (lr ln li : ℕ) where
                     ∙ ap (λ (is : List ℕ). ids-in is (slots records)) (getD-set-same plan 1 new [] (let a = b .roomy .rows in omega arith))
 
                 pub done : (start : ℕ) (out-identifiers identifiers′ : List ℕ) → first ≡ turned start → Mapped identifiers (numbers plan) new (slots records) out-identifiers identifiers′
-                    → Answers changes (entry start) (for-records out-records ∷ for-names out-names ∷ for-identifiers out-identifiers ∷ []) (changed.Done (record { records = slots records; names = names; «last_id» = 0 })) (records′ ∷ names′ ∷ identifiers′ ∷ [])
+                    → Answers changes (entry start) (for-records out-records ∷ for-names out-names ∷ for-identifiers out-identifiers ∷ []) (changed.Done (record { records = slots records; names = names; «last_id» = 0; visited = 0 })) (records′ ∷ names′ ∷ identifiers′ ∷ [])
                 unfolding after-6 renumber _>>=_ changes leaves mapped-bytes
                 done start out-identifiers identifiers′ ef m =
                     let a = few in
                     let z = tree-size in
                     let q : ltb highest (turned start + size tree) ≡ false = le-ltb highest (turned start + size tree) (omega arith) in
                     let B = map (renamed (ids tree) (ids new-tree)) (id-list identifiers) in
-                    let e : entry start ≡ ok (record { tree = new-tree; identifiers = B; last = 0 }) = entry-is start ∙ rw (is-sound, q, ef) in
+                    let e : entry start ≡ ok (record { tree = new-tree; identifiers = B; last = 0; visited = 0 }) = entry-is start ∙ rw (is-sound, q, ef) in
                     let y : size new-tree ≡ slots records = sym (ap size new-tree-is) ∙ fields-size (set plan 1 new) (slots records) (planned .shaped) (alone records pool) in
                     let v′ = rw new-tree-is at v in
                     let written = rw (← ids-are, ← new-ids-are) at (m .bytes) in

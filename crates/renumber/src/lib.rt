@@ -113,6 +113,7 @@ pub fn renumber<'a>(
                 records: n as u32,
                 names: names as u32,
                 last_id: 0,
+                visited: 0,
             })
         }
     }

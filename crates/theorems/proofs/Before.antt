@@ -1,5 +1,5 @@
 -- Without edits an update that names a known version answers what it answered before 02, 5/13: no other step of it asks or
--- changes more.
+-- changes more. Only how many records it visits is new.
 use Prim.Native.Nat.{ℕ}
 use mathlib.Core.Path.{_≡_, refl, ap, _∙_}
 use mathlib.Core.Bool.{Bool, true, _&&_, and-true}
@@ -20,14 +20,15 @@ use Rattle.paper.specs.Lists.{ok-deletion, ok-addition, path-in, ok-edit, edit-
 use Rattle.paper.specs.Decode.{decode}
 use Rattle.paper.specs.Limits.{room, whole, sized, sized-ids, sized-update}
 use Rattle.paper.specs.Lent.{Stored, Lent}
-use Rattle.paper.specs.Entries.{schema-in, request-in, update-entry}
+use Rattle.paper.specs.Entries.{Result, schema-in, request-in, update-entry}
 use Rattle.laws.proofs.Basics.{bind-is}
 use Rattle.theorems.specs.Before as Before
-use Rattle.theorems.specs.Before.{request-before, lent-before}
+use Rattle.theorems.specs.Before.{request-before, lent-before, result-before}
 use Rattle.theorems.proofs.Passing.{unedited, nothing-edited}
 
 -- Steps that are one, and steps after which all goes the same way.
-then-same : {A B : Type 0} (x : Answer A) (f g : A → Answer B) → ((a : A) → f a ≡ g a) → (x >>= f) ≡ (x >>= g)
+then-same : {A : Type 0} (x : Answer A) (f : A → Answer Result) (g : A → Answer Before.Result)
+    → ((a : A) → result-before (f a) ≡ g a) → result-before (x >>= f) ≡ (x >>= g)
 unfolding _>>=_
 then-same (ok a) f g h = h a
 then-same (refused n l p) f g h = refl
@@ -70,18 +71,20 @@ sized-before s q e =
     (and-true lists))
 
 pub as-before-stored : (s : Stored) (q : Lent) → known-version (q .version) ≡ true → q .edits ≡ []
-    → update-entry s q ≡ Before.update-entry s (lent-before q)
+    → result-before (update-entry s q) ≡ Before.update-entry s (lent-before q)
 unfolding update-entry Before.update-entry
 as-before-stored s q known e =
     then-same (roomy (room (q .room-records) (q .room-names))) _ _ λ _.
     rw (sized-before s q e)
     (then-same (limited (Before.sized-update s (lent-before q))) _ _ λ _.
-    bind-is (versioned (known-version (q .version))) _ (tt {0}) (rw known)
+    ap result-before (bind-is (versioned (known-version (q .version))) _ (tt {0}) (rw known))
     ∙
     then-same (decode 0 (s .records) (s .pool)) _ _ λ t.
     then-same (decode 1 (q .added-records) (q .request-pool)) _ _ λ n.
     then-same (entries-ok 2 8 ok-deletion path-in (q .deletions) (q .request-pool)) _ _ λ _.
     then-same (entries-ok 3 8 ok-addition path-in (q .additions) (q .request-pool)) _ _ λ _.
-    bind-is (entries-ok 6 16 ok-edit edit-in (q .edits) (q .request-pool)) _ (tt {0}) (rw e (nothing-edited (q .request-pool)))
+    ap result-before
+    (bind-is (entries-ok 6 16 ok-edit edit-in (q .edits) (q .request-pool)) _ (tt {0}) (rw e (nothing-edited (q .request-pool))))
+    ∙ then-same (update (schema-in s t) (request-in q n)) _ _ (λ _. refl)
     ∙ ap (λ (a : Answer Schema). a >>= λ u. ok (record { tree = u .tree; identifiers = []; last = turned (u .last) }))
     (as-before (schema-in s t) (request-in q n) (rw e (no-edits (q .version) (q .request-pool)))))

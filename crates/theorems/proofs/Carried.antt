@@ -18,9 +18,9 @@ use Rattle.paper.specs.Rebuild.{Addition, rebuilt, added, update}
 use Rattle.laws.specs.Members.{_∈_}
 use Rattle.laws.proofs.Basics.{in-left, in-right, in-append}
 use Rattle.laws.proofs.Edited.{edits-keep-id, edits-keep-kind}
+use Rattle.laws.proofs.Receiving.{gone-node}
 use Rattle.theorems.specs.Columns.{Column, Stands, settings}
 use Rattle.theorems.specs.Edited.{StaysAsSet}
-use Rattle.theorems.proofs.Receiving.{gone-node}
 use Rattle.theorems.proofs.Setting.{as-last-set, decided-edits, planned-steps}
 use Rattle.theorems.proofs.Standing.{accepted}
 

@@ -1,11 +1,10 @@
 -- Edits keep a tree fit: a new name is as short as a byte says, and only members are renamed, so elements, keys and
--- values keep their names; a new type code is of 32 bits, and of a primitive. And they keep which records are structs, and
--- which go.
+-- values keep their names; a new type code is of 32 bits, and of a primitive.
 use Prim.Native.Nat.{ℕ, zero, suc, _-_, _*_, _+_, _<_}
-use mathlib.Core.Path.{_≡_, refl, sym, ap, _∙_}
+use mathlib.Core.Path.{_≡_, refl, sym, _∙_}
 use mathlib.Core.Logic.{inl, inr}
 use mathlib.Core.Bool.{Bool, true, false, _&&_, _||_, cond, true≢false}
-use mathlib.Core.List.{List, [], _∷_, _++_, map}
+use mathlib.Core.List.{List, [], _∷_, _++_}
 use mathlib.Core.Option.{Option, none, some}
 use native.Mathlib.Omega.{arith}
 use lib.Dec.{eqb}
@@ -16,10 +15,9 @@ use Rattle.paper.specs.declared.Kind.the-variants.{Primitive, Structure, Listin
 use Rattle.paper.specs.declared.Role.{Role}
 use Rattle.paper.specs.declared.Role.the-variants.{Member, Element, Key, Value}
 use Rattle.paper.specs.Forest.{Forest, empty, node, siblings, mapped}
-use Rattle.paper.specs.Field.{Field, id-of, kind-of, is-member, is-required, is-primitive, is-struct}
+use Rattle.paper.specs.Field.{Field, is-member, is-required, is-primitive}
 use Rattle.paper.specs.Rows.{Row, Start, top, row, below, beside, rows, look-name}
 use Rattle.paper.specs.Sound.{fitting, ids}
-use Rattle.paper.specs.Gone.{gone, gone-columns}
 use Rattle.paper.specs.Edits.{Change, rename, relax, widen, Edit, Edited, forbidden, no-step, with-change, edit-field}
 use Rattle.paper.specs.Edits.{edit-fields, edited-tree}
 use Rattle.paper.specs.Bytes.{word32, from}
@@ -29,11 +27,10 @@ use Rattle.laws.specs.Members.{_∈_}
 use Rattle.laws.specs.Fit.{Bytes, Holds}
 use Rattle.laws.proofs.Basics.{in-left, in-right, Distinct}
 use Rattle.laws.proofs.Preorder.{siblings-mapped}
-use Rattle.laws.proofs.Edited.{edits-keep-id, edits-keep-kind, ids-mapped}
+use Rattle.laws.proofs.Edited.{edits-keep-kind}
 use Rattle.theorems.specs.Columns.{set-one, set-by, named-by, new-names}
 use Rattle.theorems.proofs.Columns.{one-row}
 use Rattle.theorems.proofs.Shaped.{Shaped}
-use Rattle.theorems.proofs.Receiving.{StructIn, gone-node}
 use Rattle.theorems.proofs.Setting.{name-last, Steps, a-step, AllDecided, row-steps}
 
 -- ---- what holds of each change that is asked holds of each that is set
@@ -225,33 +222,3 @@ shaped-edited es k s (node f m n) u h =
 pub edited-shaped : (t : Forest Field) (ds : List ℕ) (es : List Edited) → Distinct (ids t) → AllDecided t ds [] es
     → AllSet FitChange es → Shaped Member t → Shaped Member (edited-tree es t)
 edited-shaped t ds es d a k h = shaped-edited es k top t (λ r i. (unnamed t ds [] es d a r i, row-steps t ds es d a r i)) h
-
--- ---- ids, structs and what goes
-
-module _ (es : List Edited) where
-  pub edited-ids : (t : Forest Field) → ids (edited-tree es t) ≡ ids t
-  edited-ids = ids-mapped (edit-fields es) (edits-keep-id es)
-
-  pub edited-struct : (x : ℕ) (t : Forest Field) → StructIn x t → StructIn x (edited-tree es t)
-  unfolding mapped
-  edited-struct x empty h = h
-  edited-struct x (node f m n) (inl h) = inl (edits-keep-id es f ∙ h .0, ap is-struct (edits-keep-kind es f) ∙ h .1)
-  edited-struct x (node f m n) (inr (inl h)) = inr (inl (edited-struct x m h))
-  edited-struct x (node f m n) (inr (inr h)) = inr (inr (edited-struct x n h))
-
-  edited-going : (ds : List ℕ) (b : Bool) (t : Forest Field)
-      → map id-of (gone id-of kind-of ds b (edited-tree es t)) ≡ map id-of (gone id-of kind-of ds b t)
-  unfolding mapped
-  edited-going ds b empty = refl
-  edited-going ds b (node f m n) =
-      gone-node ds b (edit-fields es f) (edited-tree es m) (edited-tree es n)
-      ∙ rw (
-        edits-keep-id es f,
-        edits-keep-kind es f,
-        edited-ids m,
-        edited-going ds (is-struct (f .kind)) m,
-        edited-going ds b n,
-      ) (sym (gone-node ds b f m n))
-
-  pub edited-gone : (ds : List ℕ) (t : Forest Field) → gone-columns ds (edited-tree es t) ≡ gone-columns ds t
-  edited-gone ds t = edited-going ds true t

@@ -6,7 +6,6 @@ pub mod Columns
 pub mod Setting
 pub mod Evolution
 pub mod Shaped
-pub mod Receiving
 pub mod Edited
 pub mod Rebuilt
 pub mod Numbering
@@ -19,10 +18,10 @@ pub mod Again
 pub mod Passing
 pub mod Storing
 pub mod Standing
+pub mod Visits
 pub mod Before
 pub mod Carried
 pub mod Renaming
-pub mod Weighing
 pub mod Beginning
 pub mod Wrong
 pub mod One

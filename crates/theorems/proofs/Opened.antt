@@ -11,6 +11,7 @@ use Rattle.paper.specs.Prune.{prune}
 use Rattle.paper.specs.Renumber.{renumber}
 use Rattle.paper.specs.Update.{Schema, planned}
 use Rattle.paper.specs.Rebuild.{update}
+use Rattle.paper.specs.Visited.{visited}
 use Rattle.paper.specs.Bytes.{turned}
 use Rattle.paper.specs.Promotions.{known-version}
 use Rattle.paper.specs.Lists.{id-list}
@@ -116,7 +117,13 @@ pub record OpenedUpdate (s : Stored) (q : Lent) (r : Result) : Type 0 where
   pub new-decodes : decode 1 (q .added-records) (q .request-pool) ≡ ok new
   pub answer : Schema
   pub updates : update (schema-in s tree) (request-in q new) ≡ ok answer
-  pub result : r ≡ record { tree = answer .tree; identifiers = []; last = turned (answer .last) }
+  pub result : r
+      ≡ record {
+        tree = answer .tree;
+        identifiers = [];
+        last = turned (answer .last);
+        visited = visited (schema-in s tree) (request-in q new);
+      }
 
 pub open-update : (s : Stored) (q : Lent) (r : Result) → update-entry s q ≡ ok r → OpenedUpdate s q r
 unfolding update-entry update planned

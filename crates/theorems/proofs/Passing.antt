@@ -41,6 +41,7 @@ use Rattle.theorems.specs.Identified.{PassesAgain, IdentifiersAgain}
 use Rattle.theorems.proofs.Identified.{update-identified, renumber-identified}
 use Rattle.theorems.proofs.Opened.{open-renumber, open-update}
 use Rattle.theorems.proofs.Again.{renumber-entry-fit, update-entry-fit}
+use Rattle.theorems.proofs.Visits.{visits-all}
 
 -- ---- a request that asks for nothing
 
@@ -94,6 +95,7 @@ passes-again t identifiers h few e =
     record {
       accepted = e;
       lent-again = λ last version lr ln l known z.
+          let updates = nothing-asked (schema t (turned last)) (id-list identifiers) (h .limits) e in
           rebind _ _ (rw z)
           (rebind _ _ (rw (sized-written t h, few, nothing-sized))
           (rebind _ _ (rw known)
@@ -102,8 +104,8 @@ passes-again t identifiers h few e =
           (rebind _ _ (nothing-listed 2 ok-deletion path-in [])
           (rebind _ _ (nothing-listed 3 ok-addition path-in [])
           (rebind _ _ (nothing-edited [])
-          (rebind _ _ (nothing-asked (schema t (turned last)) (id-list identifiers) (h .limits) e)
-          (rw (turned-twice last l))))))))));
+          (rebind _ _ updates
+          (rw (turned-twice last l, visits-all _ _ _ updates refl refl))))))))));
     }
 
 -- ---- bytes of ids

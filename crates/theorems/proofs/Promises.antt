@@ -15,10 +15,11 @@ use Rattle.paper.specs.Promotions.{known-version, known-code, allowed}
 use Rattle.paper.specs.Edits.{Edited}
 use Rattle.paper.specs.Update.{Request, Schema, Plan, planned}
 use Rattle.paper.specs.Rebuild.{update}
+use Rattle.paper.specs.Visited.{visited}
 use Rattle.paper.specs.Rows.{Row, look-name}
 use Rattle.paper.specs.Folded.{look-folded}
 use Rattle.paper.specs.Sound.{sound}
-use Rattle.paper.specs.Bytes.{turned}
+use Rattle.paper.specs.Bytes.{turned, slots}
 use Rattle.paper.specs.Lists.{id-list}
 use Rattle.paper.specs.Decode.{decode}
 use Rattle.paper.specs.Encode.{record-bytes, pool-bytes}
@@ -42,9 +43,10 @@ use Rattle.theorems.specs.Stored.{schema-of, BytesLent, LendsBytes, byte
 use Rattle.theorems.specs.Stored.{stored-sets, LastingStored}
 use Rattle.theorems.specs.Identified.{PassesAgain, IdentifiersAgain}
 use Rattle.theorems.specs.Standing.{AdditionsStand, ConsumedAreAdded, NothingVanishes, GoneIsLeftOut, OfStored}
+use Rattle.theorems.specs.Visits.{AnswerAndDropped, ReachedAndAdded, FewVisited, NoneVisited}
 use Rattle.theorems.specs.Edited.{StaysAsSet, RenamesFound, EditedInARow, WidenedInARow}
 use Rattle.theorems.specs.Before as Before
-use Rattle.theorems.specs.Before.{request-before, lent-before}
+use Rattle.theorems.specs.Before.{request-before, lent-before, result-before}
 use Rattle.theorems.specs.Again.{ReadsAgain}
 use Rattle.theorems.specs.Changed.{Pruned, Renumbered}
 use Rattle.theorems.specs.One.{NoByteChanges, PromisedFound, Told, RefusalsTold}
@@ -59,12 +61,14 @@ use Rattle.theorems.proofs.Evolution.{begins-without, lasting, types-ri
 use Rattle.theorems.proofs.Storing.{begins-stored-without, lasting-stored, of-stored}
 use Rattle.theorems.proofs.Identified.{update-identified, renumber-identified}
 use Rattle.theorems.proofs.Passing.{update-passes, renumber-passes}
-use Rattle.theorems.proofs.Standing.{additions-stand, consumed-added}
+use Rattle.theorems.proofs.Standing as Standing
+use Rattle.theorems.proofs.Standing.{additions-stand, consumed-added, gone-left-out}
+use Rattle.theorems.proofs.Visits as Visits
+use Rattle.theorems.proofs.Visits.{visits-answer, visits-added, visits-all, of-visited, few-stored, all-stored}
+use Rattle.theorems.proofs.Visits.{none-visited}
 use Rattle.theorems.proofs.Carried.{stays-as-set}
 use Rattle.theorems.proofs.Renaming.{renames-found}
 use Rattle.theorems.proofs.Before.{as-before, as-before-stored}
-use Rattle.theorems.proofs.Weighing as Weighing
-use Rattle.theorems.proofs.Weighing.{gone-left-out}
 use Rattle.theorems.proofs.Beginning.{T-schema, T-stored, T-requests, T-begins, T-begins-stored}
 use Rattle.theorems.proofs.Beginning.{T-lends-bytes, accepted-in-a-row}
 use Rattle.theorems.proofs.Beginning.{keyed-schema, keyed-stored, keyed-by, keyed-requests, keyed-begins}
@@ -271,7 +275,7 @@ consumed-are-added-stored stored lent result bytes added accepted =
 pub nothing-vanishes : (schema : Schema) (request : Request) (plan : Plan) (updated : Schema)
     → planned schema request ≡ ok plan → update schema request ≡ ok updated
     → NothingVanishes schema request plan updated
-nothing-vanishes = Weighing.nothing-vanishes
+nothing-vanishes = Standing.nothing-vanishes
 
 pub nothing-vanishes-stored : (stored : Stored) (lent : Lent) (result : Result) → Bytes (stored .records)
     → BytesLent lent → update-entry stored lent ≡ ok result → OfStored NothingVanishes stored lent result
@@ -289,6 +293,55 @@ pub gone-is-left-out-stored : (stored : Stored) (lent : Lent) (result : Result) 
     → BytesLent lent → update-entry stored lent ≡ ok result → OfStored GoneIsLeftOut stored lent result
 gone-is-left-out-stored stored lent result bytes added accepted =
     of-stored stored lent result bytes added accepted _ gone-is-left-out
+
+-- An accepted update visits the records of its answer, and the dropped members that stand beneath no other dropped one
+-- (02, 7/13);
+pub visits-answer-and-dropped : (schema : Schema) (request : Request) (plan : Plan) (updated : Schema)
+    → planned schema request ≡ ok plan → update schema request ≡ ok updated
+    → AnswerAndDropped (visited schema request) schema request plan updated
+visits-answer-and-dropped = visits-answer
+
+pub visits-answer-and-dropped-stored : (stored : Stored) (lent : Lent) (result : Result) → Bytes (stored .records)
+    → BytesLent lent → update-entry stored lent ≡ ok result
+    → OfStored (AnswerAndDropped (result .visited)) stored lent result
+visits-answer-and-dropped-stored stored lent result bytes added accepted =
+    of-visited stored lent result bytes added accepted AnswerAndDropped visits-answer-and-dropped
+
+-- or, the same number, the base records with no dropped member above them, and every added record.
+pub visits-all-added : (schema : Schema) (request : Request) (plan : Plan) (updated : Schema)
+    → planned schema request ≡ ok plan → update schema request ≡ ok updated
+    → ReachedAndAdded (visited schema request) schema request plan updated
+visits-all-added = visits-added
+
+pub visits-all-added-stored : (stored : Stored) (lent : Lent) (result : Result) → Bytes (stored .records)
+    → BytesLent lent → update-entry stored lent ≡ ok result
+    → OfStored (ReachedAndAdded (result .visited)) stored lent result
+visits-all-added-stored stored lent result bytes added accepted =
+    of-visited stored lent result bytes added accepted ReachedAndAdded visits-all-added
+
+-- They are at most as many as the base has and the request adds; over bytes at most 2,048.
+pub visits-few : (schema : Schema) (request : Request)
+    → visited schema request ≤ size (schema .tree) + size (request .added)
+visits-few = Visits.visits-few
+
+pub visits-few-stored : (stored : Stored) (lent : Lent) (result : Result) → update-entry stored lent ≡ ok result
+    → FewVisited stored lent result
+visits-few-stored = few-stored
+
+-- What neither deletes nor adds visits every base record once, whatever it edits.
+pub nothing-asked-visits-all : (schema : Schema) (request : Request) (updated : Schema)
+    → update schema request ≡ ok updated → request .deletions ≡ [] → request .additions ≡ []
+    → visited schema request ≡ size (schema .tree)
+nothing-asked-visits-all = visits-all
+
+pub nothing-asked-visits-all-stored : (stored : Stored) (lent : Lent) (result : Result)
+    → update-entry stored lent ≡ ok result → lent .deletions ≡ [] → lent .additions ≡ []
+    → result .visited ≡ slots (stored .records)
+nothing-asked-visits-all-stored = all-stored
+
+-- A refusal tells that none was visited; so does a pruning or a renumbering.
+pub refusals-visit-nothing : NoneVisited
+refusals-visit-nothing = none-visited
 
 -- What stays is as it was last set: each column of the base that does not go stands in the answer, and but for its name,
 -- whether it is required and its type code, which are as the request sets them, it is as it was.
@@ -319,9 +372,9 @@ pub no-edits-as-before : (schema : Schema) (request : Request) → request .edit
     → update schema request ≡ Before.update schema (request-before request)
 no-edits-as-before = as-before
 
--- over bytes one that names a known version (25).
+-- over bytes one that names a known version (25), but for how many records it visits (02, 7/13).
 pub no-edits-as-before-stored : (stored : Stored) (lent : Lent) → known-version (lent .version) ≡ true → lent .edits ≡ []
-    → update-entry stored lent ≡ Before.update-entry stored (lent-before lent)
+    → result-before (update-entry stored lent) ≡ Before.update-entry stored (lent-before lent)
 no-edits-as-before-stored = as-before-stored
 
 -- ---- runs end

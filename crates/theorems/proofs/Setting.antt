@@ -25,10 +25,10 @@ use Rattle.laws.proofs.Own.{sound-distinct}
 use Rattle.laws.proofs.Rows.{name-found}
 use Rattle.laws.proofs.RoundTrip.{both}
 use Rattle.laws.proofs.Edited.{fields-keep, edit-keeps-id, edits-keep-id, edits-keep-kind, edits-keep-attribute}
+use Rattle.laws.proofs.Receiving.{demand-ok}
 use Rattle.theorems.specs.Columns.{Column, Has, set-one, set-by, settings, last-of, named-by, new-names, Widening, widened-by}
 use Rattle.theorems.specs.Columns.{widenings, new-codes, Stepwise, is-relax, relaxes, has-default, SameColumn, AsLastSet}
 use Rattle.theorems.proofs.Columns.{stands-row, one-row}
-use Rattle.theorems.proofs.Receiving.{demand-ok}
 
 -- ---- the flags
 

@@ -1,32 +1,35 @@
--- Every addition of an accepted update stands in the answer, and no other id is consumed. What receives an
--- addition stays (Receiving.antt), so the rebuild comes to its open members and puts the addition behind them.
-use Prim.Native.Nat.{ℕ, suc, _+_}
+-- Every addition of an accepted update stands in the answer, and no other id is consumed. What receives an addition
+-- stays (Receiving.antt of laws), so the rebuild comes to its open members and puts the addition behind them. By
+-- weights of ids (Weighing.antt there) nothing vanishes, and what goes is what the answer leaves out.
+use Prim.Native.Nat.{ℕ, zero, suc}
 use mathlib.Core.Path.{_≡_, refl, sym, ap, subst, _∙_}
 use mathlib.Core.Logic.{inl, inr, ⊎-elim}
 use mathlib.Core.Bool.{Bool, true, false, cond}
 use mathlib.Core.List.{List, [], _∷_, _++_, map}
 use mathlib.Core.Option.{Option, none, some}
 use native.Mathlib.Omega.{arith}
+use lib.Dec.{eqb}
+use lib.ListN.{length}
 use Rattle.paper.specs.Answer.{ok}
 use Rattle.paper.specs.Forest.{Forest, empty, node, size, _then_}
 use Rattle.paper.specs.Field.{Field, id-of, kind-of, is-struct}
 use Rattle.paper.specs.Sound.{ids}
-use Rattle.paper.specs.Gone.{dropped-member, gone}
+use Rattle.paper.specs.Gone.{dropped-member, gone, gone-columns}
 use Rattle.paper.specs.Edits.{edited-tree}
 use Rattle.paper.specs.Update.{Request, Schema, Plan, planned}
 use Rattle.paper.specs.Rebuild.{Addition, same-parent, arriving, rebuilt, added, carried-out, update}
 use Rattle.laws.specs.Members.{_∈_}
 use Rattle.laws.proofs.Basics.{unbind, ok-is, in-left, in-right, in-append, Distinct, eqb-self}
 use Rattle.laws.proofs.Own.{sound-distinct}
-use Rattle.theorems.specs.Numbers.{range}
+use Rattle.laws.proofs.Receiving.{StructIn, struct-id, gone-node, Stays, AllStay, still-stay}
+use Rattle.laws.proofs.Weighing.{sum, sum-append, loads, sum-ones, sum-rebuilt, size-rebuilt}
+use Rattle.theorems.specs.Numbers.{range, tally}
 use Rattle.theorems.specs.Columns.{Column, Stands, Found}
 use Rattle.theorems.specs.Run.{Consumed, given}
-use Rattle.theorems.specs.Standing.{Adds, AdditionsStand, ConsumedAreAdded}
-use Rattle.theorems.proofs.Counting.{in-range, in-tally, once}
+use Rattle.theorems.specs.Standing.{Adds, AdditionsStand, ConsumedAreAdded, NothingVanishes, GoneIsLeftOut}
+use Rattle.theorems.proofs.Counting.{in-range, tally-in, in-tally, tally-out, tally-distinct, once}
 use Rattle.theorems.proofs.Columns.{stands-id, column-of, then-left, then-right}
-use Rattle.theorems.proofs.Evolution.{from-found, update-consumes, update-follows}
-use Rattle.theorems.proofs.Receiving.{StructIn, struct-id, gone-node, Stays, AllStay, all-stay}
-use Rattle.theorems.proofs.Edited.{edited-struct, edited-gone}
+use Rattle.theorems.proofs.Evolution.{from-found, planned-ids, update-consumes, update-follows}
 
 -- ---- where an addition is received
 
@@ -123,21 +126,6 @@ accepted s q p u e₁ e =
           same;
     }
 
--- What receives an addition stays in the edited base.
-pub still-stay : (s : Schema) (q : Request) (p : Plan) → planned s q ≡ ok p
-    → AllStay (edited-tree (p .edits) (s .tree)) (p .dropped) (added s q p)
-still-stay s q p e = go (added s q p) (all-stay s q p e)
-  where
-    one : (x : Option ℕ) → Stays (s .tree) (p .dropped) x → Stays (edited-tree (p .edits) (s .tree)) (p .dropped) x
-    one none h = tt
-    one (some x) h =
-        (edited-struct (p .edits) x (s .tree) (h .0), λ k. h .1 (rw (edited-gone (p .edits) (p .dropped) (s .tree)) at k))
-
-    go : (adds : List (Addition Field)) → AllStay (s .tree) (p .dropped) adds
-        → AllStay (edited-tree (p .edits) (s .tree)) (p .dropped) adds
-    go [] h = tt
-    go (a ∷ rest) h = (one (a .parent) (h .0), go rest (h .1))
-
 pub additions-stand : (s : Schema) (q : Request) (p : Plan) (u : Schema) → planned s q ≡ ok p → update s q ≡ ok u
     → AdditionsStand s q p u
 additions-stand s q p u e₁ e c h =
@@ -192,3 +180,60 @@ consumed-added s q p u e₁ e =
             (f .keeps (c .column) (c .stands)),
       );
     }
+
+-- ---- nothing vanishes
+
+sum-given : (w : ℕ → ℕ) (adds : List (Addition Field)) → sum w (given adds) ≡ loads w adds
+sum-given w [] = refl
+sum-given w (a ∷ rest) = sum-append w (ids (a .tree)) (given rest) ∙ rw (sum-given w rest)
+
+-- As many records are added as ids are given: one for each record of the additions tree.
+pub loads-added : (s : Schema) (q : Request) (p : Plan) → planned s q ≡ ok p
+    → loads (λ _. 1) (added s q p) ≡ size (q .added)
+loads-added s q p e =
+    sym (sum-given (λ _. 1) (added s q p)) ∙ sum-ones (given (added s q p)) ∙ ap length (planned-ids s q p e .0)
+    ∙ length-range (suc (s .last)) (size (q .added))
+  where
+    length-range : (c n : ℕ) → length (range c n) ≡ n
+    length-range c zero = refl
+    length-range c (suc n) = ap suc (length-range (suc c) n)
+
+module _ (s : Schema) (q : Request) (p : Plan) (u : Schema) (e₁ : planned s q ≡ ok p) (e : update s q ≡ ok u) where
+  -- By weights of one each; and of one for an id, none for the others.
+  pub nothing-vanishes : NothingVanishes s q p u
+  nothing-vanishes =
+      let tree = accepted s q p u e₁ e .tree in
+      record {
+        as-many =
+            let r = rw (← tree) at (size-rebuilt s q p e₁) in
+            let l = loads-added s q p e₁ in
+            omega arith;
+        each-id = λ x.
+            let r = rw (← tree) at (sum-rebuilt (λ y. cond (eqb x y) 1 0) s q p e₁) in
+            let a = sum-tally x (ids (u .tree)) in
+            let b = sum-tally x (gone-columns (p .dropped) (s .tree)) in
+            let c = sum-tally x (ids (s .tree)) in
+            let d = sum-given (λ y. cond (eqb x y) 1 0) (added s q p) in
+            let f = sum-tally x (given (added s q p)) in
+            omega arith;
+      }
+    where
+      sum-tally : (x : ℕ) (l : List ℕ) → sum (λ y. cond (eqb x y) 1 0) l ≡ tally x l
+      sum-tally x [] = refl
+      sum-tally x (y ∷ l) = let r = sum-tally x l in omega arith
+
+  -- An id of the base stands there once, so it is counted once in what goes and the answer.
+  pub gone-left-out : GoneIsLeftOut s q p u
+  gone-left-out x found out =
+      let r = nothing-vanishes .each-id x in
+      let there = tally-in x (ids (s .tree)) found in
+      let one = tally-distinct x (ids (s .tree)) (accepted s q p u e₁ e .distinct) in
+      let not-given = tally-out x (given (added s q p)) out in (
+        λ h k.
+            let g = tally-in x (gone-columns (p .dropped) (s .tree)) h in
+            let f = tally-in x (ids (u .tree)) k in
+            omega arith,
+        λ missing.
+            let f = tally-out x (ids (u .tree)) missing in
+            in-tally x (gone-columns (p .dropped) (s .tree)) (omega arith),
+      )

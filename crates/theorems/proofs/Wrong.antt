@@ -16,6 +16,7 @@ use Rattle.paper.specs.Promotions.{known-version}
 use Rattle.paper.specs.Edits.{edited-one, edited-all, edit-fields}
 use Rattle.paper.specs.Update.{deleted, member-taken, placed, placed-all, planned}
 use Rattle.paper.specs.Rebuild.{fresh, arrivals, arriving, rebuilt, carried-out, update}
+use Rattle.paper.specs.Visited.{reached, arrived, visited}
 use Rattle.paper.specs.Bytes.{word16, word32, turned, ok-bytes, in-pool, kind-from, name-of, field-at, from}
 use Rattle.paper.specs.Lists.{ok-deletion, ok-addition, path-in, ok-edit, edit-in, entries-ok, path-of, parent-path}
 use Rattle.paper.specs.Lists.{deletion-paths, addition-paths, edit-path, new-name, edit-of, edit-list, id-list}
@@ -40,12 +41,12 @@ abbrev third : List ℕ → ℕ
 third l = getD l 2 0
 
 record Computed : Type 0 where
-  P4-counts : changed (P4 update-entry) ≡ counted 10 48 11
-  two-added-counts : changed (two-added update-entry) ≡ counted 9 42 12
+  P4-counts : changed (P4 update-entry) ≡ counted 10 48 11 11
+  two-added-counts : changed (two-added update-entry) ≡ counted 9 42 12 10
   P4-third : third (ids-of (P4 update-entry)) ≡ 2_147_483_648 + 11
   T-third : third (ids T) ≡ 2_147_483_648 + 5
-  P4-first-counts : changed (P4-first update-entry) ≡ counted 9 44 10
-  two-added-first-counts : changed (two-added-first update-entry) ≡ counted 8 37 11
+  P4-first-counts : changed (P4-first update-entry) ≡ counted 9 44 10 10
+  two-added-first-counts : changed (two-added-first update-entry) ≡ counted 8 37 11 9
   P8-many : length (ids-of (P8 prune-entry)) ≡ 3
   P9-many : length (ids-of (P9 prune-entry)) ≡ 1
 
@@ -53,7 +54,7 @@ answers : Computed
 unfolding update-entry prune-entry known-version changed _>>=_ lowest size siblings levels preorder counts mapped _then_
     rows entered look-name fitting misnamed names ids sound name-bytes within prune
     gone deleted member-taken placed placed-all edited-one edited-all planned edit-fields fresh arrivals arriving rebuilt carried-out update
-    word16 word32 turned ok-bytes in-pool kind-from name-of field-at from
+    reached arrived visited word16 word32 turned ok-bytes in-pool kind-from name-of field-at from
     ok-deletion ok-addition path-in ok-edit edit-in entries-ok path-of parent-path deletion-paths addition-paths
     edit-path new-name edit-of edit-list id-list
     deep row-with row roots fields decode row24 encode-records encode-names pool-bytes
@@ -71,8 +72,8 @@ answers =
     }
 
 -- Two answers that are one have one record count, and as many ids.
-counts-differ : (a b : Answer Result) {m m′ k k′ i i′ : ℕ} → changed a ≡ counted m k i
-    → changed b ≡ counted m′ k′ i′ → a ≡ b
+counts-differ : (a b : Answer Result) {m m′ k k′ i i′ v v′ : ℕ} → changed a ≡ counted m k i v
+    → changed b ≡ counted m′ k′ i′ v′ → a ≡ b
     → m ≡ m′
 counts-differ a b e e′ q = ap (λ (c : Changed). c .records) (sym e ∙ ap changed q ∙ e′)
 

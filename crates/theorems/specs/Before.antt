@@ -1,12 +1,13 @@
 -- The update as it was before 02, 5/13, in its own words. What it calls is as it was; but `dotless` took no list, and
--- gave 3, and `entries-ok` asked `path-in` of entries of 8 bytes.
+-- gave 3, and `entries-ok` asked `path-in` of entries of 8 bytes. Its answer told no number of records visited, which
+-- came with 02, 7/13.
 use Prim.Native.Nat.{ℕ}
 use mathlib.Core.Bool.{Bool, true, _&&_}
 use mathlib.Core.List.{List, []}
 use mathlib.Core.Option.{Option, none}
 use lib.Dec.{eqb}
 use lib.ListN.{length}
-use Rattle.paper.specs.Answer.{Answer, ok, _>>=_, _>>_}
+use Rattle.paper.specs.Answer.{Answer, ok, refused, _>>=_, _>>_}
 use Rattle.paper.specs.Refusals.{roomy, limited, matched, rebuilt-within}
 use Rattle.paper.specs.Forest.{Forest, siblings}
 use Rattle.paper.specs.Field.{Field, id-of, kind-of, with-id}
@@ -20,7 +21,8 @@ use Rattle.paper.specs.Decode.{decode}
 use Rattle.paper.specs.Limits.{room, whole, sized, sized-ids}
 use Rattle.paper.specs.Lent.{Stored}
 use Rattle.paper.specs.Lent as Today
-use Rattle.paper.specs.Entries.{Result, schema-in}
+use Rattle.paper.specs.Entries.{schema-in}
+use Rattle.paper.specs.Entries as Entries
 
 -- ---- over forests
 
@@ -82,6 +84,11 @@ request-in lent added =
       added = added;
     }
 
+pub record Result : Type 0 where
+  pub tree : Forest Field
+  pub identifiers : List ℕ
+  pub last : ℕ
+
 unfoldable pub update-entry : Stored → Lent → Answer Result
 update-entry stored lent = do
   roomy (room (lent .room-records) (lent .room-names))
@@ -115,3 +122,9 @@ lent-before lent =
       room-records = lent .room-records;
       room-names = lent .room-names;
     }
+
+-- ---- what is answered today, but for its number of records visited
+
+abbrev pub result-before : Answer Entries.Result → Answer Result
+result-before (ok result) = ok (record { tree = result .tree; identifiers = result .identifiers; last = result .last })
+result-before (refused n l p) = refused n l p

@@ -6,7 +6,7 @@ use mathlib.Core.Bool.{true}
 use mathlib.Core.List.{List, []}
 use lib.ListN.{length, take}
 use Rattle.paper.specs.Answer.{ok}
-use Rattle.paper.specs.Forest.{Forest}
+use Rattle.paper.specs.Forest.{Forest, size}
 use Rattle.paper.specs.Field.{Field}
 use Rattle.paper.specs.Sound.{sound}
 use Rattle.paper.specs.Promotions.{known-version}
@@ -37,11 +37,11 @@ pub record PassesAgain (tree : Forest Field) (identifiers : List ℕ) : Type 0 w
   -- 7 to 9 accept the tree with them.
   pub accepted : sound 0 tree (id-list identifiers) ≡ ok tt
   -- So does an update, from 1 on, that is lent the bytes of both, names a known version and asks for nothing. It answers that
-  -- tree, and the last id that it was given.
+  -- tree, and the last id that it was given, and visits every record.
   pub lent-again : (last version room-records room-names : ℕ) → last < 4294967296 → known-version version ≡ true
       → room room-records room-names ≡ true
       → update-entry (bytes-of tree last) (nothing-with identifiers version room-records room-names)
-      ≡ ok (record { tree = tree; identifiers = []; last = last })
+      ≡ ok (record { tree = tree; identifiers = []; last = last; visited = size tree })
 
 -- Of what an accepted renumbering answers to so many bytes of identifiers.
 pub record IdentifiersAgain (identifiers : List ℕ) (result : Result) : Type 0 where

@@ -26,18 +26,18 @@ abbrev pub two-added-first : AnUpdate → Answer Result
 two-added-first update = asked-update update ("visits" ∷ []) (("fault" under "node") ∷ [])
 
 -- What an accepted answer says.
-abbrev pub counted : (records names last-id : ℕ) → Changed
-counted records names last-id =
-    record { refusal = 0; list = 0; place = 0; records = records; names = names; last-id = last-id }
+abbrev pub counted : (records names last-id visited : ℕ) → Changed
+counted records names last-id visited =
+    record { refusal = 0; list = 0; place = 0; records = records; names = names; last-id = last-id; visited = visited }
 
 -- What an update can't be that answers P4 and the two additions as the paper does.
 pub record RightUpdate (update : AnUpdate) : Type 0 where
   pub not-all-down : (n l p : ℕ) → P4 update ≡ refused n l p → ⊥
   pub not-no-op : (result : Result) → P4 update ≡ ok result → result .tree ≡ T → ⊥
   pub not-first-alone : (P4 update ≡ P4-first update-entry → ⊥) × (two-added update ≡ two-added-first update-entry → ⊥)
-  -- Record count, name bytes and last id are these, so no made-up ones.
-  pub P4-counts : changed (P4 update) ≡ counted 10 48 11
-  pub two-added-counts : changed (two-added update) ≡ counted 9 42 12
+  -- Record count, name bytes, last id and records visited are these, so no made-up ones.
+  pub P4-counts : changed (P4 update) ≡ counted 10 48 11 11
+  pub two-added-counts : changed (two-added update) ≡ counted 9 42 12 10
 
 -- ---- pruners
 

@@ -20,6 +20,7 @@ use Rattle.paper.specs.Promotions.{known-version}
 use Rattle.paper.specs.Sound.{sound, within}
 use Rattle.paper.specs.Update.{Schema, schema, planned}
 use Rattle.paper.specs.Rebuild.{arrivals, rebuilt, carried-out, update}
+use Rattle.paper.specs.Visited.{visited}
 use Rattle.paper.specs.Entries.{Result, request-in, update-entry}
 use Rattle.paper.specs.Outcome.{Buffer, for-records, for-names, Answers}
 use Rattle.record.specs.declared.Check.{Check}
@@ -32,6 +33,7 @@ use Rattle.record.specs.Trees.{Trees, Lists, stored-in, lent-in}
 use Rattle.record.proofs.Testing.{checked-ok, checked-refused, refuses}
 use Rattle.laws.proofs.Basics.{unbind, ok-is, fault-if-ok}
 use Rattle.laws.proofs.Fitting.{rooms-of}
+use Rattle.laws.proofs.Visiting.{visited-is}
 use Rattle.record_limits.proofs.Within.{update-sized, identifiers-most, deletions-most}
 use Rattle.plan.specs.Table.{Roomy}
 use Rattle.index_ids.specs.Table.{Rooms}
@@ -48,12 +50,12 @@ use Rattle.update_schema.specs.declared.Decided.the-variants as decided
 use Rattle.update_schema.specs.Base.{DecisionsRoom}
 use Rattle.update_dropped.specs.Gathered.{row-ids}
 use Rattle.update_schema.specs.Additions.{parents-in}
-use Rattle.update_write.specs.Ending.{sounded, limited-sounded, Rebuildable, rebuilt-tree, Ends}
+use Rattle.update_write.specs.Ending.{sounded, limited-sounded, Rebuildable, rebuilt-tree, visited-in, Ends}
 use Rattle.update.specs.Updating.{given-in, Passed, Decidable, Settled, Settles}
 use Rattle.update.proofs.Settling.{Contents, contents}
 
-abbrev result-of : Schema → Result
-result-of u = record { tree = u .tree; identifiers = []; last = turned (u .last) }
+abbrev result-of : ℕ → Schema → Result
+result-of visits u = record { tree = u .tree; identifiers = []; last = turned (u .last); visited = visits }
 
 open-ok : (P : Type 0) (x : Answer Forests) (c k : ℕ) → it.Roots c k ≡ opened x → ((base added : Forest Field) → x ≡ ok (both-trees base added) → c ≡ siblings base → k ≡ siblings added → P) → P
 unfolding opened
@@ -133,7 +135,9 @@ module _ (l : Trees) (lists : Lists) (last version : ℕ) (out text : List ℕ) 
 
   -- what follows 6
   abbrev carried : ℕ → Forest Field → Forest Field → Answer Result
-  carried g base added = update (schema base g) (request-in (lent-in l lists version 0 0) added) >>= λ u. ok (result-of u)
+  carried g base added =
+      update (schema base g) (request-in (lent-in l lists version 0 0) added)
+      >>= λ u. ok (result-of (visited (schema base g) (request-in (lent-in l lists version 0 0) added)) u)
 
   entry-is : entry ≡ (open-first >>= λ v. carried (turned last) (v .base) (v .added))
   unfolding update-entry opening readable _>>=_
@@ -232,12 +236,16 @@ module _ (l : Trees) (lists : Lists) (last version : ℕ) (out text : List ℕ) 
               unfolding rebuilt-tree
               tree-is = rw (the-plan .arrive)
 
+              -- what is counted is what the paper says of base and request
+              visits-are : visited-in (given-in l lists consumed version) decisions′ base paper-tree ≡ visited (schema base g) (request-in (lent-in l lists version 0 0) added)
+              visits-are = visited-is (schema base g) (request-in (lent-in l lists version 0 0) added) _ (the-plan .is)
+
               carried-is : carried g base added
-                  ≡ limited-sounded paper-tree (id-list (lists .identifiers)) (turned consumed)
+                  ≡ limited-sounded paper-tree (id-list (lists .identifiers)) (turned consumed) (visited-in (given-in l lists consumed version) decisions′ base paper-tree)
               unfolding update carried-out limited-sounded sounded _>>=_
               carried-is =
-                  rw (the-plan .is)
-                  (end-joined (rebuilt-within (within paper-tree)) (sound 4 paper-tree (id-list (lists .identifiers))) (record { tree = paper-tree; last = consumed }) (λ u. ok (result-of u)))
+                  rw (visits-are, the-plan .is)
+                  (end-joined (rebuilt-within (within paper-tree)) (sound 4 paper-tree (id-list (lists .identifiers))) (record { tree = paper-tree; last = consumed }) (λ u. ok (result-of _ u)))
 
               pub all-written : (r : Changed) (out′ text′ : List ℕ) → Ends l (lists .identifiers) given decisions′ marks′ out text r out′ text′ → Ends-so r out′ text′
               all-written r out′ text′ n =

@@ -27,7 +27,7 @@ use Rattle.update_lasts.specs.Calls.{Call, Contract, of-update, of-c-upd
 -- ---- what the paper's answer says
 
 abbrev said : Answer Result → Option Sizes
-said (ok r) = some (record { records = size (r .tree); names = length (pool-bytes (r .tree)); «last_id» = r .last })
+said (ok r) = some (record { records = size (r .tree); names = length (pool-bytes (r .tree)); «last_id» = r .last; visited = r .visited })
 said (refused n l p) = none
 
 -- A caller of f reads it: a refusal's number is not 0.

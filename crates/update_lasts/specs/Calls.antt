@@ -35,7 +35,7 @@ pub record Call (A : Type 0) : Type 0 where
 -- ---- the two contracts
 
 -- How a function tells the paper's answer, and what a caller reads in it: of an acceptance how many records and
--- name bytes it left and the last id, of a refusal nothing.
+-- name bytes it left, the last id and the records visited, of a refusal nothing.
 pub record Contract (A : Type 0) : Type 0 where
   pub says : Answer Result → A
   pub sizes : A → Option Sizes
@@ -50,10 +50,11 @@ abbrev pub sizes-of : Changed → Option Sizes
 sizes-of (Done z) = some z
 sizes-of (Refused x) = none
 
--- In six numbers a refusal is not 0.
+-- In seven numbers a refusal is not 0.
 abbrev pub sizes-in : ChangedNumbers → Option Sizes
 sizes-in c =
-    cond (eqb (c .refusal) 0) (some (record { records = c .records; names = c .names; «last_id» = c .«last_id» })) none
+    cond (eqb (c .refusal) 0)
+    (some (record { records = c .records; names = c .names; «last_id» = c .«last_id»; visited = c .visited })) none
 
 -- `update::update`,
 abbrev pub of-update : Contract Changed

@@ -66,30 +66,33 @@ module _ (added : List ℕ) (n : ℕ) (unders firsts starts : List ℕ) (total q
   unfolding additions arriving-from
   rest-all = rw (from-all at-place total)
 
-  module _ (past lv i c : ℕ) (plan : List (List ℕ)) where
+  module _ (past lv i c v : ℕ) (plan : List (List ℕ)) where
     -- whatever plans what arrives from the j-th addition on plans all that arrives
-    abbrev pub Rest : (j : ℕ) (here : Place) (plan′ : List (List ℕ)) → Type 0
-    Rest j here plan′ = Onward (Planned all past lv i c plan) (arriving-from j) (here .next) lv (here .at) (here .count) plan′
+    pub record Rest (j : ℕ) (here : Place) (plan′ : List (List ℕ)) : Type 0 where
+      pub on : Onward (Planned all 0 past lv i c v plan) (arriving-from j) 0 (here .next) lv (here .at) (here .count) (here .visited) plan′
+      pub seen : here .visited ≤ here .at + 1024
 
-    pub all-starts : i ≤ 1024 → c ≤ i → length plan ≡ 3 → Rest 0 (record { next = past; at = i; count = c }) plan
-    all-starts h g e = onward-same (onward-starts h g e) rest-all refl
+    pub all-starts : i ≤ 1024 → c ≤ i → v ≤ i + 1024 → length plan ≡ 3 → Rest 0 (record { next = past; at = i; count = c; visited = v }) plan
+    all-starts h g s e = record { on = onward-same (onward-starts h g e) rest-all refl; seen = s }
 
-    module _ (j : ℕ) (here : Place) (p₁ : List (List ℕ)) (on : Rest j here p₁) where
+    module _ (j : ℕ) (here : Place) (p₁ : List (List ℕ)) (h : Rest j here p₁) where
       pub all-skips : Resolved added n unders firsts total → q ≤ 4294967296 → j < total → (getD unders j 0 ≡ q → ⊥) → Rest (j + 1) here p₁
-      all-skips r hq l d = onward-same on (rest-other j l (r .under j l) hq d) refl
+      all-skips r hq l d = record { on = onward-same (h .on) (rest-other j l (r .under j l) hq d) refl; seen = h .seen }
 
-      pub all-done : total ≤ j → Planned all past lv i c plan (Went here) p₁
-      all-done l = onward-done on (rest-none j l)
+      pub all-done : total ≤ j → Planned all 0 past lv i c v plan (Went here) p₁
+      all-done l = onward-done (h .on) (rest-none j l) refl
 
-      module _ (k id : ℕ) (r : Step) (p₂ : List (List ℕ)) (l : j < total) (e : getD unders j 0 ≡ q) (ek : k ≡ getD firsts j 0) (ei : id ≡ getD starts j 0 % 4294967296) (p : Planned (added-tree added n k id) (here .next) lv (here .at) (here .count) p₁ r p₂) where
+      module _ (k id : ℕ) (r : Step) (p₂ : List (List ℕ)) (l : j < total) (e : getD unders j 0 ≡ q) (ek : k ≡ getD firsts j 0) (ei : id ≡ getD starts j 0 % 4294967296) (p : Planned (added-tree added n k id) 0 (here .next) lv (here .at) (here .count) (here .visited) p₁ r p₂) where
         first : arriving-from j ≡ added-tree added n k id then arriving-from (j + 1)
         first = rw (ek, ei, low-tree added n (getD firsts j 0) (getD starts j 0)) (rest-here j l e)
 
         pub all-goes : (w : Place) → r ≡ Went w → Rest (j + 1) w p₂
-        all-goes w er = let v = went-whole p er in onward-goes on first (sym (v .next)) v
+        all-goes w er =
+            let u = went-whole p er in
+            record { on = onward-goes (h .on) first refl (sym (u .next)) u; seen = omega (arith, u .at, u .visited, h .seen) }
 
-        pub all-stops : r ≡ Full → Planned all past lv i c plan Full p₂
-        all-stops er = onward-stops on (added-tree added n k id) (arriving-from (j + 1)) first (full-over p er)
+        pub all-stops : r ≡ Full → Planned all 0 past lv i c v plan Full p₂
+        all-stops er = onward-stops (h .on) (added-tree added n k id) (arriving-from (j + 1)) first (full-over p er)
 
 pub resolved-first : (added : List ℕ) (n : ℕ) (unders firsts : List ℕ) (total j k : ℕ) → Resolved added n unders firsts total → j < total → k ≡ getD firsts j 0 → k ≤ n
 resolved-first added n unders firsts total j k h l e = rw e (h .first j l)

@@ -22,9 +22,10 @@ use Rattle.tree.proofs.Filled.{ended-ok, ended-no, end-room}
 use Rattle.tree.proofs.Depth.{row-is-low, row-reads-low}
 use Rattle.tree.proofs.Steps.{part-is, part-full, was-read}
 use Rattle.plan.specs.Plan.{Source, slot-of, bits-of}
+use Rattle.update_rebuild.specs.declared.Place.{Place}
 use Rattle.update_rebuild.specs.declared.Step.the-variants as step
 use Rattle.update_rebuild.specs.Sources.{added-source, added-tree}
-use Rattle.update_rebuild.specs.Planned.{Planned, AddedIn}
+use Rattle.update_rebuild.specs.Planned.{Planned, AddedIn, StandsAt}
 
 -- Ids in preorder are ids by the slot.
 fresh-row : (kids id : ℕ → ℕ) (n c k : ℕ) (t : Forest ℕ) → Laid kids n k t → ((d : ℕ) → id (k + d) ≡ c + d) → fresh added-source c t ≡ mapped (λ j. added-source (id j) j) t
@@ -34,7 +35,7 @@ fresh-row kids id n c k (node j m u) h e =
     let first : id k ≡ c = rw (add-zero k, add-zero c) at (e 0) in
     rw (h .0, first, fresh-row kids id n (suc c) (suc k) m (h .3) (λ d. let z : suc k + d ≡ k + suc d = omega arith in rw z (e (suc d) ∙ omega arith)), fresh-row kids id n (suc (c + size m)) (suc (k + size m)) u (h .4) (λ d. let z : suc (k + size m) + d ≡ k + suc (size m + d) = omega arith in rw z (e (suc (size m + d)) ∙ omega arith)))
 
-module _ (added : List ℕ) (n k id past lv i c : ℕ) (plan : List (List ℕ)) (w : Walked) (few : lv ≤ 16) (ew : w ≡ ended (row 1 (kids-at added) n lv 1 k)) (h : reads 1 (kids-at added) n 16 1 k ≡ true) where
+module _ (added : List ℕ) (n k id past lv i c v : ℕ) (plan : List (List ℕ)) (w : Walked) (few : lv ≤ 16) (ew : w ≡ ended (row 1 (kids-at added) n lv 1 k)) (h : reads 1 (kids-at added) n 16 1 k ≡ true) where
   abbrev slots : Forest ℕ
   slots = part 1 (kids-at added) n 16 1 k .trees
 
@@ -56,18 +57,19 @@ module _ (added : List ℕ) (n k id past lv i c : ℕ) (plan : List (List ℕ)) 
       let b = ap (λ (q : Part). q .next) z in
       (omega arith, omega (arith, f .next))
 
-  pub tree-goes : (e : ℕ) (p₁ : List (List ℕ)) → w ≡ End e → i ≤ 1024 → e - k ≤ 1024 - i → AddedIn (kids-at added) k (e - k) (turned id) plan i p₁
-      → Planned (added-tree added n k id) past lv i c plan (step.Went (record { next = past; at = i + (e - k); count = c + 1 })) p₁
-  tree-goes e p₁ ee l m r =
+  pub tree-goes : (e : ℕ) (p₁ : List (List ℕ)) → w ≡ End e → i ≤ 1024 → e - k ≤ 1024 - i → AddedIn (kids-at added) k (e - k) (turned id) plan i p₁ → (o : Place) → StandsAt past (i + (e - k)) (c + 1) (v + (e - k)) o
+      → Planned (added-tree added n k id) 0 past lv i c v plan (step.Went o) p₁
+  tree-goes e p₁ ee l m r o stands =
       let d = tree-ends e ee in
       let f = part-full 1 (kids-at added) n 16 1 k h in
       let q : preorder (mapped source slots) ≡ from source k (e - k) = preorder-mapped source slots ∙ rw (f .slots, ← (d .1)) (map-from source itself k (e - k)) in
-      rw added-is
+      rw (added-is, stands .is)
       record {
         by = record {
           next = refl;
           at = rw (d .1, size-mapped source slots);
           count = rw (siblings-mapped source slots, f .trees);
+          visited = let z = size-mapped source slots in omega (arith, d .1);
           low = rw (levels-mapped source slots) (d .0);
           room = omega arith;
           laid = record {
@@ -79,10 +81,10 @@ module _ (added : List ℕ) (n k id past lv i c : ℕ) (plan : List (List ℕ)) 
         };
       }
 
-  pub tree-wide : (e : ℕ) (p₁ : List (List ℕ)) → w ≡ End e → 1024 - i < e - k → Planned (added-tree added n k id) past lv i c plan step.Full p₁
+  pub tree-wide : (e : ℕ) (p₁ : List (List ℕ)) → w ≡ End e → 1024 - i < e - k → Planned (added-tree added n k id) 0 past lv i c v plan step.Full p₁
   tree-wide e p₁ ee l = rw added-is record { by = record { over = λ y z. let q = size-mapped source slots in omega (arith, tree-ends e ee) } }
 
-  pub tree-deep : (t : Refusal) (p₁ : List (List ℕ)) → w ≡ Refused t → Planned (added-tree added n k id) past lv i c plan step.Full p₁
+  pub tree-deep : (t : Refusal) (p₁ : List (List ℕ)) → w ≡ Refused t → Planned (added-tree added n k id) 0 past lv i c v plan step.Full p₁
   tree-deep t p₁ et =
       let p = part 1 (kids-at added) n 16 1 k in
       rw added-is

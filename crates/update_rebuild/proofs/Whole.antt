@@ -21,7 +21,7 @@ use Rattle.plan.specs.Plan.{Source}
 use Rattle.update_rebuild.specs.declared.Place.{Place}
 use Rattle.update_rebuild.specs.declared.Step.{Step}
 use Rattle.update_rebuild.specs.declared.Step.the-variants.{Went, Full}
-use Rattle.update_rebuild.specs.Sources.{parent, rebuilt-base}
+use Rattle.update_rebuild.specs.Sources.{parent, rebuilt-base, passed-base}
 use Rattle.update_rebuild.specs.Planned.{Readable, Based, PlannedBy, RowPlanned, fits, verdict, Rebuilds}
 
 -- ---- the verdict
@@ -34,23 +34,23 @@ pub of-fits : (t : Forest Source) → fits t ≡ true → (levels t ≤ 16) × (
 unfolding fits
 of-fits t e = let b = both (leb (size t) 1024) (leb (levels t) 16) e in (leb-true (levels t) 16 (b .1), leb-true (size t) 1024 (b .0))
 
-verdict-went : (n : ℕ) (t : Forest Source) (w : Place) → fits t ≡ true → w .next ≡ n → w .at ≡ size t → w .count ≡ siblings t → Went w ≡ verdict n t
+verdict-went : (n d : ℕ) (t : Forest Source) (w : Place) → fits t ≡ true → w .next ≡ n → w .at ≡ size t → w .count ≡ siblings t → w .visited ≡ size t + d → Went w ≡ verdict n d t
 unfolding verdict
-verdict-went n t w e en ea ec = rw (e, ← en, ← ea, ← ec)
+verdict-went n d t w e en ea ec ev = rw (e, ← en, ← ec, ← ev, ← ea)
 
-verdict-full : (n : ℕ) (t : Forest Source) → (fits t ≡ true → ⊥) → Full ≡ verdict n t
+verdict-full : (n d : ℕ) (t : Forest Source) → (fits t ≡ true → ⊥) → Full ≡ verdict n d t
 unfolding verdict
-verdict-full n t h = go (fits t) refl
+verdict-full n d t h = go (fits t) refl
   where
-    go : (b : Bool) → fits t ≡ b → Full ≡ cond (fits t) (Went (record { next = n; at = size t; count = siblings t })) Full
+    go : (b : Bool) → fits t ≡ b → Full ≡ cond (fits t) (Went (record { next = n; at = size t; count = siblings t; visited = size t + d })) Full
     go true e = absurd (h e)
     go false e = rw e
 
-judged : (t : Forest Source) (n : ℕ) (plan : List (List ℕ)) (r : Step) (plan′ : List (List ℕ)) → PlannedBy r t n 16 0 0 plan plan′ → Rebuilds t n plan r plan′
-judged t n plan (Went w) plan′ h = record { answer = verdict-went n t w (fits-of t (h .low) (omega (arith, h .at, h .room))) (h .next) (omega (arith, h .at)) (omega (arith, h .count)); laid = λ e. h .laid }
-judged t n plan Full plan′ h =
+judged : (t : Forest Source) (d n : ℕ) (plan : List (List ℕ)) (r : Step) (plan′ : List (List ℕ)) → PlannedBy r t d n 16 0 0 0 plan plan′ → Rebuilds t d n plan r plan′
+judged t d n plan (Went w) plan′ h = record { answer = verdict-went n d t w (fits-of t (h .low) (omega (arith, h .at, h .room))) (h .next) (omega (arith, h .at)) (omega (arith, h .count)) (omega (arith, h .visited)); laid = λ e. h .laid }
+judged t d n plan Full plan′ h =
     let no : fits t ≡ true → ⊥ = λ e. h .over (of-fits t e .0) (let z = of-fits t e .1 in omega arith) in
-    record { answer = verdict-full n t no; laid = λ e. absurd (no e) }
+    record { answer = verdict-full n d t no; laid = λ e. absurd (no e) }
 
 -- ---- the root list
 
@@ -70,6 +70,6 @@ module _ {records : List ℕ} {n c : ℕ} (b : Based records n c) where
       let e : part 0 (kids-at records) n 16 c 0 ≡ p = part-is 0 (kids-at records) n 16 c 0 p (rw ec (g .0)) in
       rw (ep, e) (refl, g .1)
 
-  pub base-rebuilt : (dropped : List ℕ) (adds : List (Addition Source)) (plan : List (List ℕ)) (r : Step) (plan′ : List (List ℕ)) → RowPlanned records dropped adds n 16 c 0 (parent 0) true plan 0 r plan′ → Rebuilds (rebuilt-base records n dropped adds) n plan r plan′
-  unfolding rebuilt-base parent
-  base-rebuilt dropped adds plan r plan′ h = rw (base-is .0) (judged _ n plan r plan′ (rw (base-is .1) at (h .by)))
+  pub base-rebuilt : (dropped : List ℕ) (adds : List (Addition Source)) (plan : List (List ℕ)) (r : Step) (plan′ : List (List ℕ)) → RowPlanned records dropped adds n 16 c 0 (parent 0) true plan 0 r plan′ → Rebuilds (rebuilt-base records n dropped adds) (passed-base records n dropped) n plan r plan′
+  unfolding rebuilt-base passed-base parent
+  base-rebuilt dropped adds plan r plan′ h = rw (base-is .0) (judged _ _ n plan r plan′ (rw (base-is .1) at (h .by)))

@@ -22,7 +22,7 @@ use Rattle.update_rebuild.specs.declared.Place.{Place}
 use Rattle.update_rebuild.specs.declared.Step.{Step}
 use Rattle.update_rebuild.specs.declared.Step.the-variants.{Went, Full}
 use Rattle.update_rebuild.specs.declared.Head.{Head}
-use Rattle.update_rebuild.specs.Sources.{additions, rebuilt-row, rebuilt-one}
+use Rattle.update_rebuild.specs.Sources.{additions, rebuilt-row, rebuilt-one, passed}
 
 -- ---- what is asked
 
@@ -79,11 +79,12 @@ pub record Based (records : List ℕ) (n c : ℕ) : Type 0 where
 
 -- ---- what is left
 
--- t was planned from i on after c siblings, with lv levels left for it
-pub record Whole (t : Forest Source) (past lv i c : ℕ) (plan : List (List ℕ)) (w : Place) (plan′ : List (List ℕ)) : Type 0 where
+-- t was planned from i on after c siblings and v records visited, with lv levels left for it, and d dropped members were passed
+pub record Whole (t : Forest Source) (d past lv i c v : ℕ) (plan : List (List ℕ)) (w : Place) (plan′ : List (List ℕ)) : Type 0 where
   pub next : w .next ≡ past
   pub at : w .at ≡ i + size t
   pub count : w .count ≡ c + siblings t
+  pub visited : w .visited ≡ v + (size t + d)
   pub low : levels t ≤ lv
   pub room : w .at ≤ 1024
   pub laid : LaidIn t i plan plan′
@@ -92,12 +93,12 @@ pub record Whole (t : Forest Source) (past lv i c : ℕ) (plan : List (List ℕ)
 pub record Over (t : Forest Source) (lv i : ℕ) : Type 0 where
   pub over : levels t ≤ lv → i + size t ≤ 1024 → ⊥
 
-abbrev pub PlannedBy : Step → (t : Forest Source) (past lv i c : ℕ) (plan plan′ : List (List ℕ)) → Type 0
-PlannedBy (Went w) t past lv i c plan plan′ = Whole t past lv i c plan w plan′
-PlannedBy Full t past lv i c plan plan′ = Over t lv i
+abbrev pub PlannedBy : Step → (t : Forest Source) (d past lv i c v : ℕ) (plan plan′ : List (List ℕ)) → Type 0
+PlannedBy (Went w) t d past lv i c v plan plan′ = Whole t d past lv i c v plan w plan′
+PlannedBy Full t d past lv i c v plan plan′ = Over t lv i
 
-pub record Planned (t : Forest Source) (past lv i c : ℕ) (plan : List (List ℕ)) (r : Step) (plan′ : List (List ℕ)) : Type 0 where
-  pub by : PlannedBy r t past lv i c plan plan′
+pub record Planned (t : Forest Source) (d past lv i c v : ℕ) (plan : List (List ℕ)) (r : Step) (plan′ : List (List ℕ)) : Type 0 where
+  pub by : PlannedBy r t d past lv i c v plan plan′
 
 -- The n added records from slot k on stand in the plan from place i on, with ids from `id` on, and the rest is as it was.
 pub record AddedIn (kids : ℕ → ℕ) (k n id : ℕ) (plan : List (List ℕ)) (i : ℕ) (plan′ : List (List ℕ)) : Type 0 where
@@ -113,17 +114,23 @@ pub record HeadOf (records : List ℕ) (k : ℕ) (h : Head) : Type 0 where
   pub under : h .under .q ≡ suc (rec-at records k .id)
   pub word : h .under .q ≤ 4294967296
 
+pub record StandsAt (next at count visited : ℕ) (w : Place) : Type 0 where
+  pub is : w ≡ record { next = next; at = at; count = count; visited = visited }
+
 -- The end of a row: additions follow the members of the root list or of a struct.
 unfoldable pub closing : List (Addition Source) → Option ℕ → (open? : Bool) → Forest Source
 closing adds q open? = cond open? (arriving adds q) empty
 
 abbrev pub RowPlanned : (records dropped : List ℕ) (adds : List (Addition Source)) (n lv c k : ℕ) (q : Option ℕ) (open? : Bool) (plan : List (List ℕ)) (i : ℕ) (r : Step) (plan′ : List (List ℕ)) → Type 0
 RowPlanned records dropped adds n lv c k q open? plan i r plan′ =
-    Planned (rebuilt-row records dropped adds q open? (part 0 (kids-at records) n lv c k .trees)) (part 0 (kids-at records) n lv c k .next) lv i 0 plan r plan′
+    Planned (rebuilt-row records dropped adds q open? (part 0 (kids-at records) n lv c k .trees))
+    (passed records dropped open? (part 0 (kids-at records) n lv c k .trees)) (part 0 (kids-at records) n lv c k .next) lv i 0 0 plan r plan′
 
-abbrev pub OnePlanned : (records dropped : List ℕ) (adds : List (Addition Source)) (n lv k : ℕ) (plan : List (List ℕ)) (i c : ℕ) (r : Step) (plan′ : List (List ℕ)) → Type 0
-OnePlanned records dropped adds n lv k plan i c r plan′ =
-    Planned (rebuilt-one records dropped adds n lv k) (part 0 (kids-at records) n (lv - 1) (kids-at records k) (k + 1) .next) lv i c plan r plan′
+abbrev pub OnePlanned : (records dropped : List ℕ) (adds : List (Addition Source)) (n lv k : ℕ) (plan : List (List ℕ)) (i c v : ℕ) (r : Step) (plan′ : List (List ℕ)) → Type 0
+OnePlanned records dropped adds n lv k plan i c v r plan′ =
+    Planned (rebuilt-one records dropped adds n lv k)
+    (passed records dropped (is-struct (kind-at records k)) (part 0 (kids-at records) n (lv - 1) (kids-at records k) (k + 1) .trees))
+    (part 0 (kids-at records) n (lv - 1) (kids-at records k) (k + 1) .next) lv i c v plan r plan′
 
 -- ---- the whole
 
@@ -131,9 +138,10 @@ OnePlanned records dropped adds n lv k plan i c r plan′ =
 unfoldable pub fits : Forest Source → Bool
 fits t = leb (size t) 1024 && leb (levels t) 16
 
-unfoldable pub verdict : ℕ → Forest Source → Step
-verdict n t = cond (fits t) (Went (record { next = n; at = size t; count = siblings t })) Full
+unfoldable pub verdict : (n d : ℕ) → Forest Source → Step
+verdict n d t = cond (fits t) (Went (record { next = n; at = size t; count = siblings t; visited = size t + d })) Full
 
-pub record Rebuilds (t : Forest Source) (n : ℕ) (plan : List (List ℕ)) (r : Step) (plan′ : List (List ℕ)) : Type 0 where
-  pub answer : r ≡ verdict n t
+-- t is the plan of n records, of which d dropped members were passed.
+pub record Rebuilds (t : Forest Source) (d n : ℕ) (plan : List (List ℕ)) (r : Step) (plan′ : List (List ℕ)) : Type 0 where
+  pub answer : r ≡ verdict n d t
   pub laid : fits t ≡ true → LaidIn t 0 plan plan′

@@ -3,12 +3,13 @@ use Prim.Native.Nat.{ℕ, zero, suc, _+_, _-_}
 use mathlib.Core.Bool.{Bool, true}
 use mathlib.Core.List.{List}
 use mathlib.Core.Option.{Option, none, some}
-use lib.ListN.{getD}
+use lib.ListN.{length, getD}
 use Rattle.paper.specs.declared.Kind.{Kind}
 use Rattle.paper.specs.Forest.{Forest, empty, node, mapped}
 use Rattle.paper.specs.Field.{is-struct}
 use Rattle.paper.specs.Bytes.{turned, rec-at, kind-at, kids-at, from}
 use Rattle.paper.specs.Layout.{roots}
+use Rattle.paper.specs.Gone.{outermost}
 use Rattle.paper.specs.Rebuild.{Addition, fresh, rebuilt}
 use Rattle.tree.specs.Read.{got, part}
 use Rattle.plan.specs.Plan.{Source}
@@ -56,6 +57,15 @@ rebuilt-one records dropped adds n lv k =
     (rebuilt-row records dropped adds (some (turned (rec-at records k .id))) (is-struct (kind-at records k)) (part 0 (kids-at records) n (lv - 1) (kids-at records k) (k + 1) .trees))
     empty
 
+-- How many dropped members are passed among siblings of the base, and below them.
+unfoldable pub passed : (records dropped : List ℕ) → (open? : Bool) → Forest ℕ → ℕ
+passed records dropped open? t =
+    length (outermost (λ k. turned (rec-at records k .id)) (kind-at records) dropped open? t)
+
 -- The base of n records, rebuilt.
 unfoldable pub rebuilt-base : (records : List ℕ) (n : ℕ) (dropped : List ℕ) → List (Addition Source) → Forest Source
 rebuilt-base records n dropped adds = rebuilt-row records dropped adds none true (got (roots 0 (kids-at records) n n 0) .trees)
+
+-- How many dropped members are passed in it.
+unfoldable pub passed-base : (records : List ℕ) (n : ℕ) (dropped : List ℕ) → ℕ
+passed-base records n dropped = passed records dropped true (got (roots 0 (kids-at records) n n 0) .trees)

@@ -27,7 +27,7 @@ ghost use Rattle.paper.specs.Field.{is-struct};
 ghost use Rattle.paper.specs.Rebuild.{arriving};
 ghost use Rattle.tree.specs.Read.{reads};
 ghost use Rattle.record.specs.Trees.{trees-in};
-ghost use Rattle.update_rebuild.specs.Sources.{parent, added-tree, rebuilt-base};
+ghost use Rattle.update_rebuild.specs.Sources.{parent, added-tree, rebuilt-base, passed-base};
 ghost use Rattle.update_rebuild.specs.Planned.{
   Readable,
   Inside,
@@ -37,6 +37,7 @@ ghost use Rattle.update_rebuild.specs.Planned.{
   Planned,
   AddedIn,
   HeadOf,
+  StandsAt,
   closing,
   RowPlanned,
   OnePlanned,
@@ -67,11 +68,13 @@ pub const FIRSTS: usize = 2;
 
 pub const STARTS: usize = 3;
 
-// Where a walk stands: the next slot that it reads, the next place of the plan, and the siblings planned so far.
+// Where a walk stands: the next slot that it reads, the next place of the plan; of these siblings, those planned so far, and the records
+// visited in them.
 pub struct Place {
     pub next: usize,
     pub at: usize,
     pub count: u32,
+    pub visited: u32,
 }
 
 // `Full`: record 1,025 or level 17 would be planned (refusal 19).
@@ -141,6 +144,48 @@ fn put_added(added: &[u8], slot: usize, count: usize, id: u32, plan: &mut PlanRo
     }
 }
 
+// Where a walk stands past a record that stays: one sibling more, and it and its inside visited.
+fn past(place: Place, inside: Place) -> Place
+    requires { ⌜ (place .count ≤ 1024) × (place .visited ≤ 2048) × (inside .visited ≤ 2048) ⌝ }
+    ensures { λ r. ⌜ StandsAt (inside .next) (inside .at) (place .count + 1)
+        (place .visited + 1 + inside .visited) r ⌝ }
+{
+    Place {
+        next: inside.next,
+        at: inside.at,
+        count: place.count + 1,
+        visited: place.visited + 1 + inside.visited,
+    }
+}
+
+// Past a dropped member, which ends before slot `end`: it is visited, and nothing inside it.
+fn over(here: Place, end: usize) -> Place
+    requires { ⌜ (here .visited ≤ 2048) × (here .next < end) × (end ≤ 1024) ⌝ }
+    ensures { λ r. ⌜ StandsAt end (here .at) (here .count) (here .visited + 1) r ⌝ }
+{
+    Place {
+        next: end,
+        at: here.at,
+        count: here.count,
+        visited: here.visited + 1,
+    }
+}
+
+// Behind an added tree of so many records: one sibling more, and each of them visited once.
+fn behind(place: Place, size: usize) -> Place
+    requires { ⌜ (place .at ≤ 1024) × (place .count ≤ 1024) × (place .visited ≤ 2048)
+        × (size ≤ 1024) ⌝ }
+    ensures { λ r. ⌜ StandsAt (place .next) (place .at + size) (place .count + 1)
+        (place .visited + size) r ⌝ }
+{
+    Place {
+        next: place.next,
+        at: place.at + size,
+        count: place.count + 1,
+        visited: place.visited + size as u32,
+    }
+}
+
 // One added tree, behind what is planned.
 fn add_tree(
     added: &[u8],
@@ -153,27 +198,21 @@ fn add_tree(
 ) -> Step
     requires { ⌜ (m * 24 ≤ length (now added)) × (m ≤ 1024) × (slot ≤ m)
         × (reads 1 (kids-at (now added)) m 16 1 slot ≡ true) × (levels ≤ 16) × (place .at ≤ 1024)
-        × (place .count ≤ place .at) × (length (now plan) ≡ 3) ⌝ }
-    ensures { λ r. ⌜ Planned (added-tree (now (added .entry)) m slot id) (place .next) levels
-        (place .at) (place .count) (now (plan .entry)) r (now (plan .exit)) ⌝ }
+        × (place .count ≤ place .at) × (place .visited ≤ place .at + 1024)
+        × (length (now plan) ≡ 3) ⌝ }
+    ensures { λ r. ⌜ Planned (added-tree (now (added .entry)) m slot id) 0 (place .next) levels
+        (place .at) (place .count) (place .visited) (now (plan .entry)) r (now (plan .exit)) ⌝ }
 {
-    let at = place.at;
-    let next = place.next;
-    let count = place.count;
     let walked = row_end(added, m, slot, 1, levels, 1);
     let Walked::End(end) = walked else {
         return Step::Full;
     };
     let size = end - slot;
-    if 1024 - at < size {
+    if 1024 - place.at < size {
         return Step::Full;
     }
-    put_added(added, slot, size, id, plan, at);
-    Step::Went(Place {
-        next,
-        at: at + size,
-        count: count + 1,
-    })
+    put_added(added, slot, size, id, plan, place.at);
+    Step::Went(behind(place, size))
 }
 
 // The additions under q, in entry order.
@@ -187,10 +226,11 @@ fn add_all(
     place: Place,
 ) -> Step
     requires { ⌜ ResolvedIn (now added) given (now decisions) × (q ≤ 4294967296) × (levels ≤ 16)
-        × (place .at ≤ 1024) × (place .count ≤ place .at) × (length (now plan) ≡ 3) ⌝ }
+        × (place .at ≤ 1024) × (place .count ≤ place .at) × (place .visited ≤ place .at + 1024)
+        × (length (now plan) ≡ 3) ⌝ }
     ensures { λ r. ⌜ Planned (arriving (additions-in (now (added .entry)) given
-        (now (decisions .entry))) (parent q)) (place .next) levels (place .at) (place .count)
-        (now (plan .entry)) r (now (plan .exit)) ⌝ }
+        (now (decisions .entry))) (parent q)) 0 (place .next) levels (place .at) (place .count)
+        (place .visited) (now (plan .entry)) r (now (plan .exit)) ⌝ }
 {
     let mut j = 0;
     let mut here = place;
@@ -224,10 +264,11 @@ fn close(
 ) -> Step
     requires { ⌜ ResolvedIn (now added) given (now decisions) × (under .q ≤ 4294967296)
         × (levels ≤ 16) × (place .at ≤ 1024) × (place .count ≤ place .at)
-        × (length (now plan) ≡ 3) ⌝ }
+        × (place .visited ≤ place .at + 1024) × (length (now plan) ≡ 3) ⌝ }
     ensures { λ r. ⌜ Planned (closing (additions-in (now (added .entry)) given
-        (now (decisions .entry))) (parent (under .q)) (under .opens)) (place .next) levels
-        (place .at) (place .count) (now (plan .entry)) r (now (plan .exit)) ⌝ }
+        (now (decisions .entry))) (parent (under .q)) (under .opens)) 0 (place .next) levels
+        (place .at) (place .count) (place .visited) (now (plan .entry)) r
+        (now (plan .exit)) ⌝ }
 {
     if under.opens {
         return add_all(added, given, decisions, under.q, levels, plan, place);
@@ -250,12 +291,13 @@ pub fn rebuild_field<'a>(
     requires { ⌜ Inside (trees-in (now trees) .records) (given .base) levels slot
         × Good (set-of (now dropped) drops)
         × ResolvedIn (trees-in (now trees) .added-records) given (now decisions)
-        × (place .at ≤ 1024) × (place .count ≤ place .at) × (length (now plan) ≡ 3) ⌝ }
+        × (place .at ≤ 1024) × (place .count ≤ place .at) × (place .visited ≤ place .at + slot)
+        × (length (now plan) ≡ 3) ⌝ }
     ensures { λ r. ⌜ OnePlanned (trees-in (now (trees .entry)) .records)
         (dropped-ids (set-of (now (dropped .entry)) drops))
         (additions-in (trees-in (now (trees .entry)) .added-records) given
         (now (decisions .entry))) (given .base) levels slot (now (plan .entry)) (place .at)
-        (place .count) r (now (plan .exit)) ⌝ }
+        (place .count) (place .visited) r (now (plan .exit)) ⌝ }
 {
     let at = place.at;
     if 1024 <= at {
@@ -268,6 +310,7 @@ pub fn rebuild_field<'a>(
             next: slot + 1,
             at: at + 1,
             count: place.count + 1,
+            visited: place.visited + 1,
         });
     }
     let inside = Siblings {
@@ -290,11 +333,7 @@ pub fn rebuild_field<'a>(
         return Step::Full;
     };
     put_planned(plan, at, slot as u32, head.id, w.count);
-    Step::Went(Place {
-        next: w.next,
-        at: w.at,
-        count: place.count + 1,
-    })
+    Step::Went(past(place, w))
 }
 
 // Siblings of the base, rebuilt.
@@ -326,11 +365,12 @@ pub fn rebuild_fields<'a>(
         next: row.slot,
         at,
         count: 0,
+        visited: 0,
     };
     while 0 < left {
         let k = here.next;
         if dropped_member(records, k, under.opens, dropped, drops) {
-            here.next = tree_end(records, given.base, k, levels - 1, 0);
+            here = over(here, tree_end(records, given.base, k, levels - 1, 0));
             left -= 1;
             continue;
         }
@@ -373,6 +413,8 @@ pub fn rebuild<'a>(
         (dropped-ids (set-of (now (dropped .entry)) drops))
         (additions-in (trees-in (now (trees .entry)) .added-records) given
         (now (decisions .entry))))
+        (passed-base (trees-in (now (trees .entry)) .records) (given .base)
+        (dropped-ids (set-of (now (dropped .entry)) drops)))
         (given .base) (now (plan .entry)) r (now (plan .exit)) ⌝ }
 {
     let all = Siblings {

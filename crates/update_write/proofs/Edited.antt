@@ -39,33 +39,33 @@ fits-mapped : (g : Source → Source) (t : Forest Source) → fits (mapped g t) 
 unfolding fits
 fits-mapped g t = rw (size-mapped g t, levels-mapped g t)
 
-verdict-mapped : (g : Source → Source) (n : ℕ) (t : Forest Source) → verdict n (mapped g t) ≡ verdict n t
+verdict-mapped : (g : Source → Source) (n k : ℕ) (t : Forest Source) → verdict n k (mapped g t) ≡ verdict n k t
 unfolding verdict
-verdict-mapped g n t = rw (fits-mapped g t, size-mapped g t, siblings-mapped g t)
+verdict-mapped g n k t = rw (fits-mapped g t, size-mapped g t, siblings-mapped g t)
 
-pub mark-asks : (t : Forest Source) (n : ℕ) (plan plan′ : List (List ℕ)) (r : Step) → Rebuilds t n plan r plan′ → (w : Place) → r ≡ Went w → (w .at ≤ 1024) × (length plan′ ≡ 3)
-mark-asks t n plan plan′ r v w d =
-    let z = verdict-went n t r w (v .answer) d in
+pub mark-asks : (t : Forest Source) (k n : ℕ) (plan plan′ : List (List ℕ)) (r : Step) → Rebuilds t k n plan r plan′ → (w : Place) → r ≡ Went w → (w .at ≤ 1024) × (length plan′ ≡ 3)
+mark-asks t k n plan plan′ r v w d =
+    let z = verdict-went n k t r w (v .answer) d in
     let f = of-fits t (z .0) .1 in
     let e = z .1 in
     (omega arith, v .laid (z .0) .rows)
 
-module _ (t : Forest Source) (n : ℕ) (marks : List ℕ) (plan plan′ : List (List ℕ)) (r : Step) (v : Rebuilds t n plan r plan′) where
-  pub full-edited : r ≡ Full → Rebuilds (mapped (remark marks) t) n plan Full plan′
+module _ (t : Forest Source) (k n : ℕ) (marks : List ℕ) (plan plan′ : List (List ℕ)) (r : Step) (v : Rebuilds t k n plan r plan′) where
+  pub full-edited : r ≡ Full → Rebuilds (mapped (remark marks) t) k n plan Full plan′
   full-edited d =
       record {
-        answer = sym d ∙ v .answer ∙ sym (verdict-mapped (remark marks) n t);
-        laid = λ e. let f = verdict-full n t r (v .answer) d in absurd (let z : true ≡ false = sym e ∙ fits-mapped (remark marks) t ∙ f in let y : _≡_ {A = ℕ} 0 1 = cc in omega arith);
+        answer = sym d ∙ v .answer ∙ sym (verdict-mapped (remark marks) n k t);
+        laid = λ e. let f = verdict-full n k t r (v .answer) d in absurd (let z : true ≡ false = sym e ∙ fits-mapped (remark marks) t ∙ f in let y : _≡_ {A = ℕ} 0 1 = cc in omega arith);
       }
 
   module _ (w : Place) (d : r ≡ Went w) where
-    pub unmarked-edited : (edits : ℕ) → edits ≡ 0 → (edits ≡ 0 → Unmarked marks) → Rebuilds (mapped (remark marks) t) n plan (Went w) plan′
+    pub unmarked-edited : (edits : ℕ) → edits ≡ 0 → (edits ≡ 0 → Unmarked marks) → Rebuilds (mapped (remark marks) t) k n plan (Went w) plan′
     unmarked-edited edits e u = rw (u e, bare-tree t, ← d) v
 
-    pub marked-edited : (plan″ : List (List ℕ)) → Roomy plan → RemarkedIn marks (w .at) plan′ plan″ → Rebuilds (mapped (remark marks) t) n plan (Went w) plan″
+    pub marked-edited : (plan″ : List (List ℕ)) → Roomy plan → RemarkedIn marks (w .at) plan′ plan″ → Rebuilds (mapped (remark marks) t) k n plan (Went w) plan″
     marked-edited plan″ room m =
-        let z = verdict-went n t r w (v .answer) d in
+        let z = verdict-went n k t r w (v .answer) d in
         record {
-          answer = sym d ∙ v .answer ∙ sym (verdict-mapped (remark marks) n t);
-          laid = λ e. remarked-laid marks t (w .at) plan plan′ plan″ (z .1) (let f = mark-asks t n plan plan′ r v w d .0 in let s = room .sources-room in omega arith) (v .laid (z .0)) m;
+          answer = sym d ∙ v .answer ∙ sym (verdict-mapped (remark marks) n k t);
+          laid = λ e. remarked-laid marks t (w .at) plan plan′ plan″ (z .1) (let f = mark-asks t k n plan plan′ r v w d .0 in let s = room .sources-room in omega arith) (v .laid (z .0)) m;
         }

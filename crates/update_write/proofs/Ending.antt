@@ -13,12 +13,13 @@ use lib.Dec.{leb}
 use lib.ListN.{length, getD}
 use Rattle.paper.specs.Answer.{ok, _>>=_}
 use Rattle.paper.specs.Forest.{Forest, empty, node, size, siblings, levels, mapped}
-use Rattle.paper.specs.Field.{Field}
-use Rattle.paper.specs.Bytes.{turned, kids-at, from}
+use Rattle.paper.specs.Field.{Field, id-of, kind-of}
+use Rattle.paper.specs.Bytes.{turned, kids-at, field-at, from}
 use Rattle.paper.specs.Edits.{Edited}
 use Rattle.paper.specs.Layout.{Part, roots}
 use Rattle.paper.specs.Decode.{fields, decode}
 use Rattle.paper.specs.Lists.{id-list}
+use Rattle.paper.specs.Gone.{outermost}
 use Rattle.paper.specs.Rebuild.{Addition, fresh}
 use Rattle.paper.specs.Sound.{name-bytes, within, sound}
 use Rattle.paper.specs.Outcome.{for-records, for-names, leaves}
@@ -33,7 +34,8 @@ use Rattle.record.proofs.Testing.{checked-ok, checked-refused, refuses}
 use Rattle.laws.proofs.Basics.{unbind, ok-is}
 use Rattle.laws.proofs.Fitting.{sized-slots}
 use Rattle.laws.proofs.Preorder.{size-mapped, siblings-mapped, levels-mapped}
-use Rattle.laws.proofs.Pointwise.{Each, each-more, each-mapped, each-slot, All, each-rebuilt}
+use Rattle.laws.proofs.Pointwise.{Each, each-more, each-mapped, each-slot, outermost-same, All, each-rebuilt}
+use Rattle.laws.proofs.Natural.{outermost-mapped}
 use Rattle.laws.proofs.RoundTrip.{length-pool}
 use Rattle.laws.proofs.Taken as taken
 use Rattle.tree.specs.Read.{part, got}
@@ -56,14 +58,14 @@ use Rattle.update_rebuild.specs.declared.Given.{Given}
 use Rattle.update_rebuild.specs.declared.Place.{Place}
 use Rattle.update_rebuild.specs.declared.Step.{Step}
 use Rattle.update_rebuild.specs.declared.Step.the-variants.{Went, Full}
-use Rattle.update_rebuild.specs.Sources.{base-source, added-source, source-id, source-kind, added-tree, addition-at, additions, rebuilt-row, rebuilt-base}
+use Rattle.update_rebuild.specs.Sources.{base-source, added-source, source-id, source-kind, added-tree, addition-at, additions, rebuilt-row, rebuilt-base, passed, passed-base}
 use Rattle.update_rebuild.specs.Planned.{unders-in, firsts-in, starts-in, drops-in, ResolvedIn, additions-in, Based, fits, Rebuilds}
 use Rattle.update_edits.specs.Marks.{remark, Unmarked, Carries}
 use Rattle.update_edits.proofs.Marked.{Sourced, remarked-drawn, rebuilt-marked}
 use Rattle.update_rebuild.proofs.Whole.{of-fits}
 use Rattle.update_dropped.specs.Gathered.{row-ids, Gathered}
 use Rattle.update_write.proofs.Verdict.{verdict-went, verdict-full}
-use Rattle.update_write.specs.Ending.{sounded, limited-sounded, Rebuildable, rebuilt-tree, Ends}
+use Rattle.update_write.specs.Ending.{sounded, limited-sounded, Rebuildable, rebuilt-tree, visited-in, Ends}
 
 -- ---- sources
 
@@ -165,17 +167,28 @@ module _ (l : Trees) (i : List ℕ) (given : Given) (c : ℕ) (decisions : List 
         (base-slots-low u r) (all-added (λ a. 1024 ≤ a .slot) (λ x y i. omega arith) (dropped-ids held) 0 (given .additions) (omega arith)) (g .holds)
         ∙ rw (q ∙ ok-is (sym (h .base-read) ∙ e)))
 
+    -- the dropped members that are passed are the paper's
+    passed-is : (base : Forest Field) → decode 0 (l .records) (l .pool) ≡ ok base
+        → passed-base (l .records) (given .base) (dropped-ids held) ≡ length (outermost id-of kind-of (row-ids (drops-in decisions) (given .deletions)) true base)
+    unfolding passed-base passed fields field-at
+    passed-is base e =
+        read _ λ u r q.
+        rw r
+        (ap length (outermost-same _ _ _ _ (dropped-ids held) (row-ids (drops-in decisions) (given .deletions)) (g .holds) true (u .trees) (each-more _ _ (λ j k. (refl, refl)) (u .trees) (base-slots-low u r)))
+        ∙ sym (outermost-mapped (field-at (l .pool) (l .records)) id-of kind-of (row-ids (drops-in decisions) (given .deletions)) true (u .trees))
+        ∙ ap (λ (x : Forest Field). length (outermost id-of kind-of (row-ids (drops-in decisions) (given .deletions)) true x)) (q ∙ ok-is (sym (h .base-read) ∙ e)))
+
     over : within (mapped (planned-field l) t) ≡ false → Ending (changed.Refused (refusal-of 19 4 0)) out text
     unfolding limited-sounded _>>=_
     over e = record { ends = λ base d edits w. refuses _ (refusal-of 19 4 0) (for-records out ∷ for-names text ∷ []) (rw (← (tree-is base d edits w), e)) }
 
-    module _ (y : Step) (plan′ : List (List ℕ)) (v : Rebuilds t (given .base) plan y plan′) where
+    module _ (y : Step) (plan′ : List (List ℕ)) (v : Rebuilds t (passed-base (l .records) (given .base) (dropped-ids held)) (given .base) plan y plan′) where
       pub full-stops : y ≡ Full → Ending (changed.Refused (refusal-of 19 4 0)) out text
-      full-stops d = over (within-fits (planned-field l) t ∙ rw (verdict-full (given .base) t y (v .answer) d))
+      full-stops d = over (within-fits (planned-field l) t ∙ rw (verdict-full (given .base) _ t y (v .answer) d))
 
       module _ (w : Place) (d : y ≡ Went w) where
-        went : (fits t ≡ true) × (w .at ≡ size t)
-        went = verdict-went (given .base) t y w (v .answer) d
+        went : (fits t ≡ true) × (w .at ≡ size t) × (w .visited ≡ size t + passed-base (l .records) (given .base) (dropped-ids held))
+        went = verdict-went (given .base) _ t y w (v .answer) d
 
         draft : DraftIn l plan′ (w .at)
         draft =
@@ -217,30 +230,32 @@ module _ (l : Trees) (i : List ℕ) (given : Given) (c : ℕ) (decisions : List 
             records-fit = let f = the-plan .few in omega arith
 
             -- what the index says of the planned tree is said of the paper's
-            limited-is : (base : Forest Field) → decode 0 (l .records) (l .pool) ≡ ok base → (edits : List Edited) → Carries l (given .base) marks edits → (last : ℕ)
-                → limited-sounded (rebuilt-tree l given decisions edits base) (id-list i) last ≡ sounded (fields-in l plan′ (w .at)) (id-list i) last
+            limited-is : (base : Forest Field) → decode 0 (l .records) (l .pool) ≡ ok base → (edits : List Edited) → Carries l (given .base) marks edits → (last visited : ℕ)
+                → limited-sounded (rebuilt-tree l given decisions edits base) (id-list i) last visited ≡ sounded (fields-in l plan′ (w .at)) (id-list i) last visited
             unfolding limited-sounded _>>=_
-            limited-is base e edits v′ last = rw (← (tree-is base e edits v′), fitting, planned)
+            limited-is base e edits v′ last visited = rw (← (tree-is base e edits v′), fitting, planned)
 
             module _ (x : Check) (index′ : List (List ℕ)) (s : Indexing l plan′ (w .at) 4 i x index index′) where
               pub sound-stops : (f : Refusal) → x ≡ check.Refused f → Ending (changed.Refused f) out text
               unfolding sounded _>>=_
               sound-stops f o =
-                  record { ends = λ base e edits v′. refuses _ f (for-records out ∷ for-names text ∷ []) (limited-is base e edits v′ _ ∙ rw (checked-refused (sound 4 (fields-in l plan′ (w .at)) (id-list i)) x f (s .answer) o)) }
+                  record { ends = λ base e edits v′. refuses _ f (for-records out ∷ for-names text ∷ []) (limited-is base e edits v′ _ _ ∙ rw (checked-refused (sound 4 (fields-in l plan′ (w .at)) (id-list i)) x f (s .answer) o)) }
 
               module _ (used : ℕ) (out′ text′ : List ℕ) (b : Written (fields-in l plan′ (w .at)) out text used out′ text′) where
                 pub names-fit : used < 4294967296
                 names-fit = let e = b .bytes in let p = length-pool (fields-in l plan′ (w .at)) in let f = the-plan .sum in omega arith
 
                 pub all-written : x ≡ check.Fine → (bits : ℕ) → bits ≡ turned (given .last)
-                    → Ending (changed.Done (record { records = w .at; names = used; «last_id» = bits })) out′ text′
+                    → Ending (changed.Done (record { records = w .at; names = used; «last_id» = bits; visited = w .visited })) out′ text′
                 unfolding sounded _>>=_ changes leaves
                 all-written o bits eb =
                     record {
                       ends = λ base e edits v′.
                           let z = checked-ok (sound 4 (fields-in l plan′ (w .at)) (id-list i)) x (s .answer) o in
                           let n = fields-size plan′ (w .at) (the-plan .shaped) l in
-                          rw (limited-is base e edits v′ (turned (given .last)), z) record { told = rw (b .bytes, n, eb); left = rw (b .rows, b .pool) refl };
+                          let many : w .visited ≡ visited-in given decisions base (rebuilt-tree l given decisions edits base) =
+                          went .2 ∙ rw (passed-is base e, ← (tree-is base e edits v′), size-mapped (planned-field l) t) in
+                          rw (limited-is base e edits v′ (turned (given .last)) _, z) record { told = rw (b .bytes, n, eb, many); left = rw (b .rows, b .pool) refl };
                     }
 
 pub ruleset ending = (full-stops, names-stop)

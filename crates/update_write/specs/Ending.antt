@@ -1,5 +1,5 @@
 -- The end of an update: the rebuilt tree's limits and its 7 to 9, then the answer and the bytes that are left.
-use Prim.Native.Nat.{ℕ, _≤_}
+use Prim.Native.Nat.{ℕ, _+_, _≤_}
 use mathlib.Core.Path.{_≡_}
 use mathlib.Core.Bool.{true}
 use mathlib.Core.List.{List, [], _∷_}
@@ -7,7 +7,7 @@ use mathlib.Core.Option.{none}
 use lib.ListN.{length}
 use Rattle.paper.specs.Answer.{Answer, ok, _>>=_, _>>_}
 use Rattle.paper.specs.Refusals.{rebuilt-within}
-use Rattle.paper.specs.Forest.{Forest, siblings}
+use Rattle.paper.specs.Forest.{Forest, size, siblings}
 use Rattle.paper.specs.Field.{Field, id-of, kind-of}
 use Rattle.paper.specs.Bytes.{turned, slots}
 use Rattle.paper.specs.Decode.{decode}
@@ -15,6 +15,7 @@ use Rattle.paper.specs.Limits.{sized}
 use Rattle.paper.specs.Lists.{id-list}
 use Rattle.paper.specs.Sound.{sound, within}
 use Rattle.paper.specs.Edits.{Edited, edited-tree}
+use Rattle.paper.specs.Gone.{outermost}
 use Rattle.paper.specs.Rebuild.{rebuilt}
 use Rattle.paper.specs.Entries.{Result}
 use Rattle.paper.specs.Outcome.{for-records, for-names, Answers}
@@ -30,17 +31,17 @@ use Rattle.update_rebuild.specs.declared.Given.{Given}
 use Rattle.update_rebuild.specs.Planned.{drops-in, ResolvedIn, additions-in}
 use Rattle.update_dropped.specs.Gathered.{row-ids}
 
--- 7 to 9 of a rebuilt tree, then the answer with the bits of the last id.
-unfoldable pub sounded : Forest Field → (identifiers : List ℕ) → (last : ℕ) → Answer Result
-sounded tree identifiers last = do
+-- 7 to 9 of a rebuilt tree, then the answer with the bits of the last id and the number of records visited.
+unfoldable pub sounded : Forest Field → (identifiers : List ℕ) → (last visited : ℕ) → Answer Result
+sounded tree identifiers last visited = do
   sound 4 tree identifiers
-  ok (record { tree = tree; identifiers = []; last = last })
+  ok (record { tree = tree; identifiers = []; last = last; visited = visited })
 
 -- 19 before them.
-unfoldable pub limited-sounded : Forest Field → (identifiers : List ℕ) → (last : ℕ) → Answer Result
-limited-sounded tree identifiers last = do
+unfoldable pub limited-sounded : Forest Field → (identifiers : List ℕ) → (last visited : ℕ) → Answer Result
+limited-sounded tree identifiers last visited = do
   rebuilt-within (within tree)
-  sounded tree identifiers last
+  sounded tree identifiers last visited
 
 -- Both trees passed 2 to 6, the base with so many roots; the additions are resolved, and the marks carry edits; the tables have their
 -- room; the buffers passed 1.
@@ -70,8 +71,15 @@ rebuilt-tree l given decisions edits base =
     rebuilt id-of kind-of (row-ids (drops-in decisions) (given .deletions))
     (mapped-all (planned-field l) (additions-in (l .added-records) given decisions)) none true (edited-tree edits base)
 
+-- The records visited: those of the rebuilt tree, and the dropped members that are passed.
+abbrev pub visited-in : Given → (decisions : List (List ℕ)) → (base tree : Forest Field) → ℕ
+visited-in given decisions base tree =
+    size tree + length (outermost id-of kind-of (row-ids (drops-in decisions) (given .deletions)) true base)
+
 -- It is what is answered and written, with the edits that the marks carry.
 pub record Ends (l : Trees) (identifiers : List ℕ) (given : Given) (decisions : List (List ℕ)) (marks out-records out-names : List ℕ) (r : Changed) (out-records′ out-names′ : List ℕ) : Type 0 where
   pub ends : (base : Forest Field) → decode 0 (l .records) (l .pool) ≡ ok base → (edits : List Edited) → Carries l (given .base) marks edits
-      → Answers changes (limited-sounded (rebuilt-tree l given decisions edits base) (id-list identifiers) (turned (given .last)))
+      → Answers changes
+      (limited-sounded (rebuilt-tree l given decisions edits base) (id-list identifiers) (turned (given .last))
+      (visited-in given decisions base (rebuilt-tree l given decisions edits base)))
       (for-records out-records ∷ for-names out-names ∷ []) r (out-records′ ∷ out-names′ ∷ [])

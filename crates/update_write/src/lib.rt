@@ -25,7 +25,7 @@ ghost use Rattle.record.specs.Trees.{trees-in};
 ghost use Rattle.plan.specs.Table.{Roomy};
 ghost use Rattle.update_dropped.specs.Set.{dropped-ids, set-of, Good};
 ghost use Rattle.update_edits.specs.Marks.{Unmarked, remark};
-ghost use Rattle.update_rebuild.specs.Sources.{rebuilt-base};
+ghost use Rattle.update_rebuild.specs.Sources.{rebuilt-base, passed-base};
 ghost use Rattle.update_rebuild.specs.Planned.{ResolvedIn, additions-in, Based, Rebuilds};
 ghost use Rattle.update_write.specs.Ending.{Rebuildable, Ends};
 
@@ -49,6 +49,8 @@ fn rebuild_edited<'a>(
         (dropped-ids (set-of (now (dropped .entry)) drops))
         (additions-in (trees-in (now (trees .entry)) .added-records) given
         (now (decisions .entry)))))
+        (passed-base (trees-in (now (trees .entry)) .records) (given .base)
+        (dropped-ids (set-of (now (dropped .entry)) drops)))
         (given .base) (now (plan .entry)) r (now (plan .exit)) ⌝ }
 {
     let step = rebuild(trees, given, roots, dropped, drops, decisions, plan);
@@ -123,5 +125,6 @@ pub fn write_rebuilt<'a>(
         records: m as u32,
         names: names as u32,
         last_id: turn_back(given.last),
+        visited: place.visited,
     })
 }

@@ -6,7 +6,7 @@ use Rattle.update_dropped.specs.Set.{dropped-ids, set-of}
 use Rattle.update_rebuild.specs.Sources.{parent}
 use Rattle.update_rebuild.specs.Planned.{additions-in, RowPlanned}
 use Rattle.update_rebuild.proofs.Onward.{went-rows, onward-starts}
-use Rattle.update_rebuild.proofs.Rebuilding.{Rebuilding, inside-asked, one-wide, one-leaf, one-stops, one-goes, rebuild-ends, inside-reads, inside-stands, next-room, next-low, rebuild-skips, rebuild-stops, rebuild-goes}
+use Rattle.update_rebuild.proofs.Rebuilding.{Rebuilding, inside-few, inside-asked, one-wide, one-leaf, one-stops, one-few, one-past, rebuild-ends, seen-few, inside-reads, inside-stands, next-room, next-low, held-past, held-few, rebuild-skips, rebuild-stops, rebuild-goes}
 use borrow.Fn.Kinds.{In}
 use borrow.Fn.PlainCycle.{Measures, is, falls, and}
 use Rattle.update_rebuild.proofs.rebuild_field.Reads as rebuild-field
@@ -21,6 +21,8 @@ use Rattle.update_rebuild.proofs.close.Reads as close-reads
 use Rattle.update_dropped.proofs.dropped_member.Reads as dropped-member-reads
 use Rattle.update_rebuild.proofs.head_at.Reads as head-at-reads
 use Rattle.update_rebuild.proofs.is_leaf.Reads as is-leaf-reads
+use Rattle.update_rebuild.proofs.past.Reads as past-reads
+use Rattle.update_rebuild.proofs.over.Reads as over-reads
 use Rattle.update_rebuild.proofs.+rebuild_field+rebuild_fields.{statement}
 use Rattle.update_rebuild.proofs.+rebuild_field+rebuild_fields.Tie.{close}
 
@@ -47,7 +49,7 @@ rebuild-fields-Inv-loop trees given under dropped drops decisions plan₀ at rec
     let l = trees-in trees in
     let adds = additions-in (l .added-records) given decisions in
     let ds = dropped-ids (set-of dropped drops) in
-    Rebuilding (l .records) ds adds (given .base) levels (parent (under .q)) (under .opens) (RowPlanned (l .records) ds adds (given .base) levels left₀ (here₀ .next) (parent (under .q)) (under .opens) plan₀ at) left (here .next) (here .at) (here .count) plan
+    Rebuilding (l .records) ds adds (given .base) levels (parent (under .q)) (under .opens) (RowPlanned (l .records) ds adds (given .base) levels left₀ (here₀ .next) (parent (under .q)) (under .opens) plan₀ at) left (here .next) (here .at) (here .count) (here .visited) plan
 
 abbrev rebuild-fields-μ-loop : rebuild-fields-lts.MeasureT-loop
 rebuild-fields-μ-loop trees given under dropped drops decisions plan₀ at records levels left₀ here₀ plan left here = left
@@ -63,6 +65,8 @@ pub +rebuild-field+rebuild-fields-spec : {M : Type 1} → statement M
       put-planned-reads.Learnt,
       rebuild-fields-below t,
       rebuild-fields.Post,
+      past-reads.Asked,
+      past-reads.Learnt,
     )
     (rebuild-field-at t)
     rebuild-field.Post
@@ -75,9 +79,10 @@ pub +rebuild-field+rebuild-fields-spec : {M : Type 1} → statement M
     (λ c. search needs)  -- rebuild-field-add-t23
     (λ c. search needs)  -- rebuild-field-add-t24
     (λ c. search needs)  -- rebuild-field-add-t22
+    (λ c. search (inside-few, needs))  -- rebuild-field-add-t25
     (λ c. search (one-leaf, needs))  -- rebuild-field-returns-2
     (λ c. search needs)  -- rebuild-field-add-rebuild-fields
-    (λ c. search needs)  -- rebuild-field-sub-t27
+    (λ c. search needs)  -- rebuild-field-sub-t28
     (λ c. search needs)  -- rebuild-field-add-rebuild-fields-2
     (λ c κs. (search needs, (search (inside-asked, needs), search needs, search needs, search needs, search needs, search needs)))  -- rebuild-field-rebuild-fields-requires
     (λ c. search needs)  -- rebuild-field-enum-known-step
@@ -85,14 +90,16 @@ pub +rebuild-field+rebuild-fields-spec : {M : Type 1} → statement M
     (λ c. search (one-stops, needs))  -- rebuild-field-returns-3
     (λ c. search needs)  -- rebuild-field-cast-put-planned-2
     (λ c κs. search (went-rows, needs))  -- rebuild-field-put-planned-requires-2
-    (λ c. search needs)  -- rebuild-field-add-t31
-    (λ c. search (one-goes, needs))  -- rebuild-field-returns-4
+    (λ c κs. let few = inside-few (c .before .before .before .before .before .before .before .before .before .before .before .before .pre .1 .0) in (search needs, search needs, search (one-few, needs)))  -- rebuild-field-past-requires
+    (λ c. one-past _ _ _ _ _ _ _ _ _ _ _ (c .before .before .before .before .before .before .before .before .before .before .head-at .ensures) _ _ (c .before .before .before .before .before .before .rebuild-fields .ensures) _ _ _ (c .before .before .before .before .before .before .before .before .before .before .before .before .before .pre .1 .0 .low) (c .before .before .before .before .step .given .1) (search needs) (c .past .ensures))  -- rebuild-field-returns-4
     )
     λ t. rebuild-fields-lts.spec (
       dropped-member-reads.Asked,
       dropped-member-reads.Learnt,
       tree-end-reads.Asked,
       tree-end-reads.Learnt,
+      over-reads.Asked,
+      over-reads.Learnt,
       rebuild-field-below t,
       rebuild-field.Post,
       close-reads.Asked,
@@ -103,10 +110,11 @@ pub +rebuild-field+rebuild-fields-spec : {M : Type 1} → statement M
     rebuild-fields-Inv-loop
     rebuild-fields-μ-loop
     (λ c. search needs)  -- rebuild-fields-element-copy-out-records
-    (λ c. record { read = search needs; on = onward-starts (search needs) (search needs) (search needs) })  -- rebuild-fields-loop-holds
+    (λ c. record { read = search needs; on = onward-starts (search needs) (search needs) (search needs); seen = search needs })  -- rebuild-fields-loop-holds
     (λ c κs. search (next-room, needs))  -- rebuild-fields-dropped-member-requires
     (λ c. search (next-low, needs))  -- rebuild-fields-sub-tree-end
     (λ c κs. search (inside-stands, inside-reads, needs))  -- rebuild-fields-tree-end-requires
+    (λ c κs. search (seen-few, held-past, held-few, needs))  -- rebuild-fields-over-requires
     (λ c. search needs)  -- rebuild-fields-sub-left
     (λ c. search needs)  -- rebuild-fields-loop-less
     (λ c. search (rebuild-skips, needs))  -- rebuild-fields-loop-again
@@ -118,5 +126,5 @@ pub +rebuild-field+rebuild-fields-spec : {M : Type 1} → statement M
     (λ c. search needs)  -- rebuild-fields-loop-less-2
     (λ c. search (rebuild-goes, needs))  -- rebuild-fields-loop-again-2
     (λ c. search needs)  -- rebuild-fields-element-copy-out-added
-    (λ c κs. search needs)  -- rebuild-fields-close-requires
+    (λ c κs. search (seen-few, needs))  -- rebuild-fields-close-requires
     (λ c. rebuild-ends (c .before .before .before .before .loop .inv) (search needs) (search needs))  -- rebuild-fields-returns-2

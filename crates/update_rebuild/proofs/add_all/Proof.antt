@@ -8,7 +8,7 @@ use Rattle.update_rebuild.proofs.add_all.Tie as tie
 
 abbrev Inv-loop : tie.InvT-loop
 Inv-loop added given decisions q levels plan₀ j₀ here₀ plan j here =
-    Rest added (given .added) (unders-in decisions) (firsts-in decisions) (starts-in decisions) (given .additions) q (here₀ .next) levels (here₀ .at) (here₀ .count) plan₀ j here plan
+    Rest added (given .added) (unders-in decisions) (firsts-in decisions) (starts-in decisions) (given .additions) q (here₀ .next) levels (here₀ .at) (here₀ .count) (here₀ .visited) plan₀ j here plan
 
 abbrev μ-loop : tie.MeasureT-loop
 μ-loop added given decisions q levels plan₀ j₀ here₀ plan j here = given .additions - j
@@ -39,6 +39,6 @@ add-all-spec =
     (λ c. search (arrivals, needs))  -- returns
     (λ c. search (arrivals, needs))  -- add-j-2
     (λ c. search (arrivals, needs))  -- loop-less-2
-    (λ c. all-goes _ _ _ _ _ _ _ _ _ _ _ _ _ _ _ (c .before .before .before .before .before .before .before .before .before .before .before .before .loop .inv) _ _ _ _ (c .before .before .before .before .before .before .before .before .before .before .if1 .taken) (search needs) (search needs) (search needs) (c .before .before .before .add-tree .ensures) _ (c .before .step .given .1))  -- loop-again-2
+    (λ c. all-goes _ _ _ _ _ _ _ _ _ _ _ _ _ _ _ _ (c .before .before .before .before .before .before .before .before .before .before .before .before .loop .inv) _ _ _ _ (c .before .before .before .before .before .before .before .before .before .before .if1 .taken) (search needs) (search needs) (search needs) (c .before .before .before .add-tree .ensures) _ (c .before .step .given .1))  -- loop-again-2
     (λ c. search (arrivals, needs))  -- returns-2
     )

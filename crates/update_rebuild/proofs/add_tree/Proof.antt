@@ -16,7 +16,6 @@ add-tree-spec =
     (λ c. search needs)  -- sub-if1
     (λ c. search (growing, needs))  -- returns-2
     (λ c κs. search (growing, needs))  -- put-added-requires
-    (λ c. search needs)  -- add-t14
-    (λ c. search needs)  -- add-t18
+    (λ c κs. search (growing, needs))  -- behind-requires
     (λ c. search (growing, needs))  -- returns-3
     )

@@ -11,8 +11,8 @@ rebuild-edited-spec =
     (λ c κs. search needs)  -- rebuild-requires
     (λ c. search needs)  -- enum-known-step
     (λ c. search needs)  -- enum-told
-    (λ c. full-edited _ _ _ _ _ _ (c .before .before .rebuild .ensures) (c .enum-told .given .1))  -- returns
-    (λ c. unmarked-edited _ _ _ _ _ _ (c .before .before .before .before .before .rebuild .ensures) _ (c .before .before .before .step .given .1) _ (c .if1 .taken) (c .before .before .before .before .before .before .before .pre .4))  -- returns-2
-    (λ c κs. mark-asks _ _ _ _ _ (c .before .before .before .before .before .before .rebuild .ensures) _ (c .before .before .before .before .step .given .1))  -- mark-plan-requires
-    (λ c. marked-edited _ _ _ _ _ _ (c .before .before .before .before .before .before .before .rebuild .ensures) _ (c .before .before .before .before .before .step .given .1) _ (c .before .before .before .before .before .before .before .before .before .pre .3) (c .mark-plan .ensures))  -- returns-3
+    (λ c. full-edited _ _ _ _ _ _ _ (c .before .before .rebuild .ensures) (c .enum-told .given .1))  -- returns
+    (λ c. unmarked-edited _ _ _ _ _ _ _ (c .before .before .before .before .before .rebuild .ensures) _ (c .before .before .before .step .given .1) _ (c .if1 .taken) (c .before .before .before .before .before .before .before .pre .4))  -- returns-2
+    (λ c κs. mark-asks _ _ _ _ _ _ (c .before .before .before .before .before .before .rebuild .ensures) _ (c .before .before .before .before .step .given .1))  -- mark-plan-requires
+    (λ c. marked-edited _ _ _ _ _ _ _ (c .before .before .before .before .before .before .before .rebuild .ensures) _ (c .before .before .before .before .before .step .given .1) _ (c .before .before .before .before .before .before .before .before .before .pre .3) (c .mark-plan .ensures))  -- returns-3
     )

@@ -1,14 +1,12 @@
--- In an accepted update nothing vanishes, and what goes is what the answer leaves out. As ids stand once, the rebuild
--- comes once to what receives an addition; so weights of ids, whatever they are, have one sum over the answer and what
--- goes, and over the base and what is added.
-use Prim.Native.Nat.{ℕ, zero, suc, _+_}
+-- Nothing vanishes in the rebuild. As ids stand once, it comes once to what receives an addition; so weights of ids,
+-- whatever they are, have one sum over the rebuilt tree and what goes, and over the base and what is added.
+use Prim.Native.Nat.{ℕ, _+_}
 use mathlib.Core.Path.{_≡_, refl, sym, ap, subst, _∙_}
 use mathlib.Core.Logic.{_⊎_, inl, inr}
 use mathlib.Core.Bool.{Bool, true, false, _&&_, cond}
 use mathlib.Core.List.{List, [], _∷_, _++_, map}
 use mathlib.Core.Option.{Option, none, some}
 use native.Mathlib.Omega.{arith}
-use lib.Dec.{eqb}
 use lib.ListN.{length, length-map}
 use borrow.Author.Tests.{ne-eqb}
 use Rattle.paper.specs.Answer.{ok}
@@ -18,19 +16,13 @@ use Rattle.paper.specs.Sound.{ids}
 use Rattle.paper.specs.Gone.{dropped-member, gone, gone-columns}
 use Rattle.paper.specs.Edits.{edited-tree}
 use Rattle.paper.specs.Update.{Request, Schema, Plan, planned}
-use Rattle.paper.specs.Rebuild.{Addition, same-parent, arriving, rebuilt, added, update}
+use Rattle.paper.specs.Rebuild.{Addition, same-parent, arriving, rebuilt, added}
 use Rattle.laws.specs.Members.{_∈_}
-use Rattle.laws.proofs.Basics.{none≢some, some-is, in-left, in-right, Apart, Distinct, distinct-append, eqb-self}
-use Rattle.laws.proofs.Own.{ids-preorder}
+use Rattle.laws.proofs.Basics.{unbind, none≢some, some-is, in-left, in-right, Apart, Distinct, distinct-append}
+use Rattle.laws.proofs.Basics.{eqb-self}
 use Rattle.laws.proofs.Preorder.{length-preorder}
-use Rattle.theorems.specs.Numbers.{range, tally}
-use Rattle.theorems.specs.Run.{given}
-use Rattle.theorems.specs.Standing.{NothingVanishes, GoneIsLeftOut}
-use Rattle.theorems.proofs.Counting.{tally-in, in-tally, tally-out, tally-distinct}
-use Rattle.theorems.proofs.Evolution.{update-consumes}
-use Rattle.theorems.proofs.Receiving.{StructIn, struct-id, gone-node, Stays, AllStay}
-use Rattle.theorems.proofs.Edited.{edited-ids, edited-gone}
-use Rattle.theorems.proofs.Standing.{accepted, still-stay}
+use Rattle.laws.proofs.Own.{sound-distinct, ids-preorder}
+use Rattle.laws.proofs.Receiving.{StructIn, struct-id, gone-node, Stays, AllStay, edited-ids, edited-gone, still-stay}
 
 -- ---- the rebuild comes once to what receives an addition
 
@@ -154,13 +146,18 @@ stays-brings t ds (some x) load h u = brought-once ds x load none true t (h .0) 
 -- ---- sums
 
 module _ (w : ℕ → ℕ) where
-  abbrev sum : List ℕ → ℕ
+  abbrev pub sum : List ℕ → ℕ
   sum [] = 0
   sum (x ∷ s) = w x + sum s
 
-  sum-append : (s t : List ℕ) → sum (s ++ t) ≡ sum s + sum t
+  pub sum-append : (s t : List ℕ) → sum (s ++ t) ≡ sum s + sum t
   sum-append [] t = omega arith
   sum-append (x ∷ s) t = let r = sum-append s t in omega arith
+
+  -- What additions weigh.
+  abbrev pub loads : List (Addition Field) → ℕ
+  loads [] = 0
+  loads (a ∷ rest) = sum (ids (a .tree)) + loads rest
 
   sum-then : (t u : Forest Field) → sum (ids (t then u)) ≡ sum (ids t) + sum (ids u)
   unfolding ids _then_
@@ -254,75 +251,43 @@ module _ (w : ℕ → ℕ) where
 
     -- All of them, each under a parent that stays.
     sum-all : (t : Forest Field) → Distinct (ids t) → (adds : List (Addition Field)) → AllStay t ds adds
-        → sum (ids (again adds none true t)) + sum (gone-columns ds t) ≡ sum (ids t) + sum (given adds)
+        → sum (ids (again adds none true t)) + sum (gone-columns ds t) ≡ sum (ids t) + loads adds
     sum-all t u [] h = let r = sum-gone none true t in omega arith
     sum-all t u (a ∷ adds) h =
         let r = sum-all t u adds (h .1) in
         let z = sum-added a adds none true t in
         let o = stays-brings t ds (a .parent) (sum (ids (a .tree))) (h .0) u in
-        let g = sum-append (ids (a .tree)) (given adds) in
         omega arith
 
--- ---- an accepted update
+-- ---- the rebuild of a plan
 
-module _ (s : Schema) (q : Request) (p : Plan) (u : Schema) (e₁ : planned s q ≡ ok p) (e : update s q ≡ ok u) where
-  sum-updated : (w : ℕ → ℕ) → sum w (ids (u .tree)) + sum w (gone-columns (p .dropped) (s .tree))
-      ≡ sum w (ids (s .tree)) + sum w (given (added s q p))
-  sum-updated w =
-      let o = accepted s q p u e₁ e in
-      let t = edited-tree (p .edits) (s .tree) in
-      let same = edited-ids (p .edits) (s .tree) in
-      let sums = sum-all w (p .dropped) t (rw same (o .distinct)) (added s q p) (still-stay s q p e₁) in
-      rw (o .tree) (rw (same, edited-gone (p .edits) (p .dropped) (s .tree)) at sums)
+pub sum-rebuilt : (w : ℕ → ℕ) (s : Schema) (q : Request) (p : Plan) → planned s q ≡ ok p
+    → sum w (ids (rebuilt id-of kind-of (p .dropped) (added s q p) none true (edited-tree (p .edits) (s .tree))))
+    + sum w (gone-columns (p .dropped) (s .tree)) ≡ sum w (ids (s .tree)) + loads w (added s q p)
+unfolding planned
+sum-rebuilt w s q p e =
+    unbind _ _ e λ _ e₁ _.
+    let t = edited-tree (p .edits) (s .tree) in
+    let same = edited-ids (p .edits) (s .tree) in
+    let d : Distinct (ids t) = rw same (sound-distinct 0 (s .tree) (q .identifiers) e₁) in
+    let sums = sum-all w (p .dropped) t d (added s q p) (still-stay s q p e) in
+    rw (same, edited-gone (p .edits) (p .dropped) (s .tree)) at sums
 
-  -- By weights of one each; and of one for an id, none for the others.
-  pub nothing-vanishes : NothingVanishes s q p u
-  nothing-vanishes =
-      let many : (t : Forest Field) → sum (λ _. 1) (ids t) ≡ size t =
-      λ t.
-      rw (ids-preorder t) (sum-ones (map id-of (preorder t)) ∙ length-map (preorder t) id-of ∙ length-preorder t) in
-      let r = sum-updated (λ _. 1) in
-      let a = many (u .tree) in
-      let b = many (s .tree) in
-      let left = sum-ones (gone-columns (p .dropped) (s .tree))
-      ∙ length-map (gone id-of kind-of (p .dropped) true (s .tree)) id-of in
-      let new = sum-ones (given (added s q p)) ∙ ap length (update-consumes s q p u e₁ e .ids-given)
-      ∙ length-range (suc (s .last)) (size (q .added)) in
-      record {
-        as-many = omega arith;
-        each-id = λ x.
-            let r = sum-updated (λ y. cond (eqb x y) 1 0) in
-            let a = sum-tally x (ids (u .tree)) in
-            let b = sum-tally x (gone-columns (p .dropped) (s .tree)) in
-            let c = sum-tally x (ids (s .tree)) in
-            let d = sum-tally x (given (added s q p)) in
-            omega arith;
-      }
-    where
-      sum-ones : (l : List ℕ) → sum (λ _. 1) l ≡ length l
-      sum-ones [] = refl
-      sum-ones (x ∷ l) = let r = sum-ones l in omega arith
+-- By weights of one each: as many records.
+pub sum-ones : (l : List ℕ) → sum (λ _. 1) l ≡ length l
+sum-ones [] = refl
+sum-ones (x ∷ l) = let r = sum-ones l in omega arith
 
-      sum-tally : (x : ℕ) (l : List ℕ) → sum (λ y. cond (eqb x y) 1 0) l ≡ tally x l
-      sum-tally x [] = refl
-      sum-tally x (y ∷ l) = let r = sum-tally x l in omega arith
+pub ones-size : (t : Forest Field) → sum (λ _. 1) (ids t) ≡ size t
+ones-size t =
+    rw (ids-preorder t) (sum-ones (map id-of (preorder t)) ∙ length-map (preorder t) id-of ∙ length-preorder t)
 
-      length-range : (c n : ℕ) → length (range c n) ≡ n
-      length-range c zero = refl
-      length-range c (suc n) = ap suc (length-range (suc c) n)
-
-  -- An id of the base stands there once, so it is counted once in what goes and the answer.
-  pub gone-left-out : GoneIsLeftOut s q p u
-  gone-left-out x found out =
-      let r = nothing-vanishes .each-id x in
-      let there = tally-in x (ids (s .tree)) found in
-      let one = tally-distinct x (ids (s .tree)) (accepted s q p u e₁ e .distinct) in
-      let not-given = tally-out x (given (added s q p)) out in (
-        λ h k.
-            let g = tally-in x (gone-columns (p .dropped) (s .tree)) h in
-            let f = tally-in x (ids (u .tree)) k in
-            omega arith,
-        λ missing.
-            let f = tally-out x (ids (u .tree)) missing in
-            in-tally x (gone-columns (p .dropped) (s .tree)) (omega arith),
-      )
+pub size-rebuilt : (s : Schema) (q : Request) (p : Plan) → planned s q ≡ ok p
+    → size (rebuilt id-of kind-of (p .dropped) (added s q p) none true (edited-tree (p .edits) (s .tree)))
+    + length (gone id-of kind-of (p .dropped) true (s .tree)) ≡ size (s .tree) + loads (λ _. 1) (added s q p)
+size-rebuilt s q p e =
+    let u = rebuilt id-of kind-of (p .dropped) (added s q p) none true (edited-tree (p .edits) (s .tree)) in
+    let g = gone id-of kind-of (p .dropped) true (s .tree) in
+    let r = sum-rebuilt (λ _. 1) s q p e in
+    let left = sum-ones (map id-of g) ∙ length-map g id-of in
+    rw (ones-size u, ones-size (s .tree), left) at r

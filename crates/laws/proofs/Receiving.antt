@@ -1,7 +1,7 @@
 -- What receives an accepted addition: the root list, or a struct of the base that does not go. 15 and 16 find the
--- struct among the rows of the base, and 22 says that it stays.
+-- struct among the rows of the base, and 22 says that it stays. Edits change none of this.
 use Prim.Native.Nat.{ℕ, suc, _+_}
-use mathlib.Core.Path.{_≡_, refl, sym, ap, subst}
+use mathlib.Core.Path.{_≡_, refl, sym, ap, subst, _∙_}
 use mathlib.Core.Logic.{_⊎_, inl, inr, ⊎-elim}
 use mathlib.Core.Bool.{Bool, true, false, cond}
 use mathlib.Core.List.{List, [], _∷_, _++_, map}
@@ -10,20 +10,22 @@ use lib.Dec.{eqb}
 use Rattle.paper.specs.declared.Kind.{Kind}
 use Rattle.paper.specs.declared.Kind.the-variants.{Primitive, Structure, Listing, Mapping}
 use Rattle.paper.specs.Answer.{ok, demand, among}
-use Rattle.paper.specs.Forest.{Forest, empty, node, size, preorder}
+use Rattle.paper.specs.Forest.{Forest, empty, node, size, preorder, mapped}
 use Rattle.paper.specs.Field.{Field, id-of, kind-of, with-id, is-struct}
 use Rattle.paper.specs.Rows.{Row, Start, top, below, beside, rows, look-name}
 use Rattle.paper.specs.Sound.{ids}
 use Rattle.paper.specs.Gone.{dropped-member, gone, gone-columns}
+use Rattle.paper.specs.Edits.{Edited, edit-fields, edited-tree}
 use Rattle.paper.specs.Update.{Request, Schema, Plan, Receiver, as-struct, beyond, receiver, Placed, placed}
 use Rattle.paper.specs.Update.{placed-all, planned}
 use Rattle.paper.specs.Rebuild.{Addition, arrivals, added}
 use Rattle.laws.specs.Members.{_∈_}
 use Rattle.laws.proofs.Basics.{refused≢ok, unbind, ok-is, fault-if-ok, none≢some, some-is, in-left, in-right}
 use Rattle.laws.proofs.Basics.{in-append, any-false, eqb-self}
 use Rattle.laws.proofs.Own.{ids-preorder}
+use Rattle.laws.proofs.Edited.{edits-keep-id, edits-keep-kind, ids-mapped}
 use Rattle.laws.proofs.Rows.{name-found}
 use Rattle.laws.proofs.Runs.{map-append}
 
 -- ---- structs of a tree
 
@@ -141,3 +143,49 @@ all-stay s q p e =
     unbind _ _ a₄ λ _ _ e₅.
     subst (λ (p : Plan). AllStay (s .tree) (p .dropped) (added s q p)) (ok-is e₅)
     (all-placed-stay (s .tree) ds (s .last) 0 (q .additions) (q .added) a e₄)
+
+-- ---- edits keep ids, structs and what goes
+
+module _ (es : List Edited) where
+  pub edited-ids : (t : Forest Field) → ids (edited-tree es t) ≡ ids t
+  edited-ids = ids-mapped (edit-fields es) (edits-keep-id es)
+
+  pub edited-struct : (x : ℕ) (t : Forest Field) → StructIn x t → StructIn x (edited-tree es t)
+  unfolding mapped
+  edited-struct x empty h = h
+  edited-struct x (node f m n) (inl h) = inl (edits-keep-id es f ∙ h .0, ap is-struct (edits-keep-kind es f) ∙ h .1)
+  edited-struct x (node f m n) (inr (inl h)) = inr (inl (edited-struct x m h))
+  edited-struct x (node f m n) (inr (inr h)) = inr (inr (edited-struct x n h))
+
+  edited-going : (ds : List ℕ) (b : Bool) (t : Forest Field)
+      → map id-of (gone id-of kind-of ds b (edited-tree es t)) ≡ map id-of (gone id-of kind-of ds b t)
+  unfolding mapped
+  edited-going ds b empty = refl
+  edited-going ds b (node f m n) =
+      gone-node ds b (edit-fields es f) (edited-tree es m) (edited-tree es n)
+      ∙ rw (
+        edits-keep-id es f,
+        edits-keep-kind es f,
+        edited-ids m,
+        edited-going ds (is-struct (f .kind)) m,
+        edited-going ds b n,
+      ) (sym (gone-node ds b f m n))
+
+  pub edited-gone : (ds : List ℕ) (t : Forest Field) → gone-columns ds (edited-tree es t) ≡ gone-columns ds t
+  edited-gone ds t = edited-going ds true t
+
+-- What receives an addition stays in the edited base.
+pub still-stay : (s : Schema) (q : Request) (p : Plan) → planned s q ≡ ok p
+    → AllStay (edited-tree (p .edits) (s .tree)) (p .dropped) (added s q p)
+still-stay s q p e = go (added s q p) (all-stay s q p e)
+  where
+    one : (x : Option ℕ) → Stays (s .tree) (p .dropped) x → Stays (edited-tree (p .edits) (s .tree)) (p .dropped) x
+    one none h = tt
+    one (some x) h =
+        let same = edited-gone (p .edits) (p .dropped) (s .tree) in
+        (edited-struct (p .edits) x (s .tree) (h .0), λ k. h .1 (rw same at k))
+
+    go : (adds : List (Addition Field)) → AllStay (s .tree) (p .dropped) adds
+        → AllStay (edited-tree (p .edits) (s .tree)) (p .dropped) adds
+    go [] h = tt
+    go (a ∷ rest) h = (one (a .parent) (h .0), go rest (h .1))
