@@ -1,10 +1,12 @@
 //! The benchmark: named schemas, sizes, and the cases that are timed on them; cases that are
-//! built to be bad; updates with edits; searches by id beside a scan; the stack that an entry uses.
+//! built to be bad; updates with edits; updates in which nearly all stands inside one struct;
+//! searches by id beside a scan; the stack that an entry uses.
 
 mod deepest;
 mod edits;
 mod folded;
 mod ids;
+mod inside;
 mod rows;
 mod schemas;
 mod searches;
@@ -17,6 +19,7 @@ pub use deepest::deepest;
 pub use edits::{Editing, editing, widening};
 pub use folded::worst_folded;
 pub use ids::{FAMILIES, Family};
+pub use inside::{INSIDE, inside};
 pub use rows::{Row, rows};
 pub use schemas::{SCHEMAS, schema};
 pub use searches::{Search, scan, searches};

@@ -1,24 +1,36 @@
 //! The benchmark: for each schema, size and operation the port's time, the time of iceberg's
 //! own code from the same bytes (build and operation), how many times the port is faster, and
-//! a plain copy of the same bytes. Then the same for trees that are built to be bad, for the
-//! index, for the look-up that forgets case, for additions and for identifiers far down; updates
-//! with edits, widenings among them, beside the same ones without; searches by id beside a linear
-//! scan; the stack that each entry uses. Words behind the command choose parts of that.
+//! a plain copy of the same bytes; of an update also the records visited, and the time for each.
+//! Then the same for updates in which nearly all records stand inside one struct, and for trees that
+//! are built to be bad, for the index, for the look-up that forgets case, for additions and for
+//! identifiers far down; updates with edits, widenings among them, beside the same ones without;
+//! searches by id beside a linear scan; the stack that each entry uses. Words behind the command
+//! choose parts of that.
 
 use std::hint::black_box;
 use std::process::ExitCode;
 
 use bench::{
-    Call, Editing, FAMILIES, LINKED, Room, Row, SCHEMAS, SIZES, Search, deepest, editing, marks,
-    rows, searches, times, widening, worst_folded, worst_identifiers, worst_ids, worst_names,
-    worst_parents,
+    Call, Editing, FAMILIES, INSIDE, LINKED, Room, Row, SCHEMAS, SIZES, Search, deepest, editing,
+    inside, marks, rows, searches, times, widening, worst_folded, worst_identifiers, worst_ids,
+    worst_names, worst_parents,
 };
 use oracle::Iceberg;
 use port::Port;
 
 /// The parts besides the schemas.
-const PARTS: [&str; 9] =
-    ["ids", "names", "folded", "parents", "identifiers", "edits", "widenings", "searches", "stack"];
+const PARTS: [&str; 10] = [
+    "inside",
+    "ids",
+    "names",
+    "folded",
+    "parents",
+    "identifiers",
+    "edits",
+    "widenings",
+    "searches",
+    "stack",
+];
 
 fn main() -> ExitCode {
     let parts: Vec<&str> = SCHEMAS.iter().map(|(name, _)| *name).chain(PARTS).collect();
@@ -44,9 +56,24 @@ fn main() -> ExitCode {
     if let Some(why) = port::absent() {
         println!("the port is not there: {why}");
     }
+    let mut each = vec![];
     for (schema, what) in SCHEMAS.iter().filter(|(schema, _)| wanted(schema)) {
         println!("\n{schema}: {what}");
-        table(SIZES.into_iter().flat_map(|size| rows(schema, size)), iceberg);
+        each.extend(table(SIZES.into_iter().flat_map(|size| rows(schema, size)), iceberg));
+    }
+    if !each.is_empty() {
+        each.sort_by(f64::total_cmp);
+        let [least, median, most] = [0, each.len() / 2, each.len() - 1].map(|at| each[at]);
+        println!(
+            "\nns each of these {} updates: least {least:.1}, median {median:.1}, most {most:.1}",
+            each.len()
+        );
+    }
+    if wanted("inside") {
+        for schema in INSIDE {
+            println!("\ninside: {schema}, nearly all records inside one struct");
+            table(SIZES.into_iter().flat_map(|size| inside(schema, size)), iceberg);
+        }
     }
     if wanted("ids") {
         println!("\nids: built to be bad for the search by id");
@@ -89,17 +116,33 @@ fn main() -> ExitCode {
     ExitCode::SUCCESS
 }
 
-fn table(rows: impl IntoIterator<Item = Row>, iceberg: Option<Iceberg>) {
+/// Prints a table. The nanoseconds of its accepted updates, for each record visited.
+fn table(rows: impl IntoIterator<Item = Row>, iceberg: Option<Iceberg>) -> Vec<f64> {
     println!(
-        "{:>7} {:45}{:>12}{:>12}{:>9}{:>9}",
-        "records", "", "ours", "iceberg", "times", "copy"
+        "{:>7} {:45}{:>12}{:>12}{:>9}{:>9}{:>9}{:>9}",
+        "records", "", "ours", "iceberg", "times", "copy", "visited", "ns each"
     );
     let rows: Vec<Row> = rows.into_iter().collect();
     let calls: Vec<Option<Call>> = rows.iter().flat_map(|row| calls(row, iceberg)).collect();
+    let mut all = vec![];
     for (row, times) in rows.iter().zip(times(&calls).chunks(3)) {
         let records = row.case.records.len() / judge::RECORD_BYTES;
-        println!("{records:>7} {:45}{}", row.what, figures(times));
+        let visits = visits(row, times[0]);
+        println!("{records:>7} {:45}{}{}", row.what, figures(times), shown_visits(visits));
+        all.extend(visits.map(|(_, each)| each));
     }
+    all
+}
+
+/// The records that an accepted update visits, as the port tells them, and nanoseconds for each.
+fn visits(row: &Row, ours: Option<f64>) -> Option<(u32, f64)> {
+    let ours = ours?;
+    let visited = Room::default().visited(&row.case, &Port)?;
+    Some((visited, ours / f64::from(visited)))
+}
+
+fn shown_visits(visits: Option<(u32, f64)>) -> String {
+    visits.map_or("".into(), |(visited, each)| format!("{visited:>9}{each:>9.1}"))
 }
 
 /// A table for each update without edits, and the same with them: how many times it takes as long.
@@ -108,8 +151,8 @@ fn editings(all: Vec<Editing>, iceberg: Option<Iceberg>) {
     for Editing { of, rows } in all {
         println!("\n{of}");
         println!(
-            "{:>7} {:45}{:>12}{:>9}{:>12}{:>9}",
-            "records", "", "ours", "as long", "iceberg", "times"
+            "{:>7} {:45}{:>12}{:>9}{:>12}{:>9}{:>9}{:>9}",
+            "records", "", "ours", "as long", "iceberg", "times", "visited", "ns each"
         );
         let calls: Vec<Option<Call>> = rows.iter().flat_map(|row| calls(row, iceberg)).collect();
         let times = times(&calls);
@@ -120,11 +163,12 @@ fn editings(all: Vec<Editing>, iceberg: Option<Iceberg>) {
                 .zip(times[0])
                 .map_or("-".into(), |(with, without)| format!("{:.2}", with / without));
             println!(
-                "{records:>7} {:45}{:>12}{longer:>9}{:>12}{:>9}",
+                "{records:>7} {:45}{:>12}{longer:>9}{:>12}{:>9}{}",
                 row.what,
                 shown(*ours),
                 shown(times[1]),
-                ratio(*ours, times[1])
+                ratio(*ours, times[1]),
+                shown_visits(visits(row, *ours))
             );
         }
     }

@@ -107,6 +107,12 @@ impl Room {
         })
     }
 
+    /// The records that an accepted update visits; none for a refusal and for the others.
+    pub fn visited(&mut self, case: &Case, by: &impl Operations) -> Option<u32> {
+        let done = by.update(&case.update_call()?, &mut self.records, &mut self.names);
+        (done.refusal == 0).then_some(done.visited)
+    }
+
     /// Copies the base's bytes to the front of the buffers: what no operation can be below
     /// that writes as much.
     pub fn copy(&mut self, case: &Case) {

@@ -3,8 +3,8 @@
 use std::collections::{HashMap, HashSet};
 
 use bench::{
-    Editing, FAMILIES, Room, SCHEMAS, SIZES, editing, rows, schema, searches, widening,
-    worst_folded, worst_identifiers, worst_ids, worst_names, worst_parents,
+    Editing, FAMILIES, INSIDE, Room, Row, SCHEMAS, SIZES, editing, inside, rows, schema, searches,
+    widening, worst_folded, worst_identifiers, worst_ids, worst_names, worst_parents,
 };
 use cases::{Answer, Ask, ByJudge, Case, answer};
 use judge::{Change, Edit, ID_BYTES, LEVELS, Names, RECORD_BYTES, Tree, UpdateCall};
@@ -32,12 +32,37 @@ fn every_row_goes_as_far_as_it_says() {
     let worst = worst_names().into_iter().chain(pairs).chain(worst_parents());
     let worst = worst.chain(worst_identifiers());
     let worst = worst.chain(all_edits().flat_map(|editing| editing.rows));
-    for row in table.flatten().chain(worst) {
+    let inside = INSIDE.iter().flat_map(|name| SIZES.map(|size| inside(name, size)));
+    for row in table.flatten().chain(worst).chain(inside.flatten()) {
         let records = row.case.records.len() / RECORD_BYTES;
         let refusal = answer(&row.case).refusal().map_or(0, |r| r.number);
         assert_eq!(refusal, row.refusal, "{records} {}", row.what);
         let called = Room::default().call(&row.case, &ByJudge);
         assert_eq!(called, Some(row.refusal), "{records} {}", row.what);
+    }
+}
+
+/// What each accepted update of some rows visits.
+fn visited(rows: &[Row]) -> Vec<u32> {
+    rows.iter().filter_map(|row| Room::default().visited(&row.case, &ByJudge)).collect()
+}
+
+/// Where primitives go and come, all of the base and all that is added; a struct's inside only where
+/// the struct comes. Edits change nothing of it.
+#[test]
+fn updates_visit_so_many_records() {
+    for size in SIZES {
+        let records = size as u32;
+        for (name, _) in SCHEMAS {
+            assert_eq!(visited(&rows(name, size)), [records + 1, records + 64], "{name}");
+        }
+        for name in INSIDE {
+            assert_eq!(visited(&inside(name, size)), [3, records + 1], "{name}");
+        }
+    }
+    for Editing { of, rows } in all_edits() {
+        let visited = visited(&rows);
+        assert_eq!(visited, vec![visited[0]; rows.len()], "{of}");
     }
 }
 
@@ -266,8 +291,9 @@ fn iceberg_does_what_the_table_says() {
             assert_eq!(iceberg.operate(&row.case), done, "{name} {}", row.what);
         }
     }
-    let edits = all_edits().flat_map(|editing| editing.rows);
-    for row in worst_identifiers().into_iter().chain(edits.filter(|row| row.crate_too)) {
+    let inside = INSIDE.iter().flat_map(|name| inside(name, 100));
+    let edits = all_edits().flat_map(|editing| editing.rows).filter(|row| row.crate_too);
+    for row in worst_identifiers().into_iter().chain(inside).chain(edits) {
         assert_eq!(iceberg.operate(&row.case), row.refusal == 0, "{}", row.what);
     }
 }
