@@ -1,11 +1,11 @@
 //! The benchmark: for each schema, size and operation the port's time, the time of iceberg's
 //! own code from the same bytes (build and operation), how many times the port is faster, and
 //! a plain copy of the same bytes; of an update also the records visited, and the time for each.
-//! Then the same for updates in which nearly all records stand inside one struct, and for trees that
-//! are built to be bad, for the index, for the look-up that forgets case, for additions and for
-//! identifiers far down; updates with edits, widenings among them, beside the same ones without;
-//! searches by id beside a linear scan; the stack that each entry uses. Words behind the command
-//! choose parts of that.
+//! Then the same for updates in which nearly all records stand inside one struct, and for trees
+//! that are built to be bad, for the index, for the look-up that forgets case, for additions and
+//! for identifiers far down; updates with edits, widenings among them, beside the same ones
+//! without; searches by id beside a linear scan; the stack that each entry uses. Words behind the
+//! command choose parts of that.
 
 use std::hint::black_box;
 use std::process::ExitCode;

@@ -47,8 +47,8 @@ fn visited(rows: &[Row]) -> Vec<u32> {
     rows.iter().filter_map(|row| Room::default().visited(&row.case, &ByJudge)).collect()
 }
 
-/// Where primitives go and come, all of the base and all that is added; a struct's inside only where
-/// the struct comes. Edits change nothing of it.
+/// Where primitives go and come, all of the base and all that is added; a struct's inside only
+/// where the struct comes. Edits change nothing of it.
 #[test]
 fn updates_visit_so_many_records() {
     for size in SIZES {
