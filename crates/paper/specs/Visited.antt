@@ -12,8 +12,8 @@ use Rattle.paper.specs.Gone.{dropped-member, gone-columns}
 use Rattle.paper.specs.Update.{Request, Schema, Plan, planned}
 use Rattle.paper.specs.Rebuild.{Addition, added}
 
--- The base records with no dropped member above them. A dropped member is one of them, what is inside it is not. A dropped
--- element, key or value stays, and so does all that is inside it.
+-- The base records with no dropped member of a struct or of the root above them. A dropped member is one of them, what is inside
+-- it is not. A dropped element, key or value stays, and is no reason to leave out what is inside it.
 unfoldable pub reached : {A : Type 0} → (id : A → ℕ) → (kind : A → Kind) → (dropped : List ℕ) → (open? : Bool) → Forest A
     → List A
 reached id kind dropped open? empty = []

@@ -114,6 +114,7 @@ pub record HeadOf (records : List ℕ) (k : ℕ) (h : Head) : Type 0 where
   pub under : h .under .q ≡ suc (rec-at records k .id)
   pub word : h .under .q ≤ 4294967296
 
+-- A walk stands at w: all four of its numbers are these.
 pub record StandsAt (next at count visited : ℕ) (w : Place) : Type 0 where
   pub is : w ≡ record { next = next; at = at; count = count; visited = visited }
 
