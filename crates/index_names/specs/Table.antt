@@ -4,16 +4,14 @@ use mathlib.Core.Path.{_≡_}
 use mathlib.Core.List.{List}
 use lib.ListN.{length, set}
 use Rattle.paper.specs.Layout.{Part}
-use Rattle.record.specs.declared.Check.{Check}
 use Rattle.record.specs.Trees.{Trees}
 use Rattle.plan.specs.Table.{sources}
 use Rattle.plan.specs.Named.{names-in}
-use Rattle.index_ids.specs.Chain.{Chained}
-use Rattle.index_ids.specs.Table.{ups-in, lens-in, tags-in, name-heads, name-next, Within}
+use Rattle.index_ids.specs.Table.{ups-in, lens-in, tags-in, Within}
 use Rattle.index_names.specs.declared.Prefix.{Prefix}
 use Rattle.index_names.specs.Hash.{mix, hash-on, tag}
 use Rattle.index_names.specs.Full.{full-at}
-use Rattle.index_names.specs.Told.{Marked, Spelt, Tagged, name-bucket, Unequal}
+use Rattle.index_names.specs.Told.{Marked, Spelt, Tagged}
 
 -- The full name of a slot.
 abbrev pub full-in : Trees → (plan index : List (List ℕ)) → ℕ → List ℕ
@@ -24,9 +22,6 @@ SpeltIn l plan m index = Spelt l (sources plan) m (ups-in index) (lens-in index)
 
 abbrev pub TaggedIn : Trees → (plan : List (List ℕ)) (m : ℕ) (index : List (List ℕ)) → Type 0
 TaggedIn l plan m index = Tagged l (sources plan) m (ups-in index) (tags-in index)
-
-abbrev pub NamesChained : Trees → (plan index : List (List ℕ)) (m : ℕ) → Type 0
-NamesChained l plan index m = Chained (name-bucket l (sources plan) (ups-in index)) (name-heads index) (name-next index) m
 
 -- What is kept of one slot is put into the three rows of the names, and no other is written.
 pub record PutIn (k up len tag : ℕ) (old new : List (List ℕ)) : Type 0 where
@@ -49,8 +44,3 @@ pub record OneIn (name : ℕ → List ℕ) (k : ℕ) (p r : Prefix) (old new : L
 pub record MarkedIn (name : ℕ → List ℕ) (p : Part) (slot up len hash : ℕ) (old new : List (List ℕ)) (r : ℕ) : Type 0 where
   pub marked : Marked name p slot up len hash (ups-in old) (lens-in old) (tags-in old) (ups-in new) (lens-in new) (tags-in new) r
   pub within : Within 3 6 old new
-
--- The answer to 8: the two rows of the chains, and no other, are written.
-pub record UnequalIn (l : Trees) (plan : List (List ℕ)) (m list : ℕ) (r : Check) (old new : List (List ℕ)) : Type 0 where
-  pub unequal : Unequal l (sources plan) (ups-in old) m list r (name-heads new) (name-next new)
-  pub within : Within 6 8 old new
