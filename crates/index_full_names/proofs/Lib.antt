@@ -1,0 +1,4 @@
+pub mod Uniquely
+pub mod Halving
+pub mod Inserting
+pub mod Checking
