@@ -1,2 +1,4 @@
-pub mod Blocks
 pub mod Ordering
+pub mod Ends
+pub mod Blocks
+pub mod Walking
