@@ -1,0 +1,4 @@
+pub mod Ordering
+pub mod Ends
+pub mod Blocks
+pub mod Walking
