@@ -34,7 +34,8 @@ use Rattle.index_ids.proofs.Repeats.{slot-at, found-below}
 use Rattle.plan.specs.Walk.{walk, trees-of}
 use Rattle.index_names.specs.Full.{fulls, ups, full-at}
 use Rattle.plan.specs.Named.{name-in, kind-in}
-use Rattle.index_names.specs.Told.{Raised, is-full}
+use Rattle.index_names.specs.Told.{Raised}
+use Rattle.index_full_names.specs.Names.{is-full}
 use Rattle.index_names.proofs.Rising.{Climbs, climbs}
 use Rattle.index_names.proofs.Rows.{Rel, none-found, found-at, parent-at, line-nearest, id-row, full-row}
 use Rattle.plan.proofs.Walks.{all-there, all-numbered}

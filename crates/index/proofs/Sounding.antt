@@ -28,10 +28,12 @@ use Rattle.index_identifiers.specs.Nine.{rule-9}
 use Rattle.plan.specs.Walk.{walk, trees-of}
 use Rattle.index_names.specs.Full.{fulls}
 use Rattle.plan.specs.Named.{name-in, Sources}
-use Rattle.index_names.specs.Told.{Raised, Spelt, Tagged, rule-8}
+use Rattle.index_names.specs.Told.{Raised, Spelt, Tagged}
 use Rattle.plan.specs.Named.{names-in, SourcesIn}
 use Rattle.plan.specs.Walk.{walk-in}
-use Rattle.index_names.specs.Table.{MarkedIn, UnequalIn}
+use Rattle.index_names.specs.Table.{MarkedIn}
+use Rattle.index_full_names.specs.Names.{rule-8}
+use Rattle.index_full_names.specs.Filed.{UnequalIn}
 use Rattle.index_names.proofs.Rows.{plan-ids, plan-names}
 use Rattle.index_names.proofs.Telling.{ups-told, names-told, tags-told, fulls-are}
 use Rattle.index.specs.Index.{NamesIndexed, Indexing}
@@ -52,12 +54,12 @@ names-indexed l plan m list r c old mid new S R w u =
     let h = names-marked l (sources plan) kids m r old mid S R w in
     let up : Raised (members plan) m (ups-in mid) = record { above = ups-told l (sources plan) kids m r _ _ _ _ _ _ (R .wide 3 (omega arith)) (R .wide 4 (omega arith)) (R .wide 5 (omega arith)) S (w .marked) } in
     record {
-      answer = u .unequal .answer ∙ ap (λ z. tested 8 list (repeated same [] 0 z)) (fulls-are (names-in l plan) kids m (ups-in mid) (up .above));
+      answer = u .answer ∙ ap (λ z. tested 8 list (repeated same [] 0 z)) (fulls-are (names-in l plan) kids m (ups-in mid) (up .above));
       within = within-both 3 8 old mid new (within-wider 3 6 3 8 old mid (w .within) (omega arith) (omega arith)) (within-wider 6 8 3 8 mid new (u .within) (omega arith) (omega arith));
       raised = rw (q 3 (omega arith)) up;
       spelt = rw (q 3 (omega arith), q 4 (omega arith)) (h .0);
       tagged = rw (q 3 (omega arith), q 5 (omega arith)) (h .1 .0);
-      chained = λ f. rw (q 3 (omega arith)) (u .unequal .index f);
+      filed = u .index;
     }
 
 -- ---- 7 to 9: `search sounding`
@@ -114,7 +116,7 @@ module _ (l : Trees) (plan : List (List ℕ)) (m list : ℕ) (identifiers : List
           let R′ = eb .within .rooms ids-rooms in
           record {
             answer = ec ∙ tested-fault 9 5 _ ∙ sym (ap checked (past-7 ∙ chain-goes 8 list (repeated same [] 0 (fulls (names-in l plan) [] (trees-of (kids-in (members plan)) m))) b (λ _. nine) (eb .answer) fb));
-            index = λ e. record { rooms = R′; by-id = ids-chained l plan m list a b old mid new ea fa eb; raised = eb .raised; spelt = eb .spelt; tagged = eb .tagged; by-name = eb .chained fb };
+            index = λ e. record { rooms = R′; by-id = ids-chained l plan m list a b old mid new ea fa eb; raised = eb .raised; spelt = eb .spelt; tagged = eb .tagged; by-name = eb .filed fb };
             rooms = R′;
           }
 

@@ -34,7 +34,8 @@ use Rattle.index_names.specs.Full.{fulls}
 use Rattle.index_names.specs.Told.{Raised}
 use Rattle.plan.specs.Named.{name-in, kind-in}
 use Rattle.plan.specs.Named.{names-in}
-use Rattle.index_names.specs.Table.{SpeltIn, TaggedIn, NamesChained}
+use Rattle.index_names.specs.Table.{SpeltIn, TaggedIn}
+use Rattle.index_full_names.specs.Filed.{NamesFiled}
 use Rattle.index_short_names.specs.Seek.{seek-in}
 
 -- Places above fall.
@@ -48,16 +49,16 @@ pub record Index (l : Trees) (plan : List (List ℕ)) (m : ℕ) (index : List (L
   pub raised : Raised (members plan) m (ups-in index)
   pub spelt : SpeltIn l plan m index
   pub tagged : TaggedIn l plan m index
-  pub by-name : NamesChained l plan index m
+  pub by-name : NamesFiled l plan index m
 
--- The answer to 8, and what is left: places above, lengths and tags always, the chains where there is no fault.
+-- The answer to 8, and what is left: places above, lengths and tags always, the index of full names where there is no fault.
 pub record NamesIndexed (l : Trees) (plan : List (List ℕ)) (m list : ℕ) (r : Check) (old new : List (List ℕ)) : Type 0 where
   pub answer : r ≡ tested 8 list (repeated same [] 0 (fulls (names-in l plan) [] (trees-of (kids-in (members plan)) m)))
   pub within : Within 3 8 old new
   pub raised : Raised (members plan) m (ups-in new)
   pub spelt : SpeltIn l plan m new
   pub tagged : TaggedIn l plan m new
-  pub chained : r ≡ check.Fine → NamesChained l plan new m
+  pub filed : r ≡ check.Fine → NamesFiled l plan new m
 
 -- The answer to 7, 8 and 9 of a planned tree, and the index that is left where there is no fault. Its rows keep their room.
 pub record Indexing (l : Trees) (plan : List (List ℕ)) (m list : ℕ) (identifiers : List ℕ) (r : Check) (old new : List (List ℕ)) : Type 0 where

@@ -1,12 +1,12 @@
 // index.rs: ids, parents and names of a planned tree, which the base is too. Refusals 7 to 9, and the look-ups.
+use index_full_names::check_names;
+use index_full_names::find_full;
 use index_identifiers::check_identifiers;
 use index_ids::IndexRows;
 use index_ids::UPS;
 use index_ids::cell;
 use index_ids::check_ids;
 use index_names::Prefix;
-use index_names::check_names;
-use index_names::find_full;
 use index_names::mark_row;
 use index_short_names::Sighting;
 use index_short_names::seek;
