@@ -4,6 +4,6 @@ pub mod Sourcing
 pub mod Standing
 pub mod Summing
 pub mod Taking
-pub mod Writing
+pub mod Putting
 pub mod Naming
 pub mod Walks

@@ -3,32 +3,25 @@ use Prim.Native.Nat.{ℕ, zero, suc, _+_, _-_, _*_, _/_, _%_, _<_, _≤_}
 use mathlib.Core.Path.{_≡_, sym, _∙_}
 use mathlib.Core.Bool.{Bool, true, false, true≢false}
 use mathlib.Core.Logic.{⊎-elim}
-use mathlib.Core.List.{List, [], _∷_}
+use mathlib.Core.List.{List}
 use native.Mathlib.Omega.{arith}
 use borrow.Author.Tests.{leb-true, lt-ltb, le-ltb, eq-eqb, ne-eqb}
 use lib.Dec.{ltb}
-use lib.ListN.{length, getD, drop, length-drop}
+use lib.ListN.{length, drop, length-drop}
 use lib.Seq.{length-take-le}
 use denote.Ref.{RefT, now}
 use Rattle.paper.specs.declared.Kind.{Kind}
-use Rattle.paper.specs.Bytes.{turned, rec-at, kind-at, name-of, in-pool, field-at}
+use Rattle.paper.specs.Bytes.{rec-at, kind-at, name-of, in-pool, field-at}
 use Rattle.paper.specs.Field.{is-required}
 use Rattle.paper.specs.Lists.{edit-at, edit-in, new-name}
 use Rattle.paper.specs.Edits.{relaxed}
-use Rattle.paper.specs.Encode.{bytes32, row24, rec-bytes}
 use Rattle.tree.proofs.Filled.{lt-or-le}
 use Rattle.record.specs.Trees.{Trees, lent-trees, trees-in, slice-at}
 use Rattle.record_entries.proofs.Entries.{edit-ends}
-use Rattle.plan.specs.Plan.{edited-slot, mark-of, low-part, renaming, widening, marked-name, marked-flags, marked-code, marked-field, by-source, source-field, planned-field, Sits}
-use Rattle.plan.specs.Sources.{source-kind, marked-len, source-len, source-flags, source-code, row-of, source-row, NameAt, In}
+use Rattle.plan.specs.Plan.{edited-slot, mark-of, low-part, renaming, widening, marked-name, marked-flags, marked-code, marked-field, by-source, source-field, Sits}
+use Rattle.plan.specs.Sources.{source-kind, marked-len, source-len, source-flags, source-code, NameAt, In}
 
--- ---- what the code reads and writes
-
-pub row-is : (i a m c d : List ℕ) (id at len kind flags kids code attribute : ℕ) → i ≡ bytes32 id [] → a ≡ bytes32 at [] → m ≡ bytes32 kids [] → c ≡ bytes32 code [] → d ≡ bytes32 attribute []
-    → getD i 0 0 ∷ getD i 1 0 ∷ getD i 2 0 ∷ getD i 3 0 ∷ getD a 0 0 ∷ getD a 1 0 ∷ getD a 2 0 ∷ getD a 3 0 ∷ len ∷ kind ∷ flags ∷ 0 ∷ getD m 0 0 ∷ getD m 1 0 ∷ 0 ∷ 0
-    ∷ getD c 0 0 ∷ getD c 1 0 ∷ getD c 2 0 ∷ getD c 3 0 ∷ getD d 0 0 ∷ getD d 1 0 ∷ getD d 2 0 ∷ getD d 3 0 ∷ [] ≡ row24 id at len kind flags kids code attribute
-unfolding row24
-row-is i a m c d id at len kind flags kids code attribute ei ea em ec ed = rw (ei, ea, em, ec, ed)
+-- ---- what the code reads
 
 module _ (base added edits : List ℕ) (x : ℕ) (h : In base added edits x) where
   pub in-base : x < 1024 → x * 24 + 24 ≤ length base
@@ -144,13 +137,6 @@ module _ (base added edits : List ℕ) (x slot : ℕ) (l : 2048 ≤ x) (es : slo
   unfolding source-kind
   kind-edited r e = from-edited x r _ _ (kind-at base (edited-slot x)) l (rw (← es) e)
 
-  pub row-edited : (r : List ℕ) (id kids at len flags code : ℕ) → len ≡ marked-len base edits (mark-of x) (edited-slot x) → flags ≡ marked-flags base (mark-of x) (edited-slot x)
-      → code ≡ marked-code base edits (mark-of x) (edited-slot x) → r ≡ row-of base slot id kids at len flags code → r ≡ source-row base added edits x id kids at
-  unfolding source-row
-  row-edited r id kids at len flags code el ef ec e =
-      from-edited x r _ _ (row-of base (edited-slot x) id kids at (marked-len base edits (mark-of x) (edited-slot x)) (marked-flags base (mark-of x) (edited-slot x)) (marked-code base edits (mark-of x) (edited-slot x))) l
-      (rw (← el, ← ef, ← ec, ← es) e)
-
 -- ---- the name as a part of its pool
 
 module _ (slices : List (RefT (List ℕ))) (x : ℕ) (r : RefT (List ℕ)) where
@@ -194,30 +180,11 @@ pub ruleset sourcing =
 
 -- ---- the same of the planned field
 
-name-length : (pool s : List ℕ) (k : ℕ) → in-pool (length pool) s k ≡ true → length (name-of pool s k) ≡ rec-at s k .name-len
+pub name-length : (pool s : List ℕ) (k : ℕ) → in-pool (length pool) s k ≡ true → length (name-of pool s k) ≡ rec-at s k .name-len
 unfolding in-pool name-of
 name-length pool s k e =
     let h = leb-true (rec-at s k .name-at + rec-at s k .name-len) (length pool) e in
     length-take-le (rec-at s k .name-len) (drop (rec-at s k .name-at) pool) (simp length-drop (omega arith))
-
--- Reading an id and writing it again gives its 32 bits.
-lowest-byte : (y q : ℕ) → (q * 256 + y) % 256 ≡ y % 256
-lowest-byte y q = omega arith
-
-same-bits : (x : ℕ) → turned (turned x) ≡ x % 4294967296
-unfolding turned
-same-bits x = omega arith
-
-bits-again : (x : ℕ) (rest : List ℕ) → bytes32 x rest ≡ bytes32 (turned (turned x)) rest
-bits-again x rest = rw (same-bits x) (go (x % 4294967296) (x / 4294967296) (omega arith) (omega arith))
-  where
-    go : (r q : ℕ) → r < 4294967296 → x ≡ q * 4294967296 + r → bytes32 x rest ≡ bytes32 r rest
-    go r q l e =
-        let b : x / 256 ≡ q * 65536 * 256 + r / 256 = omega arith in
-        let c : x / 65536 ≡ q * 256 * 256 + r / 65536 = omega arith in
-        let d : x / 16777216 ≡ q * 256 + r / 16777216 = omega arith in
-        let a′ : x % 256 ≡ r % 256 = omega arith in
-        rw (a′, b, c, d, lowest-byte (r / 256) (q * 65536), lowest-byte (r / 65536) (q * 256), lowest-byte (r / 16777216) q)
 
 new-name-length : (pool s : List ℕ) (k : ℕ) → edit-at s k .what ≡ 1 → edit-in (length pool) s k ≡ true → length (new-name pool s k) ≡ edit-at s k .name-len
 unfolding new-name
@@ -225,7 +192,7 @@ new-name-length pool s k w e =
     let h = edit-ends (length pool) s k e .1 w in
     length-take-le (edit-at s k .name-len) (drop (edit-at s k .name-at) pool) (simp length-drop (omega arith))
 
-marked-length : (l : Trees) (mark slot : ℕ) → in-pool (length (l .pool)) (l .records) slot ≡ true → (2 ≤ low-part mark → edit-at (l .edits) (renaming mark) .what ≡ 1)
+pub marked-length : (l : Trees) (mark slot : ℕ) → in-pool (length (l .pool)) (l .records) slot ≡ true → (2 ≤ low-part mark → edit-at (l .edits) (renaming mark) .what ≡ 1)
     → (2 ≤ low-part mark → edit-in (length (l .request-pool)) (l .edits) (renaming mark) ≡ true) → marked-len (l .records) (l .edits) mark slot ≡ length (marked-name l mark slot)
 unfolding marked-len marked-name
 marked-length l mark slot h w g = ⊎-elim
@@ -259,10 +226,3 @@ module _ (l : Trees) (x : ℕ) where
       (λ b. rw (lt-ltb x 1024 b, name-length (l .pool) (l .records) x (h .base-named b)))
       (λ b c. rw (le-ltb x 1024 b, lt-ltb x 2048 c, name-length (l .request-pool) (l .added-records) (x - 1024) (h .added-named b c)))
       (λ b c. rw (le-ltb x 1024 b, le-ltb x 2048 c) (marked-length l (mark-of x) (edited-slot x) (h .edited-named c) (h .renamed-what c) (h .renamed-named c)))
-
-  pub row-source : (id kids at : ℕ) → Sits l x → source-row (l .records) (l .added-records) (l .edits) x id kids at ≡ rec-bytes at (planned-field l (record { slot = x; id = id })) kids
-  unfolding source-row row-of source-field planned-field field-at marked-field row24
-  row-source id kids at h = source-cases x
-      (λ b. rw (lt-ltb x 1024 b, name-length (l .pool) (l .records) x (h .base-named b)) (bits-again id _))
-      (λ b c. rw (le-ltb x 1024 b, lt-ltb x 2048 c, name-length (l .request-pool) (l .added-records) (x - 1024) (h .added-named b c)) (bits-again id _))
-      (λ b c. rw (le-ltb x 1024 b, le-ltb x 2048 c, marked-length l (mark-of x) (edited-slot x) (h .edited-named c) (h .renamed-what c) (h .renamed-named c)) (bits-again id _))

@@ -1,18 +1,15 @@
--- What a planned record takes from its source, and the bytes that it becomes.
+-- What a planned record takes from its source.
 use Prim.Native.Nat.{ℕ, _+_, _-_, _*_, _<_, _≤_}
 use mathlib.Core.Path.{_≡_}
 use mathlib.Core.Bool.{Bool, cond}
-use mathlib.Core.List.{List, _++_}
+use mathlib.Core.List.{List}
 use lib.Dec.{ltb, leb}
-use lib.ListN.{length, getD, drop}
+use lib.ListN.{length, getD}
 use denote.Ref.{RefT, now}
 use Rattle.paper.specs.declared.Kind.{Kind}
-use Rattle.paper.specs.Forest.{Forest}
-use Rattle.paper.specs.Field.{Field}
 use Rattle.paper.specs.Sound.{name-bytes}
 use Rattle.paper.specs.Bytes.{rec-at, kind-at}
 use Rattle.paper.specs.Lists.{edit-at}
-use Rattle.paper.specs.Encode.{kind-byte, row24, record-bytes, pool-bytes}
 use Rattle.record.specs.Trees.{lent-trees, trees-in, slice-at}
 use Rattle.plan.specs.Plan.{Source, plan-fields, source-field, by-source, edited-slot, mark-of, low-part, renaming, widening, marked-flags, marked-code}
 use Rattle.plan.specs.Draft.{Draft}
@@ -35,22 +32,6 @@ source-flags base added x =
 unfoldable pub source-code : (base added edits : List ℕ) → ℕ → ℕ
 source-code base added edits x =
     by-source x (rec-at base x .code) (rec-at added (x - 1024) .code) (marked-code base edits (mark-of x) (edited-slot x))
-
--- The record at a slot of a list, with another id, count, name offset, name length, flags and type code.
-unfoldable pub row-of : List ℕ → (k id kids at len flags code : ℕ) → List ℕ
-row-of records k id kids at len flags code =
-    row24 id at len (kind-byte (kind-at records k)) flags kids code (rec-at records k .attribute)
-
--- The same with its own name length, flags and type code.
-abbrev pub kept-row : List ℕ → (k id kids at : ℕ) → List ℕ
-kept-row records k id kids at =
-    row-of records k id kids at (rec-at records k .name-len) (rec-at records k .flags) (rec-at records k .code)
-
-unfoldable pub source-row : (base added edits : List ℕ) → (x id kids at : ℕ) → List ℕ
-source-row base added edits x id kids at =
-    by-source x (kept-row base x id kids at) (kept-row added (x - 1024) id kids at)
-    (row-of base (edited-slot x) id kids at (marked-len base edits (mark-of x) (edited-slot x))
-    (marked-flags base (mark-of x) (edited-slot x)) (marked-code base edits (mark-of x) (edited-slot x)))
 
 -- The pool in which a source's name lies, by its number in `Trees`, and where there.
 abbrev pub pool-of : ℕ → ℕ
@@ -90,9 +71,3 @@ id-bits records k = rec-at records k .id
 
 abbrev pub own-source : List ℕ → ℕ → Source
 own-source records k = record { slot = k; id = id-bits records k }
-
--- What the writer leaves in the two buffers, and the name bytes that it used.
-pub record Written (t : Forest Field) (records names : List ℕ) (used : ℕ) (records′ names′ : List ℕ) : Type 0 where
-  pub rows : records′ ≡ record-bytes t ++ drop (length (record-bytes t)) records
-  pub pool : names′ ≡ pool-bytes t ++ drop (length (pool-bytes t)) names
-  pub bytes : used ≡ length (pool-bytes t)

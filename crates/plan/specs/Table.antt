@@ -11,7 +11,7 @@ use Rattle.tree.specs.Read.{itself}
 use Rattle.record.specs.Trees.{Trees}
 use Rattle.plan.specs.Plan.{Source, slot-of, bits-of, Plan, plan-fields}
 use Rattle.plan.specs.Draft.{Draft}
-use Rattle.plan.specs.Sources.{source-row, id-bits, Inside}
+use Rattle.plan.specs.Sources.{id-bits, Inside}
 
 abbrev pub sources : List (List ℕ) → List ℕ
 sources plan = getD plan 0 []
@@ -40,11 +40,6 @@ fields-in l plan m = plan-fields l (sources plan) (numbers plan) (members plan) 
 
 abbrev pub InsideIn : Trees → (plan : List (List ℕ)) (m : ℕ) → Type 0
 InsideIn l plan m = Inside (l .records) (l .added-records) (l .edits) (sources plan) m
-
--- The bytes that the record at a place becomes, its name at offset `at` of the answer.
-abbrev pub planned-row : Trees → (plan : List (List ℕ)) (i at : ℕ) → List ℕ
-planned-row l plan i at =
-    source-row (l .records) (l .added-records) (l .edits) (getD (sources plan) i 0) (getD (numbers plan) i 0) (getD (members plan) i 0) at
 
 -- One record was planned at a place.
 abbrev pub planned-at : (plan : List (List ℕ)) (at source id kids : ℕ) → List (List ℕ)

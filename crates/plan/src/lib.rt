@@ -1,4 +1,4 @@
-// Plans: planned records, their names as parts of one of two pools, and the one writer.
+// Plans: planned records, and their names as parts of one of two pools.
 use paper::Kind;
 use paper::is_required;
 use record::ADDED_RECORDS;
@@ -7,7 +7,6 @@ use record::POOL;
 use record::RECORDS;
 use record::REQUEST_POOL;
 use record::Trees;
-use record::attribute_at;
 use record::code_at;
 use record::flags_at;
 use record::id_bits_at;
@@ -15,22 +14,20 @@ use record::kids_at;
 use record::kind_at;
 use record::name_at;
 use record::name_len_at;
-use record::word_bytes;
 use record_entries::new_code_at;
 use record_entries::new_name_at;
 use record_entries::new_name_len;
 ghost use mathlib.Core.Path.{_≡_};
 ghost use Prim.Native.Nat.{_+_, _*_, _≤_, _<_};
-ghost use lib.ListN.{length, getD};
+ghost use lib.ListN.{length};
 ghost use lib.Seq.{sets};
 ghost use Rattle.paper.specs.Edits.{relaxed};
-ghost use Rattle.paper.specs.Encode.{kind-byte, row24};
 ghost use Rattle.record.specs.Trees.{trees-in};
 ghost use Rattle.plan.specs.Plan.{edited-slot, mark-of, low-part, marked-flags, marked-code, Sits};
 ghost use Rattle.plan.specs.Sources.{source-kind, marked-len, source-len, source-flags, source-code};
-ghost use Rattle.plan.specs.Sources.{row-of, kept-row, source-row, NameAt, In, Summed, Written};
+ghost use Rattle.plan.specs.Sources.{NameAt, In, Summed};
 ghost use Rattle.plan.specs.Named.{names-in, SourcesIn};
-ghost use Rattle.plan.specs.Table.{sources, PlanIn, fields-in, InsideIn, planned-row, planned-at, CopiedIn, TakenIn};
+ghost use Rattle.plan.specs.Table.{sources, InsideIn, planned-at, CopiedIn, TakenIn};
 
 // A plan's rows: where each planned record comes from, its id as 32 bits, how many members it has. A source below 1,024 is a slot of
 // the base, one from 1,024 to 2,047 a slot of the additions tree, one from 2,048 on a slot of the base as edits leave it:
@@ -83,14 +80,15 @@ pub fn take_base(records: &[u8], n: usize, plan: &mut PlanRows)
     copy_records(records, 0, n, plan, 0);
 }
 
-// Of a source from 2,048 on: the slot in the base, the mark, and the part of the mark on renaming and relaxing.
-fn edited_slot(k: usize) -> usize
+// The slot in the base of a source from 2,048 on.
+pub fn edited_slot(k: usize) -> usize
     requires { ⌜ 2048 ≤ k ⌝ }
     ensures { λ r. ⌜ r ≡ edited-slot k ⌝ }
 {
     (k - 2048) % 1024
 }
 
+// Its mark, and the part of the mark on renaming and relaxing.
 fn mark_of(k: usize) -> usize
     requires { ⌜ 2048 ≤ k ⌝ }
     ensures { λ r. ⌜ r ≡ mark-of k ⌝ }
@@ -116,7 +114,7 @@ fn relaxed_flags(flags: u8) -> u8
 }
 
 // The length of an edited record's name: the new one's, if it is renamed.
-fn edited_name_len<'a>(trees: &Trees<'a>, k: usize) -> usize
+pub fn edited_name_len<'a>(trees: &Trees<'a>, k: usize) -> usize
     requires { ⌜ (2048 ≤ k) × In (trees-in (now trees) .records)
         (trees-in (now trees) .added-records) (trees-in (now trees) .edits) k ⌝ }
     ensures { λ r. ⌜ (r ≡ marked-len (trees-in (now (trees .entry)) .records)
@@ -130,7 +128,7 @@ fn edited_name_len<'a>(trees: &Trees<'a>, k: usize) -> usize
 }
 
 // Its flags: no longer required, if it is relaxed.
-fn edited_flags<'a>(trees: &Trees<'a>, k: usize) -> u8
+pub fn edited_flags<'a>(trees: &Trees<'a>, k: usize) -> u8
     requires { ⌜ (2048 ≤ k) × In (trees-in (now trees) .records)
         (trees-in (now trees) .added-records) (trees-in (now trees) .edits) k ⌝ }
     ensures { λ r. ⌜ r ≡ marked-flags (trees-in (now (trees .entry)) .records) (mark-of k)
@@ -144,7 +142,7 @@ fn edited_flags<'a>(trees: &Trees<'a>, k: usize) -> u8
 }
 
 // Its type code: the new one, if it is widened.
-fn edited_code<'a>(trees: &Trees<'a>, k: usize) -> u32
+pub fn edited_code<'a>(trees: &Trees<'a>, k: usize) -> u32
     requires { ⌜ (2048 ≤ k) × In (trees-in (now trees) .records)
         (trees-in (now trees) .added-records) (trees-in (now trees) .edits) k ⌝ }
     ensures { λ r. ⌜ r ≡ marked-code (trees-in (now (trees .entry)) .records)
@@ -287,136 +285,6 @@ pub fn names_fit<'a>(trees: &Trees<'a>, plan: &PlanRows, m: usize) -> bool
     sum <= 32768
 }
 
-// The byte that stands for a kind.
-fn kind_byte(k: Kind) -> u8
-    ensures { λ r. ⌜ r ≡ kind-byte k ⌝ }
-{
-    match k {
-        Kind::Primitive => 0,
-        Kind::Structure => 1,
-        Kind::Listing => 2,
-        Kind::Mapping => 3,
-    }
-}
-
-// The 24 bytes of a record.
-fn row_bytes(
-    id: u32,
-    at: u32,
-    len: u8,
-    kind: u8,
-    flags: u8,
-    kids: u32,
-    code: u32,
-    attribute: u32,
-) -> [u8; 24]
-    ensures { λ r. ⌜ r ≡ row24 id at len kind flags kids code attribute ⌝ }
-{
-    let i = word_bytes(id);
-    let a = word_bytes(at);
-    let m = word_bytes(kids);
-    let c = word_bytes(code);
-    let d = word_bytes(attribute);
-    [
-        i[0],
-        i[1],
-        i[2],
-        i[3],
-        a[0],
-        a[1],
-        a[2],
-        a[3],
-        len,
-        kind,
-        flags,
-        0,
-        m[0],
-        m[1],
-        0,
-        0,
-        c[0],
-        c[1],
-        c[2],
-        c[3],
-        d[0],
-        d[1],
-        d[2],
-        d[3],
-    ]
-}
-
-// A record of a list with another id, number of members, name offset, name length, flags and type code.
-fn changed_bytes(
-    recs: &[u8],
-    slot: usize,
-    id: u32,
-    kids: u32,
-    at: u32,
-    len: usize,
-    flags: u8,
-    code: u32,
-) -> [u8; 24]
-    requires { ⌜ (slot * 24 + 24 ≤ length (now recs)) × (len ≤ 255) ⌝ }
-    ensures { λ r. ⌜ r ≡ row-of (now (recs .entry)) slot id kids at len flags code ⌝ }
-{
-    row_bytes(
-        id,
-        at,
-        len as u8,
-        kind_byte(kind_at(recs, slot)),
-        flags,
-        kids,
-        code,
-        attribute_at(recs, slot),
-    )
-}
-
-// The same with its own name length, flags and type code.
-fn kept_bytes(recs: &[u8], slot: usize, id: u32, kids: u32, at: u32) -> [u8; 24]
-    requires { ⌜ slot * 24 + 24 ≤ length (now recs) ⌝ }
-    ensures { λ r. ⌜ r ≡ kept-row (now (recs .entry)) slot id kids at ⌝ }
-{
-    changed_bytes(
-        recs,
-        slot,
-        id,
-        kids,
-        at,
-        name_len_at(recs, slot),
-        flags_at(recs, slot),
-        code_at(recs, slot),
-    )
-}
-
-// A planned record's 24 bytes, its name at offset `at` of the answer.
-fn planned_bytes<'a>(trees: &Trees<'a>, source: u32, id: u32, kids: u32, at: u32) -> [u8; 24]
-    requires { ⌜ Sits (trees-in (now trees)) source ⌝ }
-    ensures { λ r. ⌜ r ≡ source-row (trees-in (now (trees .entry)) .records)
-        (trees-in (now (trees .entry)) .added-records) (trees-in (now (trees .entry)) .edits)
-        source id kids at ⌝ }
-{
-    let k = source as usize;
-    if k < 1024 {
-        return kept_bytes(trees[RECORDS], k, id, kids, at);
-    }
-    if k < 2048 {
-        return kept_bytes(trees[ADDED_RECORDS], k - 1024, id, kids, at);
-    }
-    let len = edited_name_len(trees, k);
-    let flags = edited_flags(trees, k);
-    let code = edited_code(trees, k);
-    changed_bytes(
-        trees[RECORDS],
-        edited_slot(k),
-        id,
-        kids,
-        at,
-        len,
-        flags,
-        code,
-    )
-}
-
 // The bytes of `src` into `out` from `at` on; the rest of `out` stays.
 pub fn put_bytes(out: &mut [u8], at: usize, src: &[u8])
     requires { ⌜ at + length (now src) ≤ length (now out) ⌝ }
@@ -428,47 +296,4 @@ pub fn put_bytes(out: &mut [u8], at: usize, src: &[u8])
         out[at + i] = src[i];
         i += 1;
     }
-}
-
-// The planned record i into its place among the records; the rest of them stays.
-fn put_record<'a>(trees: &Trees<'a>, plan: &PlanRows, i: usize, at: u32, out: &mut [u8])
-    requires { ⌜ Sits (trees-in (now trees)) (getD (sources (now plan)) i 0) × (i < 1024)
-        × (24576 ≤ length (now out)) ⌝ }
-    ensures { λ r. ⌜ now (out .exit) ≡ sets (now (out .entry)) (i * 24)
-        (planned-row (trees-in (now (trees .entry))) (now (plan .entry)) i at) ⌝ }
-{
-    let row = planned_bytes(
-        trees,
-        plan[SOURCES][i],
-        plan[NUMBERS][i],
-        plan[MEMBERS][i],
-        at,
-    );
-    put_bytes(out, i * 24, &row);
-}
-
-// The one writer: a plan's records, and their names packed from offset 0; bytes beyond stay. Answers how many name bytes there are.
-pub fn write_plan<'a>(
-    trees: &Trees<'a>,
-    plan: &PlanRows,
-    m: usize,
-    out_records: &mut [u8],
-    out_names: &mut [u8],
-) -> usize
-    requires { ⌜ PlanIn (trees-in (now trees)) (now plan) m × (24576 ≤ length (now «out_records»))
-        × (32768 ≤ length (now «out_names»)) ⌝ }
-    ensures { λ r. ⌜ Written (fields-in (trees-in (now (trees .entry))) (now (plan .entry)) m)
-        (now («out_records» .entry)) (now («out_names» .entry)) r
-        (now («out_records» .exit)) (now («out_names» .exit)) ⌝ }
-{
-    let mut i = 0;
-    let mut at = 0;
-    while i < m {
-        put_record(trees, plan, i, at as u32, out_records);
-        let name = planned_name(trees, plan[SOURCES][i]);
-        put_bytes(out_names, at, name);
-        at += name.len();
-        i += 1;
-    }
-    at
 }

@@ -44,7 +44,8 @@ use Rattle.tree.specs.Says.{walked-to, decoded}
 use Rattle.tree.proofs.Deciding.{decode-ok, decode-refused}
 use Rattle.tree_walk.specs.There.{row-of}
 use Rattle.tree_walk.proofs.Opening as standing
-use Rattle.plan.specs.Sources.{id-bits, Written}
+use Rattle.plan.specs.Sources.{id-bits}
+use Rattle.plan_write.specs.Written.{Written}
 use Rattle.plan.specs.Table.{numbers, Roomy, PlanIn, fields-in, TakenIn}
 use Rattle.plan.proofs.Standing.{fields-size}
 use Rattle.index_ids.specs.Ids.{ids-in}

@@ -3,7 +3,7 @@ use index::index_base;
 use index_ids::IndexRows;
 use paper::Role;
 use plan::PlanRows;
-use plan::write_plan;
+use plan_write::write_plan;
 use prune_columns::check_direct;
 use prune_columns::project_fields;
 use prune_marks::mark_chosen;

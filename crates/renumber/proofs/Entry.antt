@@ -39,7 +39,7 @@ use Rattle.tree.proofs.Deciding.{decode-ok, decode-refused}
 use Rattle.tree_walk.specs.There.{row-of}
 use Rattle.tree_walk.proofs.Opening as walk
 use Rattle.plan.specs.Plan.{Plan, plan-fields}
-use Rattle.plan.specs.Sources.{Written}
+use Rattle.plan_write.specs.Written.{Written}
 use Rattle.plan.specs.Table.{sources, numbers, members, PlanIn, fields-in}
 use Rattle.plan.proofs.Standing.{fields-size}
 use Rattle.index_ids.specs.Ids.{ids-in}

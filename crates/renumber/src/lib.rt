@@ -1,7 +1,7 @@
 // Renumbering, whole: from lent bytes to lent bytes.
 use index::index_base;
 use plan::NUMBERS;
-use plan::write_plan;
+use plan_write::write_plan;
 use record::Changed;
 use record::Check;
 use record::Refusal;

@@ -44,7 +44,8 @@ use Rattle.tree.specs.declared.Shaped.the-variants.{Roots}
 use Rattle.tree.proofs.Steps.{was-read}
 use Rattle.plan.specs.Plan.{Source, planned-field}
 use Rattle.plan.specs.Draft.{Drawn}
-use Rattle.plan.specs.Sources.{Summed, Written}
+use Rattle.plan.specs.Sources.{Summed}
+use Rattle.plan_write.specs.Written.{Written}
 use Rattle.plan.specs.Table.{sources, Roomy, PlanIn, DraftIn, InsideIn, fields-in}
 use Rattle.plan.proofs.Laying.{laid-fields, laid-draft}
 use Rattle.plan.proofs.Standing.{fields-size}

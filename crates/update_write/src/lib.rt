@@ -3,7 +3,7 @@ use index::index_plan;
 use index_ids::IndexRows;
 use plan::PlanRows;
 use plan::names_fit;
-use plan::write_plan;
+use plan_write::write_plan;
 use record::Changed;
 use record::Check;
 use record::Refusal;

@@ -1,5 +1,5 @@
 -- What is left of the source gives the whole.
-use Rattle.plan.proofs.Writing.{putting}
+use Rattle.plan.proofs.Putting.{putting}
 use mathlib.Core.Path.{_≡_}
 use Prim.Native.Nat.{_+_, _-_, _≤_}
 use lib.ListN.{length, drop}

@@ -1,8 +1,8 @@
 -- The definition byte for byte.
-use Rattle.plan.proofs.Sourcing.{row-is}
+use Rattle.plan_write.proofs.Rows.{row-is}
 use borrow.Author.Needs.{needs}
-use Rattle.plan.proofs.row_bytes.Statement.{statement}
-use Rattle.plan.proofs.row_bytes.Tie as tie
+use Rattle.plan_write.proofs.row_bytes.Statement.{statement}
+use Rattle.plan_write.proofs.row_bytes.Tie as tie
 
 pub row-bytes-spec : {M : Type 1} → statement M
 row-bytes-spec =

@@ -1,7 +1,7 @@
 -- Its own length, flags and type code.
 use borrow.Author.Needs.{needs}
-use Rattle.plan.proofs.kept_bytes.Statement.{statement}
-use Rattle.plan.proofs.kept_bytes.Tie as tie
+use Rattle.plan_write.proofs.kept_bytes.Statement.{statement}
+use Rattle.plan_write.proofs.kept_bytes.Tie as tie
 
 pub kept-bytes-spec : {M : Type 1} → statement M
 kept-bytes-spec =

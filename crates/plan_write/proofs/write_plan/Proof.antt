@@ -1,10 +1,10 @@
 -- What is left to write gives the whole; each record and name has room, since a plan's records and name sum are within the limits.
-use Rattle.plan.proofs.Writing.{Going, writing}
+use Rattle.plan_write.proofs.Writing.{Going, writing}
 use Prim.Native.Nat.{_-_}
 use Rattle.record.specs.Trees.{trees-in}
 use borrow.Author.Needs.{needs}
-use Rattle.plan.proofs.write_plan.Statement.{statement}
-use Rattle.plan.proofs.write_plan.Tie as tie
+use Rattle.plan_write.proofs.write_plan.Statement.{statement}
+use Rattle.plan_write.proofs.write_plan.Tie as tie
 
 abbrev Inv-loop : tie.InvT-loop
 Inv-loop trees plan m out-records₀ out-names₀ i₀ at₀ out-records out-names i at = Going (trees-in trees) plan m out-records₀ out-names₀ i at out-records out-names

@@ -1,8 +1,8 @@
 -- The record's bytes, put at its place.
-use Rattle.plan.proofs.Writing.{row-put}
+use Rattle.plan_write.proofs.Writing.{row-put}
 use borrow.Author.Needs.{needs}
-use Rattle.plan.proofs.put_record.Statement.{statement}
-use Rattle.plan.proofs.put_record.Tie as tie
+use Rattle.plan_write.proofs.put_record.Statement.{statement}
+use Rattle.plan_write.proofs.put_record.Tie as tie
 
 pub put-record-spec : {M : Type 1} → statement M
 put-record-spec =

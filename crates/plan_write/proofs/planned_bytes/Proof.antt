@@ -1,9 +1,10 @@
 -- The three kinds of sources in turn.
-use Rattle.plan.proofs.Sourcing.{sourcing, row-edited}
-use Rattle.plan.specs.Sources.{source-row}
+use Rattle.plan.proofs.Sourcing.{sourcing}
+use Rattle.plan_write.proofs.Rows.{row-edited}
+use Rattle.plan_write.specs.Written.{source-row}
 use borrow.Author.Needs.{needs}
-use Rattle.plan.proofs.planned_bytes.Statement.{statement}
-use Rattle.plan.proofs.planned_bytes.Tie as tie
+use Rattle.plan_write.proofs.planned_bytes.Statement.{statement}
+use Rattle.plan_write.proofs.planned_bytes.Tie as tie
 
 pub planned-bytes-spec : {M : Type 1} → statement M
 unfolding source-row

@@ -1,8 +1,8 @@
 -- The definition word for word.
-use Rattle.plan.specs.Sources.{row-of}
+use Rattle.plan_write.specs.Written.{row-of}
 use borrow.Author.Needs.{needs}
-use Rattle.plan.proofs.changed_bytes.Statement.{statement}
-use Rattle.plan.proofs.changed_bytes.Tie as tie
+use Rattle.plan_write.proofs.changed_bytes.Statement.{statement}
+use Rattle.plan_write.proofs.changed_bytes.Tie as tie
 
 pub changed-bytes-spec : {M : Type 1} → statement M
 unfolding row-of

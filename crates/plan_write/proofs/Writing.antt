@@ -1,12 +1,10 @@
--- Bytes one after another, `search putting`; planned records one after another: what is left to write gives the whole.
-use Prim.Native.Nat.{ℕ, suc, _+_, _*_, _-_, _<_, _≤_}
+-- Planned records one after another: what is left to write gives the whole. `search writing`.
+use Prim.Native.Nat.{ℕ, _+_, _*_, _-_, _<_, _≤_}
 use mathlib.Core.Path.{_≡_, refl, sym, ap, _∙_}
 use mathlib.Core.List.{List, _++_}
-use native.Mathlib.Nat.{add-zero}
-use native.Mathlib.Numerals.{add-one}
 use native.Mathlib.Omega.{arith}
-use lib.ListN.{length, set, drop, getD, length-append}
-use lib.Seq.{sets, length-sets, drop-cons, drop-length}
+use lib.ListN.{length, getD, length-append}
+use lib.Seq.{sets, length-sets}
 use Rattle.paper.specs.Forest.{size, preorder, counts}
 use Rattle.paper.specs.Field.{Field}
 use Rattle.paper.specs.Bytes.{from}
@@ -14,28 +12,14 @@ use Rattle.paper.specs.Encode.{rec-bytes, encode-records, encode-names, record-
 use Rattle.laws.proofs.Written.{length-records, row-length}
 use Rattle.laws.proofs.Runs.{sets-append, sets-front, from-step, from-done, from-all}
 use Rattle.record.specs.Trees.{Trees}
 use Rattle.plan.specs.Plan.{source-field, source-in, kids-in, Sits}
-use Rattle.plan.specs.Sources.{Written}
-use Rattle.plan.specs.Table.{sources, numbers, members, PlanIn, fields-in, planned-row}
-use Rattle.plan.proofs.Sourcing.{row-source}
+use Rattle.plan.specs.Table.{sources, numbers, members, PlanIn, fields-in}
 use Rattle.plan.proofs.Standing.{field-in, name-planned, fields-order, fields-counts, fields-size, fields-names}
-
-module _ (W : List ℕ) (at : ℕ) (src : List ℕ) (i : ℕ) (out : List ℕ) (e : W ≡ sets out (at + i) (drop i src)) where
-  pub put-goes : (n : ℕ) → n ≡ length src → i < n → W ≡ sets (set out (at + i) (getD src i 0)) (at + (i + 1)) (drop (i + 1) src)
-  put-goes n en l = let d : at + (i + 1) ≡ suc (at + i) = omega arith in e ∙ rw (d, add-one i, drop-cons src i 0 (omega arith))
-
-  pub put-ends : (n : ℕ) → n ≡ length src → n ≤ i → i ≤ n → out ≡ W
-  put-ends n en l l′ = let d : i ≡ length src = omega arith in sym (e ∙ ap (λ (z : List ℕ). sets out (at + i) z) (ap (λ (z : ℕ). drop z src) d ∙ drop-length src))
-
-pub put-starts : (at : ℕ) (src out : List ℕ) → sets out at src ≡ sets out (at + 0) (drop 0 src)
-put-starts at src out = rw (add-zero at)
+use Rattle.plan_write.specs.Written.{planned-row, Written}
+use Rattle.plan_write.proofs.Rows.{row-source}
 
 pub row-put : (l l′ row r : List ℕ) (i : ℕ) → r ≡ row → l′ ≡ sets l i r → l′ ≡ sets l i row
 row-put l l′ row r i e q = q ∙ rw e
-
-pub ruleset putting = (put-starts, put-goes, put-ends)
-
--- ---- planned records one after another
 
 record-step : (f : ℕ → Field) (c : ℕ → ℕ) (at i n : ℕ) → i < n
     → encode-records at (from f i (n - i)) (from c i (n - i)) ≡ rec-bytes at (f i) (c i) ++ encode-records (at + length (f i .name)) (from f (i + 1) (n - (i + 1))) (from c (i + 1) (n - (i + 1)))
