@@ -1,4 +1,6 @@
 pub mod Lowest
+pub mod Ruling
+pub mod Sifting
 pub mod Testing
 pub mod Naming
 pub mod Comparing

@@ -3,12 +3,14 @@ use paper::Kind;
 ghost use mathlib.Core.Path.{_≡_};
 ghost use mathlib.Core.Bool.{true};
 ghost use mathlib.Core.List.{[]};
+ghost use mathlib.Core.Option.{none};
 ghost use Prim.Native.Nat.{_+_, _*_, _%_, _≤_, _<_};
 ghost use lib.ListN.{length};
 ghost use Rattle.paper.specs.Answer.{among, lowest, same};
-ghost use Rattle.paper.specs.Bytes.{word16, word32, turned, ok-bytes, in-pool, name-of, rec-at, kids-fit, kind-at, kind-from, kids-at};
+ghost use Rattle.paper.specs.Bytes.{word16, word32, turned, ok-bytes, in-pool, name-of, rec-at, kind-at, kind-from, kids-at};
 ghost use Rattle.paper.specs.Encode.{bytes32};
 ghost use Rattle.record.specs.Says.{tested, slot-before};
+ghost use Rattle.record.specs.Sifts.{kept, Sifts};
 
 // The bit pattern of an id; its signed reading is what people see.
 pub struct FieldId(pub u32);
@@ -57,6 +59,12 @@ pub struct Refusal {
 pub enum Check {
     Fine,
     Refused(Refusal),
+}
+
+// What one pass tells of records: all before `doubt` keep 3 and 4, and no list or map is among all of them where `nested` is false.
+pub struct Sifted {
+    pub doubt: usize,
+    pub nested: bool,
 }
 
 // What a look-up in a tree finds.
@@ -265,34 +273,34 @@ pub fn kind_at(recs: &[u8], slot: usize) -> Kind
     kind_of(recs[slot * 24 + 9])
 }
 
-// Whether a record of this kind may have so many direct children.
-pub fn kids_fit(kind: u8, kids: u32) -> bool
-    ensures { λ r. ⌜ r ≡ kids-fit kind kids ⌝ }
-{
-    (kind == 0) & (kids == 0) | (kind == 1) | (kind == 2) & (kids == 1) | (kind == 3) & (kids == 2)
-}
-
-// Whether a record keeps its byte rules.
+// Whether a record keeps its byte rules, by words: below 2^18 with flags below 4 and a byte of 0, below 2^16 with a word of 0 behind
+// the children. A list has one child and a map two: one less than their kind.
 pub fn bytes_ok(recs: &[u8], slot: usize) -> bool
     requires { ⌜ slot * 24 + 24 ≤ length (now recs) ⌝ }
     ensures { λ r. ⌜ r ≡ ok-bytes (now (recs .entry)) slot ⌝ }
 {
     let at = slot * 24;
     let kind = recs[at + 9];
-    let flags = recs[at + 10];
-    let pad = recs[at + 11];
-    let kids = le16(recs, at + 12);
-    let pad2 = le16(recs, at + 14);
+    let head = le32(recs, at + 8);
+    let kids = le32(recs, at + 12);
+    // most are primitives
+    if kind == 0 {
+        return (head < 262144) & (kids == 0);
+    }
     let code = le32(recs, at + 16);
-    kids_fit(kind, kids) & (flags < 4) & (pad == 0) & (pad2 == 0) & ((kind == 0) | (code == 0))
+    ((kind == 1) | (kind < 4) & (kids == wide(kind) - 1))
+        & (head < 262144)
+        & (kids < 65536)
+        & (code == 0)
 }
 
-// The lowest of n records that breaks a byte rule: refusal 3.
-pub fn check_bytes(recs: &[u8], n: usize, list: u32) -> Check
-    requires { ⌜ (n * 24 ≤ length (now recs)) × (n ≤ 1024) ⌝ }
+// The lowest of n records that breaks a byte rule, where none before `from` does: refusal 3.
+pub fn check_bytes(recs: &[u8], from: usize, n: usize, list: u32) -> Check
+    requires { ⌜ (n * 24 ≤ length (now recs)) × (n ≤ 1024) × (from ≤ n)
+        × (lowest (ok-bytes (now recs)) 0 from ≡ none) ⌝ }
     ensures { λ r. ⌜ r ≡ tested 3 list (lowest (ok-bytes (now (recs .entry))) 0 n) ⌝ }
 {
-    let mut i = 0;
+    let mut i = from;
     while i < n {
         if !bytes_ok(recs, i) {
             return Check::Refused(Refusal {
@@ -316,12 +324,13 @@ pub fn name_ok(recs: &[u8], pool: usize, slot: usize) -> bool
     from + len <= pool
 }
 
-// The lowest of n records whose name passes the end of its pool: refusal 4.
-pub fn check_bounds(recs: &[u8], n: usize, pool: usize, list: u32) -> Check
-    requires { ⌜ (n * 24 ≤ length (now recs)) × (n ≤ 1024) ⌝ }
+// The lowest of n records whose name passes the end of its pool, where none before `from` does: refusal 4.
+pub fn check_bounds(recs: &[u8], from: usize, n: usize, pool: usize, list: u32) -> Check
+    requires { ⌜ (n * 24 ≤ length (now recs)) × (n ≤ 1024) × (from ≤ n)
+        × (lowest (in-pool pool (now recs)) 0 from ≡ none) ⌝ }
     ensures { λ r. ⌜ r ≡ tested 4 list (lowest (in-pool pool (now (recs .entry))) 0 n) ⌝ }
 {
-    let mut i = 0;
+    let mut i = from;
     while i < n {
         if !name_ok(recs, pool, i) {
             return Check::Refused(Refusal {
@@ -333,6 +342,37 @@ pub fn check_bounds(recs: &[u8], n: usize, pool: usize, list: u32) -> Check
         i += 1;
     }
     Check::Fine
+}
+
+// Whether a record keeps its byte rules and has its name in a pool of a length.
+fn record_ok(recs: &[u8], pool: usize, slot: usize) -> bool
+    requires { ⌜ slot * 24 + 24 ≤ length (now recs) ⌝ }
+    ensures { λ r. ⌜ r ≡ kept pool (now (recs .entry)) slot ⌝ }
+{
+    if !name_ok(recs, pool, slot) {
+        return false;
+    }
+    bytes_ok(recs, slot)
+}
+
+// How far the first n records keep 3 and 4, in one pass, and whether a list or a map may be among them.
+pub fn sift(recs: &[u8], n: usize, pool: usize) -> Sifted
+    requires { ⌜ (n * 24 ≤ length (now recs)) × (n ≤ 1024) ⌝ }
+    ensures { λ r. ⌜ Sifts pool (now (recs .entry)) n r ⌝ }
+{
+    let mut i = 0;
+    let mut nested = false;
+    while i < n {
+        if !record_ok(recs, pool, i) {
+            return Sifted {
+                doubt: i,
+                nested: true,
+            };
+        }
+        nested = nested | (2 <= recs[i * 24 + 9]);
+        i += 1;
+    }
+    Sifted { doubt: n, nested }
 }
 
 // A record's name: the very part of the pool that holds it, at its offset, with no copy.

@@ -3,7 +3,7 @@ use mathlib.Core.Path.{_≡_, refl, sym, ap, _∙_}
 use mathlib.Core.List.{List}
 use mathlib.Core.Bool.{Bool, true, false, not}
 use mathlib.Core.Option.{Option, none, some}
-use Prim.Native.Nat.{ℕ, _≤_}
+use Prim.Native.Nat.{ℕ, _*_, _≤_}
 use native.Mathlib.Nat.{zero-add}
 use native.Mathlib.Omega.{arith}
 use borrow.Author.Tests.{not-true, not-false}
@@ -14,7 +14,7 @@ use Rattle.paper.specs.Forest.{Forest, siblings}
 use Rattle.paper.specs.Field.{Field}
 use Rattle.paper.specs.Sound.{misnamed}
 use Rattle.paper.specs.Bytes.{ok-bytes, in-pool, field-at, kids-at, slots}
-use Rattle.paper.specs.Layout.{Part, roots}
+use Rattle.paper.specs.Layout.{Part, row, roots}
 use Rattle.paper.specs.Limits.{sized}
 use Rattle.paper.specs.Decode.{fields, decode}
 use Rattle.laws.proofs.Fitting.{siblings-mapped}
@@ -22,14 +22,15 @@ use Rattle.record.specs.declared.Refusal.{Refusal}
 use Rattle.record.specs.declared.Check.{Check}
 use Rattle.record.specs.declared.Check.the-variants as check
 use Rattle.record.specs.Says.{tested, refusal-of}
-use Rattle.record.proofs.Testing.{refused-as, chain-goes, chain-stops}
+use Rattle.record.proofs.Testing.{refused-as, was-fine, chain-goes, chain-stops}
 use Rattle.record_limits.proofs.Within.{tree-most}
 use Rattle.tree.specs.declared.Walked.{Walked}
 use Rattle.tree.specs.declared.Walked.the-variants as walked
 use Rattle.tree.specs.declared.Shaped.{Shaped}
 use Rattle.tree.specs.declared.Shaped.the-variants as shaped
-use Rattle.tree.specs.Read.{got, part, reads}
+use Rattle.tree.specs.Read.{got, part}
 use Rattle.tree.specs.Says.{rooted, decoded, walked-to, Labelled}
+use Rattle.tree.specs.Fits.{Planted}
 use Rattle.tree.specs.Only.{only-read}
 use Rattle.tree.proofs.Roots.{roots-row}
 use Rattle.tree.proofs.Steps.{part-is, reads-is}
@@ -119,11 +120,22 @@ module _ (li : ℕ) (s pool : List ℕ) where
           unfolding decoded rest-6 whole fields _>>=_
           all-fine j d = rw (past-5 .0, walked-end 6 li _ j _ v (ev .says) d .0) (ap shaped.Roots (sym (siblings-mapped (field-at pool s) (whole .trees) ∙ past-5 .1)))
 
-pub root-reads : (li : ℕ) (kids : ℕ → ℕ) (n c : ℕ) (w : Shaped) → w ≡ rooted 0 (roots li kids n n 0) → w ≡ shaped.Roots c → reads li kids n 16 c 0 ≡ true
-root-reads li kids n c w e d =
-    let r = was-rooted (roots li kids n n 0) w c e d in
-    let p = got (roots li kids n n 0) in
-    reads-is li kids n 16 c 0 p (rw (r .1) at (roots-row li kids n n 0 p (omega arith) (omega arith) (r .0) .0))
+-- What the labels ask, of a tree that keeps 3, 4 and 5.
+pub planted : (li : ℕ) (s pool : List ℕ) (n c : ℕ) (a b : Check) (w : Shaped) → n * 24 ≤ length s → n ≤ 1024 → a ≡ tested 3 li (lowest (ok-bytes s) 0 n) → a ≡ check.Fine → b ≡ tested 4 li (lowest (in-pool (length pool) s) 0 n) → b ≡ check.Fine
+    → w ≡ rooted 0 (roots li (kids-at s) n n 0) → w ≡ shaped.Roots c → Planted li pool s n c
+planted li s pool n c a b w o l ea fa eb fb e d =
+    let r = was-rooted (roots li (kids-at s) n n 0) w c e d in
+    let p = got (roots li (kids-at s) n n 0) in
+    let q = roots-row li (kids-at s) n n 0 p (omega arith) (omega arith) (r .0) in
+    let h : row li (kids-at s) n 16 c 0 ≡ ok p = rw (r .1) at (q .0) in
+    record {
+      whole = o;
+      small = l;
+      bytes = was-fine 3 li (lowest (ok-bytes s) 0 n) a ea fa;
+      bounds = was-fine 4 li (lowest (in-pool (length pool) s) 0 n) b eb fb;
+      read = reads-is li (kids-at s) n 16 c 0 p h;
+      all = rw (part-is li (kids-at s) n 16 c 0 p h) (q .1);
+    }
 
 pub ruleset deciding = (stop-3, stop-4, stop-5, stop-6, all-fine)
 

@@ -83,3 +83,7 @@ end-room li kids n lv c k j w e d = ended-ok _ (row li kids n lv c k) w j e d λ
 
 pub next-within : (li : ℕ) (kids : ℕ → ℕ) (n lv c k j : ℕ) (w : Walked) → w ≡ ended (row li kids n lv c (k + 1)) → w ≡ End j → k < n → j ≤ n
 next-within li kids n lv c k j w e d h = end-room li kids n lv c (k + 1) j w e d .1 (omega arith)
+
+-- so less is left behind a tree than from its slot on
+pub end-less : (li : ℕ) (kids : ℕ → ℕ) (n lv k m : ℕ) (w : Walked) → k < n → w ≡ ended (row li kids n lv m (k + 1)) → (j : ℕ) → w ≡ End j → n - j < n - k
+end-less li kids n lv k m w l ew j d = let r = end-room li kids n lv m (k + 1) j w ew d in omega arith

@@ -33,12 +33,12 @@ module _ (pool s : List ℕ) where
   unfolding misnamed fields mapped field-at
   misnamed-bad r k m n e = rw e
 
-  misnamed-good : (r q q′ : Role) (k j : ℕ) (m n : Forest ℕ) → fitting r (name-of pool s k) ≡ true → q ≡ first (kind-at s k) → q′ ≡ after r → j ≡ suc (k + size m)
+  pub misnamed-good : (r q q′ : Role) (k j : ℕ) (m n : Forest ℕ) → fitting r (name-of pool s k) ≡ true → q ≡ first (kind-at s k) → q′ ≡ after r → j ≡ suc (k + size m)
       → misnamed r k (fields pool s (node k m n)) ≡ or-else (misnamed q (k + 1) (fields pool s m)) (misnamed q′ j (fields pool s n))
   unfolding misnamed fields mapped field-at
   misnamed-good r q q′ k j m n e eq eq′ ej = rw (e, size-mapped (field-at pool s) m, eq, eq′, ej, add-one k)
 
-  misnamed-none : (r : Role) (k : ℕ) → misnamed r k (fields pool s empty) ≡ none
+  pub misnamed-none : (r : Role) (k : ℕ) → misnamed r k (fields pool s empty) ≡ none
   unfolding misnamed fields mapped
   misnamed-none r k = refl
 

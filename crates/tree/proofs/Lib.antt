@@ -5,4 +5,5 @@ pub mod Ending
 pub mod Roots
 pub mod Steps
 pub mod Labels
+pub mod Fitted
 pub mod Deciding

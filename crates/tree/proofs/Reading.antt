@@ -51,6 +51,12 @@ unfolding _>>=_ ended
 ended-stops (ok a) f k t w e d = let z : _≡_ {A = ℕ} 0 1 = cc in absurd (omega arith)
 ended-stops (refused n l p) f k t w e d = cc
 
+-- where no tree follows
+ended-last : (x : Answer Part) (f : ℕ → Answer Part) (k : ℕ) → ((j : ℕ) → f j ≡ ok (nothing j)) → ended (x >>= λ a. f (a .next) >>= λ b. ok (before k a b)) ≡ ended x
+unfolding _>>=_ ended
+ended-last (ok a) f k h = rw (h (a .next))
+ended-last (refused n l p) f k h = refl
+
 module _ (li : ℕ) (kids : ℕ → ℕ) (n lv c k : ℕ) where
   pub end-none : c ≡ 0 → End k ≡ ended (row li kids n lv c k)
   unfolding ended
@@ -63,6 +69,9 @@ module _ (li : ℕ) (kids : ℕ → ℕ) (n lv c k : ℕ) where
   pub end-past : (lv ≡ 0 → ⊥) → (c ≡ 0 → ⊥) → n ≤ k → Refused (refusal-of 5 li k) ≡ ended (row li kids n lv c k)
   unfolding ended
   end-past e h l = rw (row-past li kids n lv c k e h l)
+
+  pub end-last : (m : ℕ) → (lv ≡ 0 → ⊥) → c ≡ 1 → k < n → m ≡ kids k → ended (row li kids n (lv - 1) m (k + 1)) ≡ ended (row li kids n lv c k)
+  end-last m p e l em = sym (rw (row-in li kids n lv c k p (λ z. omega arith) l, ← em) (ended-last (row li kids n (lv - 1) m (k + 1)) (λ i. row li kids n lv (c - 1) i) k (λ j. row-none li kids n lv (c - 1) j (omega arith))))
 
   module _ (m : ℕ) (w : Walked) (p : lv ≡ 0 → ⊥) (q : c ≡ 0 → ⊥) (l : k < n) (em : m ≡ kids k) (ew : w ≡ ended (row li kids n (lv - 1) m (k + 1))) where
     pub end-goes : (j : ℕ) (r : Walked) → w ≡ End j → r ≡ ended (row li kids n lv (c - 1) j) → r ≡ ended (row li kids n lv c k)

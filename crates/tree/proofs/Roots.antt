@@ -15,8 +15,8 @@ use Rattle.tree.specs.declared.Shaped.{Shaped}
 use Rattle.tree.specs.declared.Shaped.the-variants as shaped
 use Rattle.paper.specs.Layout.{Part, nothing, before, row, roots}
 use Rattle.tree.specs.Says.{ended, rooted}
-use Rattle.tree.proofs.Reading.{row-none, row-in}
-use Rattle.tree.proofs.Filled.{lt-or-le, full, end-room}
+use Rattle.tree.proofs.Reading.{row-none, row-in, end-none}
+use Rattle.tree.proofs.Filled.{lt-or-le, full, end-room, end-less}
 use Rattle.laws.proofs.Basics.{unbind, ok-is}
 
 module _ (li : ℕ) (kids : ℕ → ℕ) (n : ℕ) where
@@ -72,14 +72,15 @@ module _ (li : ℕ) (kids : ℕ → ℕ) (n : ℕ) where
     pub left-stops : (t : Refusal) → w ≡ walked.Refused t → shaped.Refused t ≡ W
     left-stops t d = sym (h .same ∙ rw (roots-in li kids n (h .turns) k l (h .enough), ← em) (sym (rooted-stops (row li kids n 15 m (k + 1)) (λ i. roots li kids n (h .turns - 1) i) i k t w ew d)))
 
-  pub left-less : (lv k m : ℕ) (w : Walked) → k < n → w ≡ ended (row li kids n lv m (k + 1)) → (j : ℕ) → w ≡ walked.End j → n - j < n - k
-  left-less lv k m w l ew j d = let r = end-room li kids n lv m (k + 1) j w ew d in omega arith
+  -- the inside of a leaf ends where it begins
+  pub left-leaf : (W : Shaped) (i k m : ℕ) → Left li kids n W i k → k < n → m ≡ kids k → m ≡ 0 → Left li kids n W (i + 1) (k + 1)
+  left-leaf W i k m h l em z = left-goes W i k m (walked.End (k + 1)) h l em (end-none li kids n 15 m (k + 1) z) (k + 1) refl
 
   pub left-ends : (W : Shaped) (i k : ℕ) → Left li kids n W i k → n ≤ k → shaped.Roots i ≡ W
   unfolding siblings rooted
   left-ends W i k h l = sym (h .same ∙ rw (roots-past li kids n (h .turns) k l, add-zero i))
 
-pub ruleset rooting = (left-starts, left-goes, left-stops, left-less, left-ends)
+pub ruleset rooting = (left-starts, left-goes, left-leaf, left-stops, left-ends, end-less)
 
 bound : {A B : Type 0} (x : Answer A) (g : A → Answer B) {a : A} {y : Answer B} → x ≡ ok a → g a ≡ y → (x >>= g) ≡ y
 unfolding _>>=_

@@ -1,3 +1,4 @@
 pub mod Read
 pub mod Says
 pub mod Only
+pub mod Fits

@@ -10,20 +10,24 @@ use record::equal;
 use record::kids_at;
 use record::kind_at;
 use record::name_at;
+use record::sift;
 use record_limits::sized;
 ghost use mathlib.Core.Path.{_≡_};
-ghost use mathlib.Core.Bool.{true};
+ghost use mathlib.Core.Bool.{true, false};
 ghost use mathlib.Core.Option.{none};
 ghost use Prim.Native.Nat.{_+_, _*_, _≤_};
 ghost use lib.ListN.{length};
+ghost use Rattle.paper.specs.declared.Role.the-variants.{Member};
 ghost use Rattle.paper.specs.Answer.{lowest};
 ghost use Rattle.paper.specs.Field.{first};
 ghost use Rattle.paper.specs.Sound.{fitting};
 ghost use Rattle.paper.specs.Bytes.{in-pool, name-of, kind-at, kids-at};
 ghost use Rattle.paper.specs.Layout.{row, roots};
 ghost use Rattle.paper.specs.Decode.{decode};
+ghost use Rattle.record.specs.Sifts.{flat};
 ghost use Rattle.tree.specs.Read.{part, reads, Rowed, Standing};
 ghost use Rattle.tree.specs.Says.{ended, rooted, decoded, Labelled};
+ghost use Rattle.tree.specs.Fits.{Passed, Seated, Planted, Fits, AllFit};
 ghost use Rattle.tree.specs.Only.{only-read};
 
 // Where a walk over a row of trees ends, or why it stops.
@@ -45,9 +49,10 @@ pub fn row_end(recs: &[u8], n: usize, slot: usize, count: u32, levels: usize, li
 {
     let mut at = slot;
     let mut left = count;
+    let mut spare = levels;
     while 0 < left {
         // refusal 5: level 17
-        if levels == 0 {
+        if spare == 0 {
             return Walked::Refused(Refusal {
                 number: 5,
                 list,
@@ -69,7 +74,14 @@ pub fn row_end(recs: &[u8], n: usize, slot: usize, count: u32, levels: usize, li
             left -= 1;
             continue;
         }
-        match row_end(recs, n, at + 1, kids, levels - 1, list) {
+        // a row ends where the inside of its last tree ends
+        if left == 1 {
+            at += 1;
+            left = kids;
+            spare -= 1;
+            continue;
+        }
+        match row_end(recs, n, at + 1, kids, spare - 1, list) {
             Walked::End(next) => {
                 at = next;
             }
@@ -112,6 +124,12 @@ pub fn check_shape(recs: &[u8], n: usize, list: u32) -> Shaped
     let mut count: u32 = 0;
     while slot < n {
         let kids = kids_at(recs, slot);
+        // a leaf has no inside to walk
+        if kids == 0 {
+            slot += 1;
+            count += 1;
+            continue;
+        }
         match row_end(recs, n, slot + 1, kids, 15, list) {
             Walked::End(next) => {
                 slot = next;
@@ -205,29 +223,71 @@ pub fn check_labels(
     Walked::End(at)
 }
 
+// Whether the names directly inside a record are seen to fit. A key with an inside is not looked past, so that its value is next to it.
+fn inside_fits(recs: &[u8], pool: &[u8], slot: usize) -> bool
+    requires { ⌜ Seated (now pool) (now recs) slot ⌝ }
+    ensures { λ r. ⌜ Fits (now (pool .entry)) (now (recs .entry)) slot r ⌝ }
+{
+    let kind = recs[slot * 24 + 9];
+    if kind < 2 {
+        return true;
+    }
+    if kind == 2 {
+        return label_ok(recs, pool, slot + 1, Role::Element);
+    }
+    if 0 < kids_at(recs, slot + 1) {
+        return false;
+    }
+    if !label_ok(recs, pool, slot + 1, Role::Key) {
+        return false;
+    }
+    label_ok(recs, pool, slot + 2, Role::Value)
+}
+
+// Whether all names are seen to fit, by one loop over the records. Only a list or a map asks for names.
+fn labels_fit(recs: &[u8], pool: &[u8], n: usize, nested: bool) -> bool
+    requires { ⌜ Passed (now pool) (now recs) n × (nested ≡ false → lowest (flat (now recs)) 0 n ≡ none) ⌝ }
+    ensures { λ r. ⌜ AllFit (now (pool .entry)) (now (recs .entry)) n r ⌝ }
+{
+    if !nested {
+        return true;
+    }
+    let mut slot = 0;
+    while slot < n {
+        if !inside_fits(recs, pool, slot) {
+            return false;
+        }
+        slot += 1;
+    }
+    true
+}
+
+// Where all roots end, or refusal 6. Where the loop is in doubt, the walk tells the place.
+fn label_roots(recs: &[u8], pool: &[u8], n: usize, count: u32, nested: bool, list: u32) -> Walked
+    requires { ⌜ Planted list (now pool) (now recs) n count × (nested ≡ false → lowest (flat (now recs)) 0 n ≡ none) ⌝ }
+    ensures { λ r. ⌜ Labelled (now (pool .entry)) (now (recs .entry)) list n 16 count 0 Member r ⌝ }
+{
+    if labels_fit(recs, pool, n, nested) {
+        return Walked::End(n);
+    }
+    check_labels(recs, pool, n, 0, count, 16, Role::Member, list)
+}
+
 // Refusals 3 to 6, or the number of roots: what `decode` gives. Refusal 2 is tested before it, for everything at once, hence the length.
 pub fn check_tree(recs: &[u8], pool: &[u8], list: u32) -> Shaped
     requires { ⌜ length (now recs) ≤ 24576 ⌝ }
     ensures { λ r. ⌜ r ≡ decoded (decode list (now (recs .entry)) (now (pool .entry))) ⌝ }
 {
     let n = recs.len() / 24;
-    if let Check::Refused(r) = check_bytes(recs, n, list) {
+    let sifted = sift(recs, n, pool.len());
+    if let Check::Refused(r) = check_bytes(recs, sifted.doubt, n, list) {
         return Shaped::Refused(r);
     }
-    if let Check::Refused(r) = check_bounds(recs, n, pool.len(), list) {
+    if let Check::Refused(r) = check_bounds(recs, sifted.doubt, n, pool.len(), list) {
         return Shaped::Refused(r);
     }
     match check_shape(recs, n, list) {
-        Shaped::Roots(count) => match check_labels(
-            recs,
-            pool,
-            n,
-            0,
-            count,
-            16,
-            Role::Member,
-            list,
-        ) {
+        Shaped::Roots(count) => match label_roots(recs, pool, n, count, sifted.nested, list) {
             Walked::End(_) => Shaped::Roots(count),
             Walked::Refused(r) => Shaped::Refused(r),
         },

@@ -9,10 +9,10 @@ use Rattle.record.proofs.check_bounds.Statement.{statement}
 use Rattle.record.proofs.check_bounds.Tie as tie
 
 abbrev Inv-loop : tie.InvT-loop
-Inv-loop recs n pool list i₀ i = (i ≤ n) × (lowest (in-pool pool recs) 0 n ≡ lowest (in-pool pool recs) i (n - i))
+Inv-loop recs «from» n pool list i₀ i = (i ≤ n) × (lowest (in-pool pool recs) 0 n ≡ lowest (in-pool pool recs) i (n - i))
 
 abbrev μ-loop : tie.MeasureT-loop
-μ-loop recs n pool list i₀ i = n - i
+μ-loop recs «from» n pool list i₀ i = n - i
 
 pub check-bounds-spec : {M : Type 1} → statement M
 check-bounds-spec =

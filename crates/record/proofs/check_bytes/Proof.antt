@@ -9,10 +9,10 @@ use Rattle.record.proofs.check_bytes.Statement.{statement}
 use Rattle.record.proofs.check_bytes.Tie as tie
 
 abbrev Inv-loop : tie.InvT-loop
-Inv-loop recs n list i₀ i = (i ≤ n) × (lowest (ok-bytes recs) 0 n ≡ lowest (ok-bytes recs) i (n - i))
+Inv-loop recs «from» n list i₀ i = (i ≤ n) × (lowest (ok-bytes recs) 0 n ≡ lowest (ok-bytes recs) i (n - i))
 
 abbrev μ-loop : tie.MeasureT-loop
-μ-loop recs n list i₀ i = n - i
+μ-loop recs «from» n list i₀ i = n - i
 
 pub check-bytes-spec : {M : Type 1} → statement M
 check-bytes-spec =

@@ -1,8 +1,8 @@
--- The levels left fall at each call, and what is left of the row ends where the whole ends.
+-- The levels left fall at each call, and the records left at each turn; what is left ends where the whole row ends.
 use borrow.Author.Needs.{needs}
 use Rattle.paper.specs.Bytes.{kids-at}
 use Rattle.tree.proofs.Ending.{Ends, looping}
-use Prim.Native.Nat.{ℕ, _<_}
+use Prim.Native.Nat.{ℕ, _-_, _<_}
 use borrow.Fn.Kinds.{In}
 use borrow.Fn.PlainCycle.{Measures, is, falls, and}
 use Rattle.tree.proofs.row_end.Reads as row-end
@@ -22,10 +22,10 @@ abbrev row-end-below : ℕ → In 1 row-end-kinds.ps
 row-end-below t = and 1 row-end-kinds.ps (falls 1 row-end-kinds.ps _<_ μ-row-end t) row-end.Pre
 
 abbrev row-end-Inv-loop : row-end-lts.InvT-loop
-row-end-Inv-loop recs n slot count levels list at₀ left₀ at left = Ends list (kids-at recs) n levels count slot left at
+row-end-Inv-loop recs n slot count levels list at₀ left₀ spare₀ at left spare = Ends list (kids-at recs) n levels count slot spare left at
 
 abbrev row-end-μ-loop : row-end-lts.MeasureT-loop
-row-end-μ-loop recs n slot count levels list at₀ left₀ at left = left
+row-end-μ-loop recs n slot count levels list at₀ left₀ spare₀ at left spare = n - at
 
 pub +row-end-spec : {M : Type 1} → statement M
 +row-end-spec = close μ-row-end λ t. row-end-lts.spec (
@@ -48,6 +48,10 @@ pub +row-end-spec : {M : Type 1} → statement M
     (λ c. search (looping, needs))  -- row-end-sub-left
     (λ c. search (looping, needs))  -- row-end-loop-less
     (λ c. search (looping, needs))  -- row-end-loop-again
+    (λ c. search (looping, needs))  -- row-end-add-at-2
+    (λ c. search (looping, needs))  -- row-end-sub-spare
+    (λ c. search (looping, needs))  -- row-end-loop-less-2
+    (λ c. search (looping, needs))  -- row-end-loop-again-2
     (λ c. search (looping, needs))  -- row-end-add-row-end
     (λ c. search (looping, needs))  -- row-end-sub-row-end
     (λ c κs. search (looping, needs))  -- row-end-row-end-requires
@@ -55,6 +59,6 @@ pub +row-end-spec : {M : Type 1} → statement M
     (λ c. search (looping, needs))  -- row-end-enum-known-r
     (λ c. search (looping, needs))  -- row-end-returns-3
     (λ c. search (looping, needs))  -- row-end-sub-left-2
-    (λ c. search (looping, needs))  -- row-end-loop-less-2
-    (λ c. search (looping, needs))  -- row-end-loop-again-2
+    (λ c. search (looping, needs))  -- row-end-loop-less-3
+    (λ c. search (looping, needs))  -- row-end-loop-again-3
     (λ c. search (looping, needs))  -- row-end-returns-4

@@ -22,12 +22,16 @@ check-shape-spec =
     μ-loop
     (λ c. search (rooting, needs))  -- loop-holds
     (λ c κs. search (rooting, needs))  -- kids-at-requires
-    (λ c. search (rooting, needs))  -- add-row-end
-    (λ c κs. search (rooting, needs))  -- row-end-requires
-    (λ c. search (rooting, needs))  -- enum-known-next
+    (λ c. search (rooting, needs))  -- add-slot
     (λ c. search (rooting, needs))  -- add-count
     (λ c. search (rooting, needs))  -- loop-less
     (λ c. search (rooting, needs))  -- loop-again
+    (λ c. search (rooting, needs))  -- add-row-end
+    (λ c κs. search (rooting, needs))  -- row-end-requires
+    (λ c. search (rooting, needs))  -- enum-known-next
+    (λ c. search (rooting, needs))  -- add-count-2
+    (λ c. search (rooting, needs))  -- loop-less-2
+    (λ c. search (rooting, needs))  -- loop-again-2
     (λ c. search (rooting, needs))  -- enum-known-r
     (λ c. search (rooting, needs))  -- returns
     (λ c. search (rooting, needs))  -- returns-2
