@@ -42,7 +42,8 @@ pub enum Shaped {
     Refused(Refusal),
 }
 
-// Where `count` trees from `slot` on end, with `levels` levels left for them, or refusal 5. A loop over the siblings.
+// Where `count` trees from `slot` on end, with `levels` levels left for them, or refusal 5. A loop over the siblings, which goes on
+// inside the last of them.
 pub fn row_end(recs: &[u8], n: usize, slot: usize, count: u32, levels: usize, list: u32) -> Walked
     requires { ⌜ (n * 24 ≤ length (now recs)) × (n ≤ 1024) × (slot ≤ n) ⌝ }
     ensures { λ r. ⌜ r ≡ ended (row list (kids-at (now (recs .entry))) n levels count slot) ⌝ }
