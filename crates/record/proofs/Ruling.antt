@@ -1,8 +1,8 @@
 -- The byte rules by words.
 use mathlib.Core.Path.{_≡_, refl, sym, _∙_}
 use mathlib.Core.List.{List}
-use mathlib.Core.Bool.{Bool, true, false, _&&_, _||_, true≢false}
-use Prim.Native.Nat.{ℕ, zero, suc, _+_, _*_, _-_, _<_, _≤_}
+use mathlib.Core.Bool.{Bool, true, false, _&&_, _||_}
+use Prim.Native.Nat.{ℕ, zero, suc, _+_, _*_, _-_, _<_}
 use native.Mathlib.Omega.{arith}
 use borrow.Author.Tests.{eqb-true, ltb-true, eq-eqb, ne-eqb, lt-ltb, le-ltb}
 use lib.Dec.{eqb, ltb}
@@ -85,23 +85,22 @@ module _ (s : List ℕ) (k kind head kids : ℕ) (ek : kind ≡ rec-at s k .kind
   head-low : rec-at s k .flags < 4 → rec-at s k .byte11 ≡ 0 → head < 262144
   head-low f p = let a = low (k * 24 + 8) in let b = low (k * 24 + 9) in let e = head-is in omega arith
 
-  pub rule-primitive : kind ≡ 0 → (ltb head 262144 && eqb kids 0) ≡ ok-bytes s k
-  rule-primitive z =
+  pub rule-primitive : (a b : ℕ) → kind ≡ 0 → a ≡ head → b ≡ kids → ltb (a + b * 4294967296) 262144 ≡ ok-bytes s k
+  rule-primitive a b z ea eb =
       let eh′ = head-is in
       let et′ = kids-is in
       let ez : rec-at s k .kind ≡ 0 = sym ek ∙ z in
-      as-well (ltb head 262144 && eqb kids 0) (ok-bytes s k)
+      as-well (ltb (a + b * 4294967296) 262144) (ok-bytes s k)
       (λ e.
-      let t = both (ltb head 262144) (eqb kids 0) e in
-      let lh = ltb-true head 262144 (t .0) in
-      let zt = eqb-true kids 0 (t .1) in
+      let l = ltb-true (a + b * 4294967296) 262144 e in
       let zk : rec-at s k .kids ≡ 0 = omega arith in
       keeps s k (record { kids = rw (ez, zk); flags = omega arith; byte11 = omega arith; word14 = omega arith; code = rw ez }))
       (λ e.
       let h = rules s k e in
       let w = h .word14 in
+      let l = head-low (h .flags) (h .byte11) in
       let zk = eqb-true (rec-at s k .kids) 0 (sym (kids-none (rec-at s k .kids)) ∙ (rw ez at (h .kids))) in
-      and-true (ltb head 262144) (eqb kids 0) (lt-ltb head 262144 (head-low (h .flags) (h .byte11))) (eq-eqb kids 0 (omega arith)))
+      lt-ltb (a + b * 4294967296) 262144 (omega arith))
 
   pub rule-nested : (wide code : ℕ) → (kind ≡ 0 → ⊥) → code ≡ rec-at s k .code → wide ≡ kind
       → ((((eqb kind 1 || (ltb kind 4 && eqb kids (wide - 1))) && ltb head 262144) && ltb kids 65536) && eqb code 0) ≡ ok-bytes s k

@@ -1,4 +1,4 @@
--- One pass over 3 and 4: `search sifting`.
+-- One pass over 3 and 4: `search keeping` for one record, `search sifting` for the loop.
 use mathlib.Core.Path.{_≡_, refl, sym, _∙_}
 use mathlib.Core.List.{List}
 use mathlib.Core.Bool.{Bool, true, false, not, _||_, true≢false}
@@ -42,10 +42,10 @@ module _ (pool : ℕ) (s : List ℕ) (n : ℕ) where
   sift-starts = record { within = omega arith; bytes = refl; bounds = refl; level = λ _. refl }
 
   module _ (i : ℕ) (nested : Bool) (h : Sifting pool s n i nested) where
-    pub sift-stops : Sifts pool s n (record { doubt = i; nested = true })
+    pub sift-stops : Sifts pool s n (record { fine = i; nested = true })
     sift-stops = record { within = h .within; bytes = h .bytes; bounds = h .bounds; level = λ z. absurd (true≢false z) }
 
-    pub sift-ends : n ≤ i → Sifts pool s n (record { doubt = n; nested = nested })
+    pub sift-ends : n ≤ i → Sifts pool s n (record { fine = n; nested = nested })
     sift-ends l =
         let t = h .within in
         let e : i ≡ n = omega arith in

@@ -1,4 +1,4 @@
--- What a pass over records tells of refusals 3 and 4. It answers no more than a caller needs, so that it can be quick.
+-- What one pass over records tells of refusals 3 and 4, and of lists and maps.
 use Prim.Native.Nat.{ℕ, _≤_}
 use mathlib.Core.Path.{_≡_}
 use mathlib.Core.Bool.{Bool, false, _&&_}
@@ -18,7 +18,7 @@ unfoldable pub flat : (records : List ℕ) (slot : ℕ) → Bool
 flat records slot = ltb (rec-at records slot .kind) 2
 
 pub record Sifts (pool : ℕ) (records : List ℕ) (n : ℕ) (r : Sifted) : Type 0 where
-  pub within : r .doubt ≤ n
-  pub bytes : lowest (ok-bytes records) 0 (r .doubt) ≡ none
-  pub bounds : lowest (in-pool pool records) 0 (r .doubt) ≡ none
+  pub within : r .fine ≤ n
+  pub bytes : lowest (ok-bytes records) 0 (r .fine) ≡ none
+  pub bounds : lowest (in-pool pool records) 0 (r .fine) ≡ none
   pub level : r .nested ≡ false → lowest (flat records) 0 n ≡ none

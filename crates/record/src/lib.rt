@@ -61,9 +61,9 @@ pub enum Check {
     Refused(Refusal),
 }
 
-// What one pass tells of records: all before `doubt` keep 3 and 4, and no list or map is among all of them where `nested` is false.
+// What one pass tells of records: the first `fine` keep 3 and 4, and where `nested` is false none of all is a list or a map.
 pub struct Sifted {
-    pub doubt: usize,
+    pub fine: usize,
     pub nested: bool,
 }
 
@@ -273,8 +273,8 @@ pub fn kind_at(recs: &[u8], slot: usize) -> Kind
     kind_of(recs[slot * 24 + 9])
 }
 
-// Whether a record keeps its byte rules, by words: below 2^18 with flags below 4 and a byte of 0, below 2^16 with a word of 0 behind
-// the children. A list has one child and a map two: one less than their kind.
+// Whether a record keeps its byte rules, by words: bytes 8 to 11 are below 2^18 where flags are below 4 and byte 11 is 0, and bytes
+// 12 to 15 are below 2^16 where 14 and 15 are 0. A list has one child and a map two: their kind less 1.
 pub fn bytes_ok(recs: &[u8], slot: usize) -> bool
     requires { ⌜ slot * 24 + 24 ≤ length (now recs) ⌝ }
     ensures { λ r. ⌜ r ≡ ok-bytes (now (recs .entry)) slot ⌝ }
@@ -283,9 +283,9 @@ pub fn bytes_ok(recs: &[u8], slot: usize) -> bool
     let kind = recs[at + 9];
     let head = le32(recs, at + 8);
     let kids = le32(recs, at + 12);
-    // most are primitives
+    // most are primitives: the two words are one of 64 bits
     if kind == 0 {
-        return (head < 262144) & (kids == 0);
+        return long(head) + long(kids) * 4294967296 < 262144;
     }
     let code = le32(recs, at + 16);
     ((kind == 1) | (kind < 4) & (kids == wide(kind) - 1))
@@ -355,7 +355,7 @@ fn record_ok(recs: &[u8], pool: usize, slot: usize) -> bool
     bytes_ok(recs, slot)
 }
 
-// How far the first n records keep 3 and 4, in one pass, and whether a list or a map may be among them.
+// How many of n records, from the first on, keep 3 and 4, and whether a list or a map may be among all.
 pub fn sift(recs: &[u8], n: usize, pool: usize) -> Sifted
     requires { ⌜ (n * 24 ≤ length (now recs)) × (n ≤ 1024) ⌝ }
     ensures { λ r. ⌜ Sifts pool (now (recs .entry)) n r ⌝ }
@@ -365,14 +365,14 @@ pub fn sift(recs: &[u8], n: usize, pool: usize) -> Sifted
     while i < n {
         if !record_ok(recs, pool, i) {
             return Sifted {
-                doubt: i,
+                fine: i,
                 nested: true,
             };
         }
         nested = nested | (2 <= recs[i * 24 + 9]);
         i += 1;
     }
-    Sifted { doubt: n, nested }
+    Sifted { fine: n, nested }
 }
 
 // A record's name: the very part of the pool that holds it, at its offset, with no copy.

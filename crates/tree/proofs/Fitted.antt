@@ -1,6 +1,7 @@
--- Refusal 6 by one loop over the records: where what is directly inside each record fits, all names do. `search fitted`.
-use mathlib.Core.Path.{_≡_, refl, sym, ap, subst, _∙_}
-use mathlib.Core.Logic.{_⊎_, inl, inr, ⊎-elim}
+-- Refusal 6 by one loop over the records: where what is directly inside each record fits, all names do. `search fitted` for one
+-- record, `search fit-all` for the loop.
+use mathlib.Core.Path.{_≡_, refl, sym, _∙_}
+use mathlib.Core.Logic.{inl, inr, ⊎-elim}
 use mathlib.Core.List.{List}
 use mathlib.Core.Bool.{Bool, true, false, not, _&&_, true≢false}
 use mathlib.Core.Option.{none}
@@ -9,23 +10,21 @@ use native.Mathlib.Numerals.{add-one}
 use native.Mathlib.Omega.{arith}
 use borrow.Author.Tests.{not-true, not-false, ltb-true, eqb-true, ne-eqb}
 use lib.Dec.{eqb, ltb}
-use lib.ListN.{length, getD}
+use lib.ListN.{length}
 use Rattle.paper.specs.declared.Role.{Role}
 use Rattle.paper.specs.declared.Role.the-variants.{Member, Element, Key, Value}
-use Rattle.paper.specs.Answer.{lowest, or-else}
+use Rattle.paper.specs.Answer.{lowest}
 use Rattle.paper.specs.Forest.{Forest, empty, node, size, siblings}
 use Rattle.paper.specs.Field.{first, after}
 use Rattle.paper.specs.Sound.{fitting, misnamed}
 use Rattle.paper.specs.Bytes.{rec-at, ok-bytes, in-pool, kind-from, name-of, kind-at, kids-at}
-use Rattle.paper.specs.Layout.{Part}
 use Rattle.paper.specs.Decode.{fields}
 use Rattle.laws.proofs.RoundTrip.{both}
-use Rattle.laws.proofs.Taken.{Laid, row-take}
+use Rattle.laws.proofs.Taken.{Laid, Took, row-take}
 use Rattle.laws.proofs.Fitting.{lowest-none}
 use Rattle.laws.proofs.Written.{siblings-size}
 use Rattle.record.specs.Sifts.{flat}
 use Rattle.record.proofs.Ruling.{rules, kids-nested}
-use Rattle.tree.specs.declared.Walked.{Walked}
 use Rattle.tree.specs.declared.Walked.the-variants.{End}
 use Rattle.tree.specs.Read.{part}
 use Rattle.tree.specs.Says.{walked-to, Labelled}
@@ -78,22 +77,23 @@ laid-members kids n k (node i m u) h j l g =
     (lt-or-le j (suc k))
 
 module _ (li : ℕ) (pool s : List ℕ) (n c : ℕ) (h : Planted li pool s n c) where
+  whole : Took (kids-at s) n 16 0 (part li (kids-at s) n 16 c 0)
+  whole = row-take li (kids-at s) n 16 c 0 (part li (kids-at s) n 16 c 0) (was-read li (kids-at s) n 16 c 0 (h .read)) .took
+
   pub passed : Passed pool s n
   passed =
-      let t = row-take li (kids-at s) n 16 c 0 (part li (kids-at s) n 16 c 0) (was-read li (kids-at s) n 16 c 0 (h .read)) in
       record {
         whole = h .whole;
         small = h .small;
         bytes = h .bytes;
         bounds = h .bounds;
-        members = λ k l. let q = laid-members (kids-at s) n 0 (part li (kids-at s) n 16 c 0 .trees) (t .took .laid) k (omega arith) (omega (arith, t .took .end, h .all)) in omega (arith, t .took .end, h .all);
+        members = λ k l. let q = laid-members (kids-at s) n 0 (part li (kids-at s) n 16 c 0 .trees) (whole .laid) k (omega arith) (omega (arith, whole .end, h .all)) in omega (arith, whole .end, h .all);
       }
 
   pub all-fits : (b : Bool) → AllFit pool s n b → b ≡ true → Labelled pool s li n 16 c 0 Member (End n)
   unfolding walked-to
   all-fits b f e =
-      let t = row-take li (kids-at s) n 16 c 0 (part li (kids-at s) n 16 c 0) (was-read li (kids-at s) n 16 c 0 (h .read)) in
-      record { says = rw (h .all, none-misnamed pool s n (f .each e) Member 0 (part li (kids-at s) n 16 c 0 .trees) (t .took .laid) (begins-member pool s _ 0 Member refl)) }
+      record { says = rw (h .all, none-misnamed pool s n (f .each e) Member 0 (part li (kids-at s) n 16 c 0 .trees) (whole .laid) (begins-member pool s _ 0 Member refl)) }
 
 -- ---- one record
 
@@ -161,7 +161,7 @@ module _ (pool s : List ℕ) (k : ℕ) where
             let t : k + 1 + 1 ≡ k + 2 = omega arith in
             record { inside = λ z. record { own = λ _. rw (first-key (rec-at s k .kind) l e) (sym ex ∙ not-false x tx); next = λ q. inr (two, omega arith, rw (first-key (rec-at s k .kind) l e, t) (sym ey ∙ z)) } }
 
-pub ruleset fitted = (fits-not, fits-member, next-asks, fits-element, after-asks, fits-entry)
+pub ruleset fitted = (fits-not, fits-member, fits-element, fits-entry)
 
 -- ---- all records
 

@@ -42,7 +42,8 @@ pub enum Shaped {
     Refused(Refusal),
 }
 
-// Where `count` trees from `slot` on end, with `levels` levels left for them, or refusal 5. A loop over the siblings.
+// Where `count` trees from `slot` on end, with `levels` levels left for them, or refusal 5. A loop over the siblings, which goes on
+// inside the last of them.
 pub fn row_end(recs: &[u8], n: usize, slot: usize, count: u32, levels: usize, list: u32) -> Walked
     requires { ⌜ (n * 24 ≤ length (now recs)) × (n ≤ 1024) × (slot ≤ n) ⌝ }
     ensures { λ r. ⌜ r ≡ ended (row list (kids-at (now (recs .entry))) n levels count slot) ⌝ }
@@ -223,7 +224,7 @@ pub fn check_labels(
     Walked::End(at)
 }
 
-// Whether the names directly inside a record are seen to fit. A key with an inside is not looked past, so that its value is next to it.
+// Whether the names directly inside a record are seen to fit. Behind a key with an inside its value is not looked for.
 fn inside_fits(recs: &[u8], pool: &[u8], slot: usize) -> bool
     requires { ⌜ Seated (now pool) (now recs) slot ⌝ }
     ensures { λ r. ⌜ Fits (now (pool .entry)) (now (recs .entry)) slot r ⌝ }
@@ -262,7 +263,7 @@ fn labels_fit(recs: &[u8], pool: &[u8], n: usize, nested: bool) -> bool
     true
 }
 
-// Where all roots end, or refusal 6. Where the loop is in doubt, the walk tells the place.
+// Where the roots end, or refusal 6. Where the loop does not see all fit, the walk tells.
 fn label_roots(recs: &[u8], pool: &[u8], n: usize, count: u32, nested: bool, list: u32) -> Walked
     requires { ⌜ Planted list (now pool) (now recs) n count × (nested ≡ false → lowest (flat (now recs)) 0 n ≡ none) ⌝ }
     ensures { λ r. ⌜ Labelled (now (pool .entry)) (now (recs .entry)) list n 16 count 0 Member r ⌝ }
@@ -280,10 +281,10 @@ pub fn check_tree(recs: &[u8], pool: &[u8], list: u32) -> Shaped
 {
     let n = recs.len() / 24;
     let sifted = sift(recs, n, pool.len());
-    if let Check::Refused(r) = check_bytes(recs, sifted.doubt, n, list) {
+    if let Check::Refused(r) = check_bytes(recs, sifted.fine, n, list) {
         return Shaped::Refused(r);
     }
-    if let Check::Refused(r) = check_bounds(recs, sifted.doubt, n, pool.len(), list) {
+    if let Check::Refused(r) = check_bounds(recs, sifted.fine, n, pool.len(), list) {
         return Shaped::Refused(r);
     }
     match check_shape(recs, n, list) {

@@ -17,7 +17,11 @@ bytes-ok-spec =
     (λ c κs. search needs)  -- le32-requires
     (λ c. search needs)  -- add-le32-2
     (λ c κs. search needs)  -- le32-requires-2
-    (λ c. rule-primitive _ _ _ _ _ refl (c .before .before .le32 .ensures) (c .before .le322 .ensures) (λ i. omega (arith, c .before .before .before .before .shared-slice-known .given i)) (c .if1 .taken))  -- returns
+    (λ c κs. search needs)  -- long-requires
+    (λ c κs. search needs)  -- long-requires-2
+    (λ c. search needs)  -- mul-result
+    (λ c. search needs)  -- add-result
+    (λ c. rule-primitive _ _ _ _ _ refl (c .before .before .before .before .le32 .ensures) (c .before .before .before .le322 .ensures) (λ i. omega (arith, c .before .before .before .before .before .before .shared-slice-known .given i)) _ _ (c .before .before .if1 .taken) (c .before .long .ensures .0) (c .long2 .ensures .0))  -- returns
     (λ c. search needs)  -- add-le32-3
     (λ c κs. search needs)  -- le32-requires-3
     (λ c κs. search needs)  -- wide-requires
