@@ -1,6 +1,6 @@
 -- The bytes of one record, as the code puts them together and as 01 lays them out.
 use Prim.Native.Nat.{ℕ, _+_, _-_, _*_, _/_, _%_, _<_, _≤_}
-use mathlib.Core.Path.{_≡_}
+use mathlib.Core.Path.{_≡_, _∙_}
 use mathlib.Core.List.{List, [], _∷_}
 use native.Mathlib.Omega.{arith}
 use borrow.Author.Tests.{lt-ltb, le-ltb}
@@ -9,7 +9,7 @@ use Rattle.paper.specs.Bytes.{turned, field-at}
 use Rattle.paper.specs.Encode.{bytes32, row24, rec-bytes}
 use Rattle.record.specs.Trees.{Trees}
 use Rattle.plan.specs.Plan.{edited-slot, mark-of, marked-flags, marked-code, marked-field, source-field, planned-field, Sits}
-use Rattle.plan.specs.Sources.{marked-len}
+use Rattle.plan.specs.Sources.{marked-len, source-len}
 use Rattle.plan.proofs.Sourcing.{from-edited, name-length, marked-length, source-cases}
 use Rattle.plan_write.specs.Written.{row-of, source-row}
 
@@ -45,6 +45,12 @@ bits-again x rest = rw (same-bits x) (go (x % 4294967296) (x / 4294967296) (omeg
         let d : x / 16777216 ≡ q * 256 + r / 16777216 = omega arith in
         let a′ : x % 256 ≡ r % 256 = omega arith in
         rw (a′, b, c, d, lowest-byte (r / 256) (q * 65536), lowest-byte (r / 65536) (q * 256), lowest-byte (r / 16777216) q)
+
+-- Its byte 8 is the length of the name.
+pub row-len : (base added edits : List ℕ) (x id kids at r : ℕ) (row : List ℕ) → row ≡ source-row base added edits x id kids at → r ≡ getD row 8 0 → r ≡ source-len base added edits x
+unfolding source-row source-len row-of row24
+row-len base added edits x id kids at r row e q =
+    q ∙ rw e (source-cases x (λ b. rw (lt-ltb x 1024 b)) (λ b c. rw (le-ltb x 1024 b, lt-ltb x 2048 c)) (λ b c. rw (le-ltb x 1024 b, le-ltb x 2048 c)))
 
 module _ (l : Trees) (x : ℕ) where
   pub row-source : (id kids at : ℕ) → Sits l x → source-row (l .records) (l .added-records) (l .edits) x id kids at ≡ rec-bytes at (planned-field l (record { slot = x; id = id })) kids

@@ -33,8 +33,12 @@ abbrev pub planned-row : Trees → (plan : List (List ℕ)) (i at : ℕ) → Lis
 planned-row l plan i at =
     source-row (l .records) (l .added-records) (l .edits) (getD (sources plan) i 0) (getD (numbers plan) i 0) (getD (members plan) i 0) at
 
+-- Bytes stand at the start of a buffer, and the rest is as it was.
+abbrev pub Over : (bytes old new : List ℕ) → Type 0
+Over bytes old new = new ≡ bytes ++ drop (length bytes) old
+
 -- What the writer leaves in the two buffers, and the name bytes that it used.
 pub record Written (t : Forest Field) (records names : List ℕ) (used : ℕ) (records′ names′ : List ℕ) : Type 0 where
-  pub rows : records′ ≡ record-bytes t ++ drop (length (record-bytes t)) records
-  pub pool : names′ ≡ pool-bytes t ++ drop (length (pool-bytes t)) names
+  pub rows : Over (record-bytes t) records records′
+  pub pool : Over (pool-bytes t) names names′
   pub bytes : used ≡ length (pool-bytes t)

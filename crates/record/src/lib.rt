@@ -202,7 +202,7 @@ pub fn id_bits_at(recs: &[u8], slot: usize) -> u32
 }
 
 // The offset of a record's name in its pool.
-fn name_from(recs: &[u8], slot: usize) -> usize
+pub fn name_from(recs: &[u8], slot: usize) -> usize
     requires { ⌜ slot * 24 + 24 ≤ length (now recs) ⌝ }
     ensures { λ r. ⌜ (r ≡ rec-at (now (recs .entry)) slot .name-at) × (r < 4294967296) ⌝ }
 {

@@ -1,4 +1,5 @@
--- The record's bytes, put at its place.
+-- The record's bytes, put at its place; byte 8 is the length.
+use Rattle.plan_write.proofs.Rows.{row-len}
 use Rattle.plan_write.proofs.Writing.{row-put}
 use borrow.Author.Needs.{needs}
 use Rattle.plan_write.proofs.put_record.Statement.{statement}
@@ -21,6 +22,8 @@ put-record-spec =
     (λ c. search needs)  -- mul-put-bytes
     (λ c. search needs)  -- slice-aggregate-put-bytes
     (λ c κs. search needs)  -- put-bytes-requires
+    (λ c. search needs)  -- array-read-length-of
+    (λ c κs. search needs)  -- length-of-requires
     (λ c. search needs)  -- same-length
-    (λ c. search (row-put, needs))  -- returns
+    (λ c. search (row-put, row-len, needs))  -- returns
     )
