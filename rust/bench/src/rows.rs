@@ -16,6 +16,12 @@ pub struct Row {
     pub crate_too: bool,
 }
 
+/// Rows that are told together: how long each takes beside the first.
+pub struct Beside {
+    pub of: String,
+    pub rows: Vec<Row>,
+}
+
 /// The rows of a schema of so many records.
 pub fn rows(name: &str, records: usize) -> Vec<Row> {
     let base = schema(name, records);

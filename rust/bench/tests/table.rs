@@ -3,14 +3,14 @@
 use std::collections::{HashMap, HashSet};
 
 use bench::{
-    Editing, FAMILIES, INSIDE, Room, Row, SCHEMAS, SIZES, editing, inside, rows, schema, searches,
+    Beside, FAMILIES, INSIDE, Room, Row, SCHEMAS, SIZES, editing, inside, rows, schema, searches,
     widening, worst_folded, worst_identifiers, worst_ids, worst_names, worst_parents,
 };
 use cases::{Answer, Ask, ByJudge, Case, answer};
 use judge::{Change, Edit, ID_BYTES, LEVELS, Names, RECORD_BYTES, Tree, UpdateCall};
 
 /// Updates with edits, and the same ones without.
-fn all_edits() -> impl Iterator<Item = Editing> {
+fn all_edits() -> impl Iterator<Item = Beside> {
     editing().into_iter().chain(widening())
 }
 
@@ -60,7 +60,7 @@ fn updates_visit_so_many_records() {
             assert_eq!(visited(&inside(name, size)), [3, records + 1], "{name}");
         }
     }
-    for Editing { of, rows } in all_edits() {
+    for Beside { of, rows } in all_edits() {
         let visited = visited(&rows);
         assert_eq!(visited, vec![visited[0]; rows.len()], "{of}");
     }
@@ -111,7 +111,7 @@ fn identifiers_far_down_have_many_records_above_them() {
 /// How many renames, relaxings and widenings each row has. But for them, and for the version and
 /// the types of the base, it is the first one. Each edit is of another column, and changes
 /// something.
-fn edits_of(Editing { of, rows }: &Editing) -> Vec<[usize; 3]> {
+fn edits_of(Beside { of, rows }: &Beside) -> Vec<[usize; 3]> {
     let calls: Vec<UpdateCall> =
         rows.iter().map(|row| row.case.update_call().expect("an update")).collect();
     let tree = judge::read_tree(calls[0].records, calls[0].pool, judge::BASE).expect("read");

@@ -1,0 +1,171 @@
+//! Trees that are built to be bad for the index of full names. Names of one hash make long chains;
+//! where these are given up names are sorted by their bytes from the end. So the worst ones end
+//! alike, go through many records, and are cut into own names at unequal places.
+
+use cases::{Ask, Case, ask_of, list_of, packed, prim, strukt, update_of};
+use judge::{LEVELS, MOST_ADDITIONS, MOST_RECORDS, Node, Tree};
+
+use crate::asked::{asked, astray, nowhere};
+use crate::hashes::{names_of_one_chain, word, words_of_one_hash};
+use crate::rows::{Beside, Row, row};
+use crate::schemas::{numbered, schema};
+
+/// The levels of a chain of structs, which leave one for leaves.
+const DEEP: usize = LEVELS - 1;
+
+/// A tree, and what it is.
+pub type Bad = (&'static str, Vec<Node>);
+
+/// A word made longer, to so many bytes.
+fn long(word: &str, bytes: usize) -> String {
+    format!("{word}{}", "x".repeat(bytes - word.len()))
+}
+
+/// A tree of these root names.
+fn roots(names: impl IntoIterator<Item = String>) -> Vec<Node> {
+    numbered(names.into_iter().map(|name| prim(0, &name)).collect())
+}
+
+/// Words in falling order: each stands before all earlier ones by its bytes from the end.
+fn falling(words: &[String]) -> Vec<String> {
+    let mut words = words.to_vec();
+    words.sort_by_cached_key(|word| word.bytes().rev().collect::<Vec<u8>>());
+    words.reverse();
+    words
+}
+
+/// So many records: chains of structs of these own names, from the root down, under each the same
+/// leaves, as many as there may be or few; short root names fill the rest.
+fn chains(
+    records: usize,
+    of: &[Vec<String>],
+    few: usize,
+    leaf: impl Fn(usize) -> String,
+) -> Vec<Node> {
+    let leaves = few.min(records / of.len() - of[0].len());
+    let chain = |names: &Vec<String>| {
+        let inside = (0..leaves).map(|n| prim(0, &leaf(n))).collect();
+        let above = |inside, name: &String| vec![strukt(0, name, inside)];
+        names.iter().rev().fold(inside, above).remove(0)
+    };
+    let mut roots: Vec<Node> = of.iter().map(chain).collect();
+    let left = records - Tree::of(&roots).rows.len();
+    roots.extend((0..left).map(|n| prim(0, &word(n, 2))));
+    numbered(roots)
+}
+
+/// The own names of chains whose full names differ in the first word alone; each has so many bytes.
+fn even(words: &[String], levels: usize, bytes: usize) -> Vec<Vec<String>> {
+    let names = |word: &String| {
+        let below = (1..levels).map(|_| long("", bytes));
+        [long(word, bytes)].into_iter().chain(below).collect()
+    };
+    words.iter().map(names).collect()
+}
+
+/// The same of pieces of so many bytes with dots between them, which are cut into own names in so
+/// many ways, no two of them at one place. Where two such names are compared, own names begin in
+/// one of them or in the other at nearly thirty places.
+fn uneven(words: &[String], ways: usize, bytes: usize) -> Vec<Vec<String>> {
+    let names = |(n, word): (usize, &String)| {
+        let mut pieces = vec![long("", bytes); (DEEP - 1) * ways + 1];
+        pieces[0] = long(word, bytes.max(word.len()));
+        let (root, below) = pieces.split_at(1 + n % ways);
+        [root].into_iter().chain(below.chunks(ways)).map(|own| own.join(".")).collect()
+    };
+    words.iter().enumerate().map(names).collect()
+}
+
+/// Trees of root names alone.
+pub fn bad_roots() -> Vec<Bad> {
+    let words = words_of_one_hash(MOST_RECORDS);
+    let front = |word: &String| long(word, 32);
+    let end = |word: &String| format!("{}{word}", "x".repeat(24));
+    let one_chain = names_of_one_chain(MOST_RECORDS, |word| long(word, 32));
+    vec![
+        ("1,024 root names of one hash", roots(words.iter().map(end))),
+        ("the same, different at the front", roots(words.iter().map(front))),
+        ("the same, each before all earlier ones", roots(falling(&words).iter().map(front))),
+        ("1,024 root names of one chain, 64 tags", roots(one_chain)),
+    ]
+}
+
+/// Trees of structs, of so many records.
+pub fn bad_structs(records: usize) -> Vec<Bad> {
+    let words = words_of_one_hash(MOST_RECORDS);
+    let named = |bytes: usize| {
+        let words = &words;
+        move |n: usize| long(&words[n], bytes)
+    };
+    let short = |n: usize| word(n, 2);
+    let evenly = |count: usize, bytes: usize| even(&words[..count], DEEP, bytes);
+    let unevenly = |count: usize, ways: usize, bytes: usize| uneven(&words[..count], ways, bytes);
+    let all = |of: Vec<Vec<String>>, bytes| chains(records, &of, MOST_RECORDS, named(bytes));
+    let all_short = |of: Vec<Vec<String>>| chains(records, &of, MOST_RECORDS, short);
+    vec![
+        ("2 chains of names of 255 bytes", all(evenly(2, 255), 25)),
+        ("4 chains of names of 250 bytes", all(evenly(4, 250), 16)),
+        ("8 chains of names of 255 bytes", all_short(evenly(8, 255))),
+        ("16 chains of names of 125 bytes", all_short(evenly(16, 125))),
+        ("32 chains of names of 15 bytes", all(evenly(32, 15), 15)),
+        ("32 structs, names of 32 bytes in them", all(even(&words[..32], 1, 8), 32)),
+        ("8 chains cut in 8 ways", all(unevenly(8, 8, 15), 15)),
+        ("20 chains cut in 2 ways", all_short(unevenly(20, 2, 47))),
+        ("24 chains cut in 3 ways", all(unevenly(24, 3, 15), 15)),
+        ("16 chains cut in 16 ways, one leaf in each", {
+            chains(records, &unevenly(16, 16, 7), 1, named(8))
+        }),
+    ]
+}
+
+/// Lists of structs of structs, so that members have short names; each list and each member has the
+/// name of its number.
+fn lists(name: impl Fn(usize) -> String) -> Vec<Node> {
+    let list = |n| {
+        let members = (0..27).map(|m| prim(0, &name(m))).collect();
+        list_of(0, &name(n), strukt(0, "element", vec![strukt(0, "inner", members)]))
+    };
+    numbered((0..32).map(list).collect())
+}
+
+/// The worst cases that are known for names, each with the operation that is timed, behind the same
+/// operation on an ordinary tree.
+pub fn worst_names() -> Vec<Beside> {
+    // with room for what is added
+    let fewer = MOST_RECORDS - MOST_ADDITIONS;
+    let words = words_of_one_hash(32);
+    let visits = ("names as they are given", lists(|n| format!("visits_{n}")));
+    let hashed = ("names of one hash", lists(|n| long(&words[n], 31)));
+    let [flat, levels] = ["flat", "levels"].map(|name| (name, schema(name, MOST_RECORDS)));
+    let (structs, smaller) = (bad_structs(MOST_RECORDS), bad_structs(fewer));
+    let small_levels = ("levels", schema("levels", fewer));
+    let look_up = |base: &[Node]| ask_of(packed(base), Ask::Id(1));
+    let by_full = |base: &[Node]| asked(base, Tree::full_name);
+    let by_short = |base: &[Node]| asked(base, Tree::short_name);
+    let refused = |refusal, all: Beside| {
+        let row = |row| Row { refusal, ..row };
+        Beside { rows: all.rows.into_iter().map(row).collect(), ..all }
+    };
+    vec![
+        beside("look-up by id, of roots", &flat, &bad_roots(), look_up),
+        beside("look-up by id, of structs", &levels, &structs, look_up),
+        beside("update, 1 deletion and 1 addition", &levels, &structs, one_of_each),
+        beside("update, 64 of each, by full names", &small_levels, &smaller, by_full),
+        beside("update of lists, 64 of each, by short names", &visits, &[hashed], by_short),
+        refused(11, beside("64 deletions, the last refused (11)", &levels, &structs, astray)),
+        refused(15, beside("64 additions, the last refused (15)", &levels, &structs, nowhere)),
+    ]
+}
+
+/// A deletion of the last record by its full name, and an addition.
+fn one_of_each(base: &[Node]) -> Case {
+    let last = Tree::of(base).full_name(MOST_RECORDS - 1);
+    let gone = str::from_utf8(&last).expect("letters");
+    update_of(base, &[], MOST_RECORDS as i32, &[gone], &[(None, prim(0, "fresh"))])
+}
+
+/// An operation on an ordinary tree, and on bad ones.
+fn beside(of: &str, ordinary: &Bad, bad: &[Bad], case: impl Fn(&[Node]) -> Case) -> Beside {
+    let rows = [ordinary].into_iter().chain(bad).map(|(what, base)| row(what, case(base)));
+    Beside { of: of.into(), rows: rows.collect() }
+}
