@@ -52,6 +52,11 @@ pub fn nowhere(base: &[Node]) -> Case {
     shared(update(base, vec![], paths))
 }
 
+/// 64 deletions of one member, by its full name.
+pub fn again(base: &[Node], slot: usize) -> Case {
+    shared(update(base, vec![Tree::of(base).full_name(slot); EACH], vec![]))
+}
+
 fn update(base: &[Node], dropped: Vec<Vec<u8>>, above: Vec<Vec<u8>>) -> Case {
     let fresh = |(n, path)| Addition { path: Some(path), column: prim(0, &format!("n{n}")) };
     let added: Vec<Addition> = above.into_iter().enumerate().map(fresh).collect();

@@ -1,6 +1,9 @@
 //! Names that the hash of the index can't tell apart. They must be sought on purpose.
 
 use std::collections::HashMap;
+use std::sync::LazyLock;
+
+use judge::MOST_RECORDS;
 
 const FACTOR: u32 = 16_777_619;
 
@@ -25,9 +28,12 @@ pub fn word(n: usize, letters: usize) -> String {
     (0..letters).rev().map(letter).collect()
 }
 
-/// So many words of eight letters that share a hash. The last three letters are looked up: what
-/// they add to the hash is what the first five leave open.
-pub fn words_of_one_hash(count: usize) -> Vec<String> {
+/// As many words of eight letters as a tree has records, all of one hash.
+pub static WORDS: LazyLock<Vec<String>> = LazyLock::new(|| words_of_one_hash(MOST_RECORDS));
+
+/// The last three letters are looked up: what they add to the hash is what the first five leave
+/// open.
+fn words_of_one_hash(count: usize) -> Vec<String> {
     let of = |word: &str| hash(word.as_bytes(), 0);
     let ends: HashMap<u32, usize> = (0..1 << 18).map(|n| (of(&word(n, 3)), n)).collect();
     let carried = FACTOR.wrapping_pow(3);

@@ -6,7 +6,7 @@ use cases::{Ask, Case, ask_of, list_of, packed, prim, strukt, update_of};
 use judge::{LEVELS, MOST_ADDITIONS, MOST_RECORDS, Node, Tree};
 
 use crate::asked::{asked, astray, nowhere};
-use crate::hashes::{names_of_one_chain, word, words_of_one_hash};
+use crate::hashes::{WORDS, names_of_one_chain, word};
 use crate::rows::{Beside, Row, row};
 use crate::schemas::{numbered, schema};
 
@@ -27,26 +27,24 @@ fn roots(names: impl IntoIterator<Item = String>) -> Vec<Node> {
 }
 
 /// Words in falling order: each stands before all earlier ones by its bytes from the end.
-fn falling(words: &[String]) -> Vec<String> {
-    let mut words = words.to_vec();
+fn falling() -> Vec<String> {
+    let mut words = WORDS.to_vec();
     words.sort_by_cached_key(|word| word.bytes().rev().collect::<Vec<u8>>());
     words.reverse();
     words
 }
 
 /// So many records: chains of structs of these own names, from the root down, under each the same
-/// leaves, as many as there may be or few; short root names fill the rest.
-fn chains(
-    records: usize,
-    of: &[Vec<String>],
-    few: usize,
-    leaf: impl Fn(usize) -> String,
-) -> Vec<Node> {
-    let leaves = few.min(records / of.len() - of[0].len());
+/// leaves, as many as there may be, and of others none: there the last own name is a leaf's. Short
+/// root names fill the rest.
+fn chains(records: usize, of: &[Vec<String>], leaf: Option<&dyn Fn(usize) -> String>) -> Vec<Node> {
+    let leaves = records / of.len() - of[0].len();
     let chain = |names: &Vec<String>| {
-        let inside = (0..leaves).map(|n| prim(0, &leaf(n))).collect();
-        let above = |inside, name: &String| vec![strukt(0, name, inside)];
-        names.iter().rev().fold(inside, above).remove(0)
+        let (last, above) = names.split_last().expect("a chain has names");
+        let last = leaf.map_or(prim(0, last), |leaf| {
+            strukt(0, last, (0..leaves).map(|n| prim(0, &leaf(n))).collect())
+        });
+        above.iter().rev().fold(last, |inside, name| strukt(0, name, vec![inside]))
     };
     let mut roots: Vec<Node> = of.iter().map(chain).collect();
     let left = records - Tree::of(&roots).rows.len();
@@ -78,43 +76,40 @@ fn uneven(words: &[String], ways: usize, bytes: usize) -> Vec<Vec<String>> {
 
 /// Trees of root names alone.
 pub fn bad_roots() -> Vec<Bad> {
-    let words = words_of_one_hash(MOST_RECORDS);
     let front = |word: &String| long(word, 32);
     let end = |word: &String| format!("{}{word}", "x".repeat(24));
     let one_chain = names_of_one_chain(MOST_RECORDS, |word| long(word, 32));
     vec![
-        ("1,024 root names of one hash", roots(words.iter().map(end))),
-        ("the same, different at the front", roots(words.iter().map(front))),
-        ("the same, each before all earlier ones", roots(falling(&words).iter().map(front))),
+        ("1,024 root names of one hash", roots(WORDS.iter().map(end))),
+        ("the same, different at the front", roots(WORDS.iter().map(front))),
+        ("the same, each before all earlier ones", roots(falling().iter().map(front))),
         ("1,024 root names of one chain, 64 tags", roots(one_chain)),
     ]
 }
 
 /// Trees of structs, of so many records.
 pub fn bad_structs(records: usize) -> Vec<Bad> {
-    let words = words_of_one_hash(MOST_RECORDS);
-    let named = |bytes: usize| {
-        let words = &words;
-        move |n: usize| long(&words[n], bytes)
+    let evenly = |count: usize, bytes: usize| even(&WORDS[..count], DEEP, bytes);
+    let unevenly = |count: usize, ways: usize, bytes: usize| uneven(&WORDS[..count], ways, bytes);
+    let named = |of: Vec<Vec<String>>, bytes: usize| {
+        chains(records, &of, Some(&|n| long(&WORDS[n], bytes)))
     };
-    let short = |n: usize| word(n, 2);
-    let evenly = |count: usize, bytes: usize| even(&words[..count], DEEP, bytes);
-    let unevenly = |count: usize, ways: usize, bytes: usize| uneven(&words[..count], ways, bytes);
-    let all = |of: Vec<Vec<String>>, bytes| chains(records, &of, MOST_RECORDS, named(bytes));
-    let all_short = |of: Vec<Vec<String>>| chains(records, &of, MOST_RECORDS, short);
+    let short = |of: Vec<Vec<String>>| chains(records, &of, Some(&|n| word(n, 2)));
     vec![
-        ("2 chains of names of 255 bytes", all(evenly(2, 255), 25)),
-        ("4 chains of names of 250 bytes", all(evenly(4, 250), 16)),
-        ("8 chains of names of 255 bytes", all_short(evenly(8, 255))),
-        ("16 chains of names of 125 bytes", all_short(evenly(16, 125))),
-        ("32 chains of names of 15 bytes", all(evenly(32, 15), 15)),
-        ("32 structs, names of 32 bytes in them", all(even(&words[..32], 1, 8), 32)),
-        ("8 chains cut in 8 ways", all(unevenly(8, 8, 15), 15)),
-        ("20 chains cut in 2 ways", all_short(unevenly(20, 2, 47))),
-        ("24 chains cut in 3 ways", all(unevenly(24, 3, 15), 15)),
-        ("16 chains cut in 16 ways, one leaf in each", {
-            chains(records, &unevenly(16, 16, 7), 1, named(8))
-        }),
+        ("2 chains of names of 255 bytes", named(evenly(2, 255), 25)),
+        ("4 chains of names of 250 bytes", named(evenly(4, 250), 16)),
+        ("8 chains of names of 255 bytes", short(evenly(8, 255))),
+        ("16 chains of names of 125 bytes", short(evenly(16, 125))),
+        ("32 chains of names of 15 bytes", named(evenly(32, 15), 15)),
+        ("32 structs, names of 32 bytes in them", named(even(&WORDS[..32], 1, 8), 32)),
+        ("8 chains cut in 8 ways", short(unevenly(8, 8, 31))),
+        ("20 chains cut in 2 ways", short(unevenly(20, 2, 47))),
+        ("24 chains cut in 3 ways", named(unevenly(24, 3, 15), 15)),
+        // so few names of one hash that the chains are not given up
+        (
+            "14 chains cut in 14 ways, one leaf in each",
+            chains(records, &unevenly(14, 14, 10), None),
+        ),
     ]
 }
 
@@ -133,9 +128,8 @@ fn lists(name: impl Fn(usize) -> String) -> Vec<Node> {
 pub fn worst_names() -> Vec<Beside> {
     // with room for what is added
     let fewer = MOST_RECORDS - MOST_ADDITIONS;
-    let words = words_of_one_hash(32);
     let visits = ("names as they are given", lists(|n| format!("visits_{n}")));
-    let hashed = ("names of one hash", lists(|n| long(&words[n], 31)));
+    let hashed = ("names of one hash", lists(|n| long(&WORDS[n], 31)));
     let [flat, levels] = ["flat", "levels"].map(|name| (name, schema(name, MOST_RECORDS)));
     let (structs, smaller) = (bad_structs(MOST_RECORDS), bad_structs(fewer));
     let small_levels = ("levels", schema("levels", fewer));

@@ -29,9 +29,8 @@ fn every_schema_has_exactly_its_records() {
 fn every_row_goes_as_far_as_it_says() {
     let table = SCHEMAS.iter().flat_map(|(name, _)| SIZES.map(|size| rows(name, size)));
     let pairs = worst_ids().into_iter().flatten().chain(worst_folded().into_iter().flatten());
-    let worst = worst_names().into_iter().chain(pairs).chain(worst_parents());
-    let worst = worst.chain(worst_identifiers());
-    let worst = worst.chain(all_edits().flat_map(|editing| editing.rows));
+    let worst = pairs.chain(worst_parents()).chain(worst_identifiers());
+    let worst = worst.chain(all_edits().chain(worst_names()).flat_map(|beside| beside.rows));
     let inside = INSIDE.iter().flat_map(|name| SIZES.map(|size| inside(name, size)));
     for row in table.flatten().chain(worst).chain(inside.flatten()) {
         let records = row.case.records.len() / RECORD_BYTES;
