@@ -15,7 +15,6 @@ use bench::{
     inside, marks, rows, searches, times, widening, worst_folded, worst_identifiers, worst_ids,
     worst_names, worst_parents,
 };
-use cases::{Ask, Case};
 use oracle::Iceberg;
 use port::Port;
 
@@ -225,22 +224,12 @@ fn calls(row: &Row, iceberg: Option<Iceberg>) -> [Option<Call<'_>>; 3] {
             black_box(room.call(case, &Port));
         })
     });
-    let theirs = iceberg.filter(|_| row.crate_too).map(|iceberg| -> Call {
-        // the crate has no edits
-        let case = without_edits(case);
+    let theirs = iceberg.zip(row.crate_case()).map(|(iceberg, case)| -> Call {
         Box::new(move |_| {
             black_box(iceberg.operate(&case));
         })
     });
     [ours, theirs, Some(Box::new(|room| room.copy(case)))]
-}
-
-fn without_edits(case: &Case) -> Case {
-    let mut case = case.clone();
-    if let Ask::Update { edits, .. } = &mut case.ask {
-        edits.clear();
-    }
-    case
 }
 
 fn figures(times: &[Option<f64>]) -> String {

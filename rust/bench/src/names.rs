@@ -61,13 +61,14 @@ fn even(words: &[String], levels: usize, bytes: usize) -> Vec<Vec<String>> {
     words.iter().map(names).collect()
 }
 
-/// The same of pieces of so many bytes with dots between them, which are cut into own names in so
-/// many ways, no two of them at one place. Where two such names are compared, own names begin in
-/// one of them or in the other at nearly thirty places.
-fn uneven(words: &[String], ways: usize, bytes: usize) -> Vec<Vec<String>> {
+/// The same of pieces with dots between them, which are cut into own names in so many ways, no two
+/// of them at one place. One of so many pieces is long, the others are short. Where two such names
+/// are compared, own names begin in one of them or in the other at nearly thirty places.
+fn uneven(words: &[String], ways: usize, [one, others]: [usize; 2]) -> Vec<Vec<String>> {
+    let piece = |n: usize| long("", if n.is_multiple_of(ways) { one } else { others });
     let names = |(n, word): (usize, &String)| {
-        let mut pieces = vec![long("", bytes); (DEEP - 1) * ways + 1];
-        pieces[0] = long(word, bytes.max(word.len()));
+        let mut pieces: Vec<String> = (0..=(DEEP - 1) * ways).map(piece).collect();
+        pieces[0] = long(word, one.max(word.len()));
         let (root, below) = pieces.split_at(1 + n % ways);
         [root].into_iter().chain(below.chunks(ways)).map(|own| own.join(".")).collect()
     };
@@ -87,10 +88,11 @@ pub fn bad_roots() -> Vec<Bad> {
     ]
 }
 
-/// Trees of structs, of so many records.
+/// Trees of structs, of so many records. The first three are not updated.
 pub fn bad_structs(records: usize) -> Vec<Bad> {
     let evenly = |count: usize, bytes: usize| even(&WORDS[..count], DEEP, bytes);
-    let unevenly = |count: usize, ways: usize, bytes: usize| uneven(&WORDS[..count], ways, bytes);
+    let unevenly =
+        |count: usize, ways: usize, bytes: [usize; 2]| uneven(&WORDS[..count], ways, bytes);
     let named = |of: Vec<Vec<String>>, bytes: usize| {
         chains(records, &of, Some(&|n| long(&WORDS[n], bytes)))
     };
@@ -98,17 +100,16 @@ pub fn bad_structs(records: usize) -> Vec<Bad> {
     vec![
         ("2 chains of names of 255 bytes", named(evenly(2, 255), 25)),
         ("4 chains of names of 250 bytes", named(evenly(4, 250), 16)),
-        ("8 chains of names of 255 bytes", short(evenly(8, 255))),
         ("16 chains of names of 125 bytes", short(evenly(16, 125))),
+        ("8 chains of names of 255 bytes", short(evenly(8, 255))),
         ("32 chains of names of 15 bytes", named(evenly(32, 15), 15)),
         ("32 structs, names of 32 bytes in them", named(even(&WORDS[..32], 1, 8), 32)),
-        ("8 chains cut in 8 ways", short(unevenly(8, 8, 31))),
-        ("20 chains cut in 2 ways", short(unevenly(20, 2, 47))),
-        ("24 chains cut in 3 ways", named(unevenly(24, 3, 15), 15)),
-        // so few names of one hash that the chains are not given up
+        ("8 chains of long names, cut in 8 ways", short(unevenly(8, 8, [241, 1]))),
+        ("24 chains of short names, cut in 3 ways", named(unevenly(24, 3, [15; 2]), 15)),
+        // so few names of one hash that the chains of the index are not given up
         (
-            "14 chains cut in 14 ways, one leaf in each",
-            chains(records, &unevenly(14, 14, 10), None),
+            "14 chains cut in 14 ways, one leaf each",
+            chains(records, &unevenly(14, 14, [10; 2]), None),
         ),
     ]
 }
@@ -132,6 +133,7 @@ pub fn worst_names() -> Vec<Beside> {
     let hashed = ("names of one hash", lists(|n| long(&WORDS[n], 31)));
     let [flat, levels] = ["flat", "levels"].map(|name| (name, schema(name, MOST_RECORDS)));
     let (structs, smaller) = (bad_structs(MOST_RECORDS), bad_structs(fewer));
+    let [updated, smaller] = [&structs[3..], &smaller[3..]];
     let small_levels = ("levels", schema("levels", fewer));
     let look_up = |base: &[Node]| ask_of(packed(base), Ask::Id(1));
     let by_full = |base: &[Node]| asked(base, Tree::full_name);
@@ -143,11 +145,11 @@ pub fn worst_names() -> Vec<Beside> {
     vec![
         beside("look-up by id, of roots", &flat, &bad_roots(), look_up),
         beside("look-up by id, of structs", &levels, &structs, look_up),
-        beside("update, 1 deletion and 1 addition", &levels, &structs, one_of_each),
-        beside("update, 64 of each, by full names", &small_levels, &smaller, by_full),
+        beside("update, 1 deletion and 1 addition", &levels, updated, one_of_each),
+        beside("update, 64 of each, by full names", &small_levels, smaller, by_full),
         beside("update of lists, 64 of each, by short names", &visits, &[hashed], by_short),
-        refused(11, beside("64 deletions, the last refused (11)", &levels, &structs, astray)),
-        refused(15, beside("64 additions, the last refused (15)", &levels, &structs, nowhere)),
+        refused(11, beside("64 deletions, the last refused (11)", &levels, updated, astray)),
+        refused(15, beside("64 additions, the last refused (15)", &levels, updated, nowhere)),
     ]
 }
 

@@ -16,6 +16,17 @@ pub struct Row {
     pub crate_too: bool,
 }
 
+impl Row {
+    /// What the crate is asked for, which has no edits.
+    pub fn crate_case(&self) -> Option<Case> {
+        let mut case = self.crate_too.then(|| self.case.clone())?;
+        if let Ask::Update { edits, .. } = &mut case.ask {
+            edits.clear();
+        }
+        Some(case)
+    }
+}
+
 /// Rows that are told together: how long each takes beside the first.
 pub struct Beside {
     pub of: String,
