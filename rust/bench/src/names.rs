@@ -124,13 +124,27 @@ fn lists(name: impl Fn(usize) -> String) -> Vec<Node> {
     numbered((0..32).map(list).collect())
 }
 
+/// A list far down whose members are found by short names, with nothing but fronts of that name
+/// before it: the walk over short names compares all of them.
+fn fronts() -> Vec<Node> {
+    let (pieces, levels, members) = (47, 13, 300);
+    let name = |pieces: usize| vec!["x"; pieces].join(".");
+    let members = (0..members).map(|n| prim(0, &word(n, 2))).collect();
+    let list = list_of(0, &name(pieces), strukt(0, "element", vec![strukt(0, "inner", members)]));
+    let row = |last| (1..pieces).map(|n| prim(0, &name(n))).chain([last]).collect::<Vec<Node>>();
+    numbered((1..levels).fold(row(list), |inside, _| row(strukt(0, &name(pieces), inside))))
+}
+
 /// The worst cases that are known for names, each with the operation that is timed, behind the same
 /// operation on an ordinary tree.
 pub fn worst_names() -> Vec<Beside> {
     // with room for what is added
     let fewer = MOST_RECORDS - MOST_ADDITIONS;
     let visits = ("names as they are given", lists(|n| format!("visits_{n}")));
-    let hashed = ("names of one hash", lists(|n| long(&WORDS[n], 31)));
+    let by_walk = [
+        ("names of one hash", lists(|n| long(&WORDS[n], 31))),
+        ("fronts of what is asked before it", fronts()),
+    ];
     let [flat, levels] = ["flat", "levels"].map(|name| (name, schema(name, MOST_RECORDS)));
     let (structs, smaller) = (bad_structs(MOST_RECORDS), bad_structs(fewer));
     let [updated, smaller] = [&structs[3..], &smaller[3..]];
@@ -147,7 +161,7 @@ pub fn worst_names() -> Vec<Beside> {
         beside("look-up by id, of structs", &levels, &structs, look_up),
         beside("update, 1 deletion and 1 addition", &levels, updated, one_of_each),
         beside("update, 64 of each, by full names", &small_levels, smaller, by_full),
-        beside("update of lists, 64 of each, by short names", &visits, &[hashed], by_short),
+        beside("update of lists, 64 of each, by short names", &visits, &by_walk, by_short),
         refused(11, beside("64 deletions, the last refused (11)", &levels, updated, astray)),
         refused(15, beside("64 additions, the last refused (15)", &levels, updated, nowhere)),
     ]
