@@ -3,7 +3,7 @@
 //! alike, go through many records, and are cut into own names at unequal places.
 
 use cases::{Ask, Case, ask_of, list_of, packed, prim, strukt, update_of};
-use judge::{LEVELS, MOST_ADDITIONS, MOST_RECORDS, Node, Tree};
+use judge::{LEVELS, MOST_ADDITIONS, MOST_RECORDS, Node, STRUCT, Tree};
 
 use crate::asked::{asked, astray, nowhere};
 use crate::hashes::{WORDS, names_of_one_chain, word};
@@ -52,6 +52,24 @@ fn chains(records: usize, of: &[Vec<String>], leaf: Option<&dyn Fn(usize) -> Str
     numbered(roots)
 }
 
+/// Chains of structs of these own names, and below each the same structs with one leaf in each: so
+/// no two leaves have one record above them.
+fn apart(records: usize, of: &[Vec<String>]) -> Vec<Node> {
+    let structs = (records / of.len() - of[0].len()) / 2;
+    let mut roots = chains(records, of, Some(&|n| word(n, 2)));
+    for root in &mut roots {
+        let mut last = root;
+        while last.inside.len() == 1 {
+            last = &mut last.inside[0];
+        }
+        last.inside.truncate(structs);
+        for node in &mut last.inside {
+            *node = Node { kind: STRUCT, inside: vec![prim(0, "x")], ..node.clone() };
+        }
+    }
+    numbered(roots)
+}
+
 /// The own names of chains whose full names differ in the first word alone; each has so many bytes.
 fn even(words: &[String], levels: usize, bytes: usize) -> Vec<Vec<String>> {
     let names = |word: &String| {
@@ -91,6 +109,7 @@ pub fn bad_roots() -> Vec<Bad> {
 /// Trees of structs, of so many records. The first three are not updated.
 pub fn bad_structs(records: usize) -> Vec<Bad> {
     let evenly = |count: usize, bytes: usize| even(&WORDS[..count], DEEP, bytes);
+    let higher = |count: usize, bytes: usize| even(&WORDS[..count], DEEP - 1, bytes);
     let unevenly =
         |count: usize, ways: usize, bytes: [usize; 2]| uneven(&WORDS[..count], ways, bytes);
     let named = |of: Vec<Vec<String>>, bytes: usize| {
@@ -105,6 +124,8 @@ pub fn bad_structs(records: usize) -> Vec<Bad> {
         ("32 chains of names of 15 bytes", named(evenly(32, 15), 15)),
         ("32 structs, names of 32 bytes in them", named(even(&WORDS[..32], 1, 8), 32)),
         ("8 chains of long names, cut in 8 ways", short(unevenly(8, 8, [241, 1]))),
+        ("8 chains of long names, a struct a leaf", apart(records, &higher(8, 255))),
+        ("32 chains of short names, a struct a leaf", apart(records, &higher(32, 15))),
         ("24 chains of short names, cut in 3 ways", named(unevenly(24, 3, [15; 2]), 15)),
         // so few names of one hash that the chains of the index are not given up
         (
