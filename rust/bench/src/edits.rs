@@ -5,37 +5,29 @@ use judge::{
     Change, Edit, INT, LEVELS, LONG, MOST_EDITS, MOST_RECORDS, Node, PRIMITIVE, RECORD_BYTES, Tree,
 };
 
-use crate::rows::{Row, base_last, member, primitives, row, update};
+use crate::rows::{Beside, Row, base_last, member, primitives, row, update};
 use crate::schemas::{SCHEMAS, numbered, required, schema};
 
-/// Rows that are told together: the first is the update without edits, which the crate can be asked
-/// for too.
-pub struct Editing {
-    pub of: String,
-    pub rows: Vec<Row>,
-}
-
-impl Editing {
-    fn new(of: Editable, with: Vec<(&'static str, Case)>) -> Editing {
-        let with = with.into_iter().map(|(what, case)| Row { crate_too: false, ..row(what, case) });
-        let without = [row("without edits", of.case)];
-        Editing { of: of.what, rows: without.into_iter().chain(with).collect() }
-    }
+/// The update without edits, which the crate can be asked for too, and those with them.
+fn beside(of: Editable, with: Vec<(&'static str, Case)>) -> Beside {
+    let with = with.into_iter().map(|(what, case)| Row { crate_too: false, ..row(what, case) });
+    let without = [row("without edits", of.case)];
+    Beside { of: of.what, rows: without.into_iter().chain(with).collect() }
 }
 
 /// 64 edits beside 64 deletions and 64 additions, and alone, of each schema; and what is built to
 /// be bad for them. All records are required.
-pub fn editing() -> Vec<Editing> {
+pub fn editing() -> Vec<Beside> {
     let with = |of: Editable| {
         let renamed = of.renamed();
-        Editing::new(of, renamed)
+        beside(of, renamed)
     };
     editable(|_, _| true).map(with).collect()
 }
 
 /// The same where 64 primitives stay, of which each is edited, and widenings of them beside it. A
 /// decimal's step is in no row of the table of steps, so all rows are asked for it.
-pub fn widening() -> Vec<Editing> {
+pub fn widening() -> Vec<Beside> {
     let with = |of: Editable| {
         let (ints, decimals) = (of.typed(INT), of.typed(decimal(9, 2)));
         let in_turn = |n: usize| match n % 3 {
@@ -51,7 +43,7 @@ pub fn widening() -> Vec<Editing> {
             ("64 widenings of decimals, version 2", more_digits.clone()),
             ("64 widenings of decimals, version 3", by_version(3, more_digits)),
         ]);
-        Editing::new(ints, rows)
+        beside(ints, rows)
     };
     let primitive = |tree: &Tree, slot: usize| tree.rows[slot].kind == PRIMITIVE;
     editable(primitive).filter(|of| of.paths.len() == MOST_EDITS).map(with).collect()

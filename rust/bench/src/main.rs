@@ -11,7 +11,7 @@ use std::hint::black_box;
 use std::process::ExitCode;
 
 use bench::{
-    Call, Editing, FAMILIES, INSIDE, LINKED, Room, Row, SCHEMAS, SIZES, Search, deepest, editing,
+    Beside, Call, FAMILIES, INSIDE, LINKED, Room, Row, SCHEMAS, SIZES, Search, deepest, editing,
     inside, marks, rows, searches, times, widening, worst_folded, worst_identifiers, worst_ids,
     worst_names, worst_parents,
 };
@@ -80,8 +80,8 @@ fn main() -> ExitCode {
         table(worst_ids().into_iter().flatten(), iceberg);
     }
     if wanted("names") {
-        println!("\nnames: built to be bad for the index of names; look-ups by id, and one update");
-        table(worst_names(), iceberg);
+        println!("\nnames: built to be bad for the index of names, beside an ordinary tree");
+        besides(worst_names(), iceberg);
     }
     if wanted("folded") {
         println!(
@@ -100,11 +100,11 @@ fn main() -> ExitCode {
     let without = "beside the same update without edits, which is what the crate is asked for";
     if wanted("edits") {
         println!("\nedits: {without}");
-        editings(editing(), iceberg);
+        besides(editing(), iceberg);
     }
     if wanted("widenings") {
         println!("\nwidenings, and other edits of the same primitives: {without}");
-        editings(widening(), iceberg);
+        besides(widening(), iceberg);
     }
     if wanted("searches") {
         searching(iceberg);
@@ -145,10 +145,10 @@ fn shown_visits(visits: Option<(u32, f64)>) -> String {
     visits.map_or("".into(), |(visited, each)| format!("{visited:>9}{each:>9.1}"))
 }
 
-/// A table for each update without edits, and the same with them: how many times it takes as long.
-/// The crate has no edits, so it is asked for the update without them.
-fn editings(all: Vec<Editing>, iceberg: Option<Iceberg>) {
-    for Editing { of, rows } in all {
+/// A table for each row that others are told beside: how many times each takes as long. Where the
+/// crate is not asked for a row, its time is that of the last one above for which it is.
+fn besides(all: Vec<Beside>, iceberg: Option<Iceberg>) {
+    for Beside { of, rows } in all {
         println!("\n{of}");
         println!(
             "{:>7} {:45}{:>12}{:>9}{:>12}{:>9}{:>9}{:>9}",
@@ -156,19 +156,21 @@ fn editings(all: Vec<Editing>, iceberg: Option<Iceberg>) {
         );
         let calls: Vec<Option<Call>> = rows.iter().flat_map(|row| calls(row, iceberg)).collect();
         let times = times(&calls);
-        for (row, ours) in rows.iter().zip(times.iter().step_by(3)) {
-            let records = row.case.records.len() / judge::RECORD_BYTES;
+        let mut theirs = None;
+        for (row, each) in rows.iter().zip(times.chunks(3)) {
+            let (ours, records) = (each[0], row.case.records.len() / judge::RECORD_BYTES);
+            theirs = each[1].or(theirs);
             let shown = |time: Option<f64>| time.map_or("-".into(), |t| format!("{:.3}", t / 1e3));
             let longer = ours
                 .zip(times[0])
-                .map_or("-".into(), |(with, without)| format!("{:.2}", with / without));
+                .map_or("-".into(), |(this, first)| format!("{:.2}", this / first));
             println!(
                 "{records:>7} {:45}{:>12}{longer:>9}{:>12}{:>9}{}",
                 row.what,
-                shown(*ours),
-                shown(times[1]),
-                ratio(*ours, times[1]),
-                shown_visits(visits(row, *ours))
+                shown(ours),
+                shown(theirs),
+                ratio(ours, theirs),
+                shown_visits(visits(row, ours))
             );
         }
     }
@@ -222,9 +224,9 @@ fn calls(row: &Row, iceberg: Option<Iceberg>) -> [Option<Call<'_>>; 3] {
             black_box(room.call(case, &Port));
         })
     });
-    let theirs = iceberg.filter(|_| row.crate_too).map(|iceberg| -> Call {
+    let theirs = iceberg.zip(row.crate_case()).map(|(iceberg, case)| -> Call {
         Box::new(move |_| {
-            black_box(iceberg.operate(case));
+            black_box(iceberg.operate(&case));
         })
     });
     [ours, theirs, Some(Box::new(|room| room.copy(case)))]

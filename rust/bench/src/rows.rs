@@ -16,6 +16,23 @@ pub struct Row {
     pub crate_too: bool,
 }
 
+impl Row {
+    /// What the crate is asked for, which has no edits.
+    pub fn crate_case(&self) -> Option<Case> {
+        let mut case = self.crate_too.then(|| self.case.clone())?;
+        if let Ask::Update { edits, .. } = &mut case.ask {
+            edits.clear();
+        }
+        Some(case)
+    }
+}
+
+/// Rows that are told together: how long each takes beside the first.
+pub struct Beside {
+    pub of: String,
+    pub rows: Vec<Row>,
+}
+
 /// The rows of a schema of so many records.
 pub fn rows(name: &str, records: usize) -> Vec<Row> {
     let base = schema(name, records);

@@ -3,14 +3,14 @@
 use std::collections::{HashMap, HashSet};
 
 use bench::{
-    Editing, FAMILIES, INSIDE, Room, Row, SCHEMAS, SIZES, editing, inside, rows, schema, searches,
+    Beside, FAMILIES, INSIDE, Room, Row, SCHEMAS, SIZES, editing, inside, rows, schema, searches,
     widening, worst_folded, worst_identifiers, worst_ids, worst_names, worst_parents,
 };
 use cases::{Answer, Ask, ByJudge, Case, answer};
 use judge::{Change, Edit, ID_BYTES, LEVELS, Names, RECORD_BYTES, Tree, UpdateCall};
 
 /// Updates with edits, and the same ones without.
-fn all_edits() -> impl Iterator<Item = Editing> {
+fn all_edits() -> impl Iterator<Item = Beside> {
     editing().into_iter().chain(widening())
 }
 
@@ -29,9 +29,8 @@ fn every_schema_has_exactly_its_records() {
 fn every_row_goes_as_far_as_it_says() {
     let table = SCHEMAS.iter().flat_map(|(name, _)| SIZES.map(|size| rows(name, size)));
     let pairs = worst_ids().into_iter().flatten().chain(worst_folded().into_iter().flatten());
-    let worst = worst_names().into_iter().chain(pairs).chain(worst_parents());
-    let worst = worst.chain(worst_identifiers());
-    let worst = worst.chain(all_edits().flat_map(|editing| editing.rows));
+    let worst = pairs.chain(worst_parents()).chain(worst_identifiers());
+    let worst = worst.chain(all_edits().chain(worst_names()).flat_map(|beside| beside.rows));
     let inside = INSIDE.iter().flat_map(|name| SIZES.map(|size| inside(name, size)));
     for row in table.flatten().chain(worst).chain(inside.flatten()) {
         let records = row.case.records.len() / RECORD_BYTES;
@@ -60,7 +59,7 @@ fn updates_visit_so_many_records() {
             assert_eq!(visited(&inside(name, size)), [3, records + 1], "{name}");
         }
     }
-    for Editing { of, rows } in all_edits() {
+    for Beside { of, rows } in all_edits() {
         let visited = visited(&rows);
         assert_eq!(visited, vec![visited[0]; rows.len()], "{of}");
     }
@@ -111,7 +110,7 @@ fn identifiers_far_down_have_many_records_above_them() {
 /// How many renames, relaxings and widenings each row has. But for them, and for the version and
 /// the types of the base, it is the first one. Each edit is of another column, and changes
 /// something.
-fn edits_of(Editing { of, rows }: &Editing) -> Vec<[usize; 3]> {
+fn edits_of(Beside { of, rows }: &Beside) -> Vec<[usize; 3]> {
     let calls: Vec<UpdateCall> =
         rows.iter().map(|row| row.case.update_call().expect("an update")).collect();
     let tree = judge::read_tree(calls[0].records, calls[0].pool, judge::BASE).expect("read");
@@ -292,8 +291,9 @@ fn iceberg_does_what_the_table_says() {
         }
     }
     let inside = INSIDE.iter().flat_map(|name| inside(name, 100));
-    let edits = all_edits().flat_map(|editing| editing.rows).filter(|row| row.crate_too);
-    for row in worst_identifiers().into_iter().chain(inside).chain(edits) {
-        assert_eq!(iceberg.operate(&row.case), row.refusal == 0, "{}", row.what);
+    let beside = all_edits().chain(worst_names()).flat_map(|beside| beside.rows);
+    for row in worst_identifiers().into_iter().chain(inside).chain(beside) {
+        let Some(case) = row.crate_case() else { continue };
+        assert_eq!(iceberg.operate(&case), row.refusal == 0, "{}", row.what);
     }
 }
