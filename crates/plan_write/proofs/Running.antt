@@ -1,6 +1,6 @@
 -- Names that stand together: what a run holds so far, and what is left behind it. `search running`.
 use Prim.Native.Nat.{ℕ, _+_, _*_, _-_, _<_, _≤_}
-use mathlib.Core.Path.{_≡_, refl, sym, ap, _∙_}
+use mathlib.Core.Path.{_≡_, refl, sym, _∙_}
 use mathlib.Core.Bool.{Bool, true, false, not, true≢false}
 use mathlib.Core.Logic.{⊎-elim}
 use mathlib.Core.List.{List, _++_, append-assoc}
@@ -9,14 +9,13 @@ use borrow.Author.Tests.{leb-true, lt-ltb, le-ltb, eq-eqb, eqb-true, not-true, n
 use lib.Dec.{eqb}
 use lib.ListN.{length, getD, take, drop}
 use lib.Seq.{take-add, drop-drop}
-use Rattle.paper.specs.Field.{Field}
-use Rattle.paper.specs.Bytes.{rec-at, name-of, in-pool, field-at, from}
+use Rattle.paper.specs.Bytes.{rec-at, name-of, in-pool, field-at}
 use Rattle.paper.specs.Encode.{encode-names}
 use Rattle.laws.proofs.Runs.{from-step}
 use Rattle.tree.proofs.Filled.{lt-or-le}
 use Rattle.record.specs.Trees.{Trees}
 use Rattle.plan.specs.Plan.{source-field, source-in, Sits}
-use Rattle.plan.specs.Table.{sources, numbers, PlanIn}
+use Rattle.plan.specs.Table.{sources, numbers}
 use Rattle.plan.proofs.Standing.{name-planned}
 use Rattle.plan_write.specs.Run.{joined, Starts, field-of, names-left, Ran}
 
