@@ -2,43 +2,15 @@
 //! goes by the id's bits, so ids that share many go deep. Chains of names are chosen by a hash, so
 //! names of one hash make long chains; names like these must be sought on purpose.
 
-use std::collections::HashMap;
-
 use cases::{
-    Addition, Ask, ask_of, ids_by, packed, prim, renumber_by, request, strukt, update_by, update_of,
+    Addition, Ask, ask_of, ids_by, packed, prim, renumber_by, request, strukt, update_by,
+    update_of, words_of_one_hash,
 };
 use judge::{LEVELS, MOST_RECORDS, Node, PRIMITIVE, Tree};
 
 use crate::ids::{at_chain_ends, in_chains, of_one_bucket, of_top_bits, reversed};
 use crate::rows::{Row, row};
 use crate::schemas::{level, numbered, required, schema, with_ids};
-
-const FACTOR: u32 = 16_777_619;
-
-/// The hash of a name, carried on from a seed: `hash_on` of crates/index_names.
-fn hash(name: &[u8], seed: u32) -> u32 {
-    name.iter()
-        .fold(seed, |h, x| h.wrapping_add(u32::from(*x)).wrapping_add(1).wrapping_mul(FACTOR))
-}
-
-/// The n-th word of so many letters, from 64 of them.
-fn word(n: usize, letters: usize) -> Vec<u8> {
-    let letter = |at: usize| b'0' + (n >> (6 * at) & 63) as u8;
-    (0..letters).rev().map(letter).collect()
-}
-
-/// So many words of eight letters that share a hash. The last three letters are looked up: what
-/// they add to the hash is what the first five leave open.
-fn words_of_one_hash(count: usize) -> Vec<Vec<u8>> {
-    let ends: HashMap<u32, usize> = (0..1 << 18).map(|n| (hash(&word(n, 3), 0), n)).collect();
-    let carried = FACTOR.wrapping_pow(3);
-    let name = |n: usize| {
-        let start = word(n, 5);
-        let open = 0u32.wrapping_sub(hash(&start, 0).wrapping_mul(carried));
-        ends.get(&open).map(|end| [start, word(*end, 3)].concat())
-    };
-    (0..1 << 30).filter_map(name).take(count).collect()
-}
 
 fn text(name: &[u8]) -> &str {
     str::from_utf8(name).expect("letters")
