@@ -8,6 +8,7 @@ use judge::{
 
 use crate::build::{Addition, ask_of, by_version, prune_by, renumber_by, request, update_by};
 use crate::case::{Ask, Case};
+use crate::crowded::crowded;
 use crate::damage::damage;
 use crate::dropped::dropped_parent;
 use crate::edges::edge;
@@ -29,7 +30,7 @@ const FIRST: u64 = 7;
 
 /// Sets the row of updates that add beneath what they drop apart from the others; so for cases of
 /// identifiers, for the types of columns, for updates with edits, for edits beside the rest, for
-/// updates that widen, and for the versions of the others.
+/// updates that widen, for the versions of the others, and for names that crowd their chains.
 const DROPPED_PARENT: u64 = 3 << 40;
 const IDENTIFIERS: u64 = 4 << 40;
 const TYPES: u64 = 5 << 40;
@@ -37,6 +38,7 @@ const EDITS: u64 = 6 << 40;
 const EDITS_BESIDE: u64 = 7 << 40;
 const WIDENINGS: u64 = 8 << 40;
 const VERSIONS: u64 = 9 << 40;
+const CROWDED: u64 = 10 << 40;
 
 /// How large the trees are.
 #[derive(Clone, Copy, Debug, PartialEq, Eq)]
@@ -63,6 +65,30 @@ pub enum Origin {
     Damaged,
     /// At a limit or one past it.
     Edge,
+    /// Of names that crowd their chains, left so or damaged.
+    Crowded,
+}
+
+/// The cases of a seed that a run puts.
+#[derive(Clone, Copy, Debug, PartialEq, Eq)]
+pub enum Batch {
+    /// As they are made.
+    Made,
+    /// The same with their ids turned, so that they share their bits.
+    Turned,
+    /// Of names that crowd their chains.
+    Crowded,
+}
+
+/// What is said behind the number of a case.
+impl std::fmt::Display for Batch {
+    fn fmt(&self, f: &mut std::fmt::Formatter<'_>) -> std::fmt::Result {
+        f.write_str(match self {
+            Batch::Made => "",
+            Batch::Turned => ", ids turned",
+            Batch::Crowded => ", names crowded",
+        })
+    }
 }
 
 impl Generator {
@@ -77,6 +103,27 @@ impl Generator {
         let (mut case, origin) = self.made(n);
         turn_ids(&mut Random::nth(!self.seed, n), &mut case);
         (case, origin)
+    }
+
+    /// The n-th case of names that crowd their chains, from a row of its own; the operations take
+    /// turns.
+    pub fn crowded(&self, n: u64) -> (Case, Origin) {
+        let mut random = Random::nth(self.seed ^ CROWDED, n);
+        let operation = OPERATIONS[(n % OPERATIONS.len() as u64) as usize];
+        let mut case = crowded(&mut random, operation);
+        if random.chance(1, 12) {
+            damage(&mut random, &mut case);
+        }
+        (case, Origin::Crowded)
+    }
+
+    /// The n-th case of a batch, and how it was made.
+    pub fn of(&self, batch: Batch, n: u64) -> (Case, Origin) {
+        match batch {
+            Batch::Made => self.made(n),
+            Batch::Turned => self.turned(n),
+            Batch::Crowded => self.crowded(n),
+        }
     }
 
     /// The n-th update that adds beneath what it drops, from a row of its own.

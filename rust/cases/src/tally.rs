@@ -10,6 +10,7 @@ use judge::{
 use crate::case::{Answer, Case};
 use crate::generate::{OPERATIONS, Origin};
 use crate::shapes::{all_shapes, shapes_of};
+use crate::sorted::{SHAPES_OF_SORTED, sorted_shapes};
 
 /// A count for each of the operations.
 #[derive(Clone, Copy, Debug, Default, PartialEq, Eq)]
@@ -113,6 +114,11 @@ impl Tally {
         for shape in shapes_of(case, answer) {
             self.shapes.entry(shape).or_default().add(operation);
         }
+        if origin == Origin::Crowded {
+            for shape in sorted_shapes(case, answer) {
+                self.shapes.entry(shape).or_default().add(operation);
+            }
+        }
     }
 
     /// Adds what another part of the run met.
@@ -152,13 +158,25 @@ impl Tally {
                     missing.push(format!("{operation}: has no refusal {number} in list {list}"));
                 }
             }
-            for shape in all_shapes().filter(|shape| fits(shape, operation)) {
-                if self.shapes.get(shape).map_or(0, |counts| counts.of(operation)) == 0 {
-                    missing.push(format!("{operation}: never {shape}"));
-                }
-            }
+            let shapes = all_shapes().filter(|shape| fits(shape, operation));
+            missing.extend(self.never(operation, shapes));
         }
         missing
+    }
+
+    /// What crowded cases can meet and never met, for each operation.
+    pub fn missing_of_crowded(&self) -> Vec<String> {
+        let of = |operation| {
+            let shapes = SHAPES_OF_SORTED.iter().copied();
+            self.never(operation, shapes.filter(move |shape| fits(shape, operation)))
+        };
+        OPERATIONS.into_iter().flat_map(of).collect()
+    }
+
+    fn never(&self, operation: &str, shapes: impl Iterator<Item = &'static str>) -> Vec<String> {
+        let times = |shape: &str| self.shapes.get(shape).map_or(0, |counts| counts.of(operation));
+        let never = shapes.filter(|shape| times(shape) == 0);
+        never.map(|shape| format!("{operation}: never {shape}")).collect()
     }
 
     /// Each count with its words.
@@ -171,13 +189,18 @@ impl Tally {
                 Origin::Whole => "whole",
                 Origin::Damaged => "damaged",
                 Origin::Edge => "at a limit or one past it",
+                Origin::Crowded => "of names that crowd their chains",
             };
             rows.push((format!("made {made}"), *counts));
         }
         for ((number, list), counts) in &self.refusals {
             rows.push((format!("refusal {number} in list {list}"), *counts));
         }
-        let shapes = all_shapes().map(|s| (s, self.shapes.get(s).copied().unwrap_or_default()));
+        let met = |shape: &&str| self.shapes.contains_key(shape);
+        let sorted = SHAPES_OF_SORTED.iter().copied().filter(met);
+        let shapes = all_shapes()
+            .chain(sorted)
+            .map(|s| (s, self.shapes.get(s).copied().unwrap_or_default()));
         rows.extend(shapes.map(|(shape, counts)| (shape.to_string(), counts)));
         rows
     }

@@ -23,10 +23,35 @@ fn every_refusal_and_every_accepted_shape_comes_up() {
     assert_eq!(tally.missing(), Vec::<String>::new(), "seed {SEED}");
 }
 
+/// The run at scale asks for each shape of them; this, that they are no accident.
+#[test]
+fn names_that_crowd_their_chains_come_up() {
+    let mut tally = Tally::default();
+    for n in 0..1_800 {
+        let (case, origin) = usual().crowded(n);
+        tally.count(&case, origin, &answer(&case));
+    }
+    println!("seed {SEED}\n{tally}");
+    let times = |shape: &str, operation: &str| tally.shapes[shape].of(operation);
+    for operation in OPERATIONS {
+        let accepted = times("tree: names sorted, accepted", operation);
+        let least = if operation == "update" { 30 } else { 80 };
+        assert!(accepted > least, "{operation}: {accepted} of 200");
+        let refused = times("tree: names sorted, 8", operation);
+        assert!(refused > 5, "{operation}: {refused} of 200");
+    }
+    let rebuilt = times("update: base sorted, rebuilt tree sorted, accepted", "update");
+    let refused = times("update: names of the rebuilt tree sorted, 8", "update");
+    assert!(rebuilt > 30 && refused > 2, "{rebuilt} and {refused} of 200");
+    assert!(times("name: sorted, found by the full name", "name") > 40);
+    assert!(times("name: sorted, nothing", "name") > 20);
+}
+
 #[test]
 fn a_seed_makes_the_same_cases_again() {
     for n in 0..500 {
         assert_eq!(usual().case(n), usual().case(n));
+        assert_eq!(usual().crowded(n), usual().crowded(n));
     }
     let other = Generator { seed: SEED + 1, sizes: Sizes::Usual };
     assert!((0..50).any(|n| usual().case(n) != other.case(n)));

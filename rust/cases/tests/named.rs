@@ -1,6 +1,6 @@
 //! The named cases, and the format that they are recorded in.
 
-use cases::{Judge, Recorded, answer, by_version, named, read_line, write_line};
+use cases::{Judge, Recorded, answer, budget_left, by_version, named, read_line, write_line};
 use judge::LAST_REFUSAL;
 
 #[test]
@@ -12,6 +12,23 @@ fn every_named_case_has_the_answer_that_it_must_have() {
         .map(|text| text.chars().take(400).collect())
         .collect();
     assert!(wrong.is_empty(), "{} cases\n{}", wrong.len(), wrong.join("\n"));
+}
+
+#[test]
+fn names_are_sorted_where_a_title_says_so() {
+    let mut count = [0, 0];
+    for one in named() {
+        let way = ["chained: ", "sorted: "].iter().position(|way| one.title.starts_with(way));
+        let Some(way) = way else { continue };
+        count[way] += 1;
+        let base = judge::read_tree(&one.case.records, &one.case.pool, judge::BASE);
+        let rebuilt = one.case.update_call().and_then(|call| call.rebuilt().ok());
+        let mut trees = rebuilt.into_iter().chain(base.ok());
+        let sorted = trees.any(|tree| budget_left(&tree).is_none());
+        assert_eq!(sorted, way == 1, "{}", one.title);
+        assert!(!one.listed, "{}", one.title);
+    }
+    assert!(count[0] > 10 && count[1] > 30, "{count:?}");
 }
 
 #[test]

@@ -6,7 +6,7 @@ use std::sync::Mutex;
 use std::sync::atomic::{AtomicU64, Ordering};
 
 use cases::{
-    Answer, ByJudge, Case, Counts, Generator, OPERATIONS, Operations, Origin, Tally, answer,
+    Answer, Batch, ByJudge, Case, Counts, Generator, OPERATIONS, Operations, Origin, Tally, answer,
     outcome, shown, shrink,
 };
 use oracle::Iceberg;
@@ -109,20 +109,19 @@ pub struct Run {
     pub from: u64,
     pub count: u64,
     pub threads: usize,
-    /// Are the ids of each case turned, so that they share their bits?
-    pub turned: bool,
+    pub batch: Batch,
 }
 
 impl Run {
     /// As many threads as the machine has cores.
     pub fn new(generator: Generator, from: u64, count: u64) -> Run {
         let threads = std::thread::available_parallelism().map_or(1, usize::from);
-        Run { generator, from, count, threads, turned: false }
+        Run { generator, from, count, threads, batch: Batch::Made }
     }
 
     /// A case, and how it was made.
     fn made(&self, n: u64) -> (Case, Origin) {
-        if self.turned { self.generator.turned(n) } else { self.generator.made(n) }
+        self.generator.of(self.batch, n)
     }
 
     /// Puts the cases to the judges and the port.
@@ -196,13 +195,19 @@ impl Run {
         let (case, _) = self.made(number);
         let why = |case: &Case| check_by(case, iceberg, by()).err();
         let parted = why(&case).expect("it parted before");
-        let turned = if self.turned { ", ids turned" } else { "" };
-        let parted = format!("seed {}, case {number}{turned}\n{parted}", self.generator.seed);
+        let (seed, batch) = (self.generator.seed, self.batch);
+        let parted = format!("seed {seed}, case {number}{batch}\n{parted}");
         eprintln!("{parted}\nit is being shrunk");
         let least = shrink(&case, &|case| why(case).is_some());
         let (line, shrunk) = (line(case, iceberg).0, line(least, iceberg).0);
         Failure { number, why: parted, line, shrunk }
     }
+}
+
+/// That an operation has fewer than it should.
+fn fewer(counts: &Counts, operation: &str, least: u64, what: &str) -> Option<String> {
+    let count = counts.of(operation);
+    (count < least).then(|| format!("{operation}: {count} {what}, not {least}"))
 }
 
 impl Report {
@@ -211,18 +216,38 @@ impl Report {
     /// that were not put to the crate or to the port, where these are there.
     pub fn short_of(&self, cases: u64, large: u64) -> Vec<String> {
         let mut short = self.tally.missing_by_operation();
-        let mut at_least = |counts: &Counts, operation: &str, least: u64, what: &str| {
-            let count = counts.of(operation);
-            if count < least {
-                short.push(format!("{operation}: {count} {what}, not {least}"));
-            }
-        };
         let none = Counts::default();
         let grown = self.tally.shapes.get("tree: more than 900 records").unwrap_or(&none);
         for operation in OPERATIONS {
+            let mut at_least = |counts: &Counts, least: u64, what: &str| {
+                short.extend(fewer(counts, operation, least, what));
+            };
+            at_least(&self.tally.small, cases / 2, "cases of up to 40 records");
+            at_least(grown, large, "accepted trees of more than 900 records");
+        }
+        short.extend(self.not_put(cases));
+        let judged = &self.crate_beside_paper;
+        if !judged.is_empty() {
+            let never = LISTED.iter().filter(|listed| !judged.contains_key(listed));
+            short.extend(never.map(|listed| format!("never {listed}")));
+        }
+        short
+    }
+
+    /// The same of a run of names that crowd their chains.
+    pub fn short_of_crowded(&self, cases: u64) -> Vec<String> {
+        [self.tally.missing_of_crowded(), self.not_put(cases)].concat()
+    }
+
+    /// Too few cases of an operation, or some that were not put to the crate or to the port, where
+    /// these are there; or the crate parts in a way that is not listed.
+    fn not_put(&self, cases: u64) -> Vec<String> {
+        let mut short = vec![];
+        let mut at_least = |counts: &Counts, operation: &str, least: u64, what: &str| {
+            short.extend(fewer(counts, operation, least, what));
+        };
+        for operation in OPERATIONS {
             at_least(&self.tally.cases, operation, cases, "cases");
-            at_least(&self.tally.small, operation, cases / 2, "cases of up to 40 records");
-            at_least(grown, operation, large, "accepted trees of more than 900 records");
         }
         let all = |operation: &str| self.tally.cases.of(operation);
         if port::absent().is_none() {
@@ -237,8 +262,6 @@ impl Report {
             for operation in OPERATIONS {
                 at_least(&asked, operation, all(operation), "cases put to the crate");
             }
-            let never = LISTED.iter().filter(|listed| !judged.contains_key(listed));
-            short.extend(never.map(|listed| format!("never {listed}")));
             let known = |met: &Agreement| *met == Agreement::Same || LISTED.contains(met);
             let unknown = judged.keys().filter(|met| !known(met));
             short.extend(unknown.map(|met| format!("not in the list: {met}")));

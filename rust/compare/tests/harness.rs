@@ -3,8 +3,8 @@
 use std::collections::HashSet;
 
 use cases::{
-    Ask, Broken, ByJudge, Case, Generator, Of, Operations, Sizes, broken_in, named, outcome,
-    read_line,
+    Ask, Broken, ByJudge, Case, Generator, Of, Operations, Sizes, broken_in, budget_left, named,
+    outcome, read_line,
 };
 use compare::{Run, iceberg, replay};
 use judge::{
@@ -1902,6 +1902,95 @@ fn wrong_ways_to_look_up_many_ids_are_found() {
     for (what, ids) in wrong {
         assert!(failures(Altered { ids, ..right() }) > 0, "{what}");
     }
+}
+
+/// Where the names of a tree are sorted, 8 is told at the slot that a rule gives, or not at all.
+fn sorted_by(
+    call: &UpdateCall,
+    r: &mut [u8],
+    n: &mut [u8],
+    rule: fn(&Tree) -> Option<usize>,
+) -> Changed {
+    let (mut other_r, mut other_n) = (r.to_vec(), n.to_vec());
+    let answer = judge::update(call, &mut other_r, &mut other_n);
+    if ![0, 8].contains(&answer.refusal) {
+        return answer;
+    }
+    let base = judge::read_tree(call.records, call.pool, judge::BASE).expect("8 comes after 6");
+    let rebuilt = call.rebuilt().ok().map(|tree| (judge::REBUILT, tree));
+    for (list, tree) in [(judge::BASE, base)].into_iter().chain(rebuilt) {
+        if budget_left(&tree).is_some() {
+            continue;
+        }
+        if let Some(slot) = rule(&tree) {
+            return judge::Refusal::new(8, list, slot).into();
+        }
+        if (answer.refusal, answer.list) == (8, list) {
+            return Changed::default();
+        }
+    }
+    r.copy_from_slice(&other_r);
+    n.copy_from_slice(&other_n);
+    answer
+}
+
+/// The slots that are the same as an earlier one, each with that.
+fn again(tree: &Tree, same: fn(&Tree, usize, usize) -> bool) -> Vec<(usize, usize)> {
+    let earlier = |slot: usize| (0..slot).find(|other| same(tree, slot, *other));
+    (0..tree.rows.len()).filter_map(|slot| Some((slot, earlier(slot)?))).collect()
+}
+
+fn same_name(tree: &Tree, one: usize, other: usize) -> bool {
+    tree.full_name(one) == tree.full_name(other)
+}
+
+fn same_length(tree: &Tree, one: usize, other: usize) -> bool {
+    tree.full_name(one).len() == tree.full_name(other).len()
+}
+
+fn same_own(tree: &Tree, one: usize, other: usize) -> bool {
+    tree.rows[one].name == tree.rows[other].name
+}
+
+/// From the ends up to where either own name begins.
+fn same_to_the_first_cut(tree: &Tree, one: usize, other: usize) -> bool {
+    let own = |slot: usize| tree.rows[slot].name.len();
+    let part = own(one).min(own(other));
+    let end = |name: Vec<u8>| name[name.len() - part..].to_vec();
+    same_length(tree, one, other) && end(tree.full_name(one)) == end(tree.full_name(other))
+}
+
+/// Every one is right but where names crowd their chains.
+#[test]
+fn wrong_ways_to_sort_names_are_found() {
+    macro_rules! found {
+        ($($what:literal, $rule:expr;)*) => {$(
+            let updated: Updated = |call, r, n| sorted_by(call, r, n, $rule);
+            let fails = failures(Altered { updated, ..right() });
+            assert_eq!(fails > 0, !$what.contains("right"), "{}: {fails}", $what);
+        )*};
+    }
+    found!(
+        "the right way", |tree| again(tree, same_name).first().map(|(slot, _)| *slot);
+        "of two names that stand twice the later is told",
+        |tree| again(tree, same_name).last().map(|(slot, _)| *slot);
+        "of two equal names the earlier is told",
+        |tree| again(tree, same_name).first().map(|(_, earlier)| *earlier);
+        "names are equal where they are up to the first cut",
+        |tree| again(tree, same_to_the_first_cut).first().map(|(slot, _)| *slot);
+        "names that are cut otherwise differ",
+        |tree| again(tree, |tree, one, other| {
+            same_own(tree, one, other) && same_name(tree, one, other)
+        }).first().map(|(slot, _)| *slot);
+        "names of one hash and one length are equal",
+        |tree| again(tree, same_length).first().map(|(slot, _)| *slot);
+        "the last slot is not asked for",
+        |tree| {
+            let slot = again(tree, same_name).first()?.0;
+            (slot + 1 < tree.rows.len()).then_some(slot)
+        };
+        "no two names are equal", |_| None;
+    );
 }
 
 /// A port that is right but on trees of more than eleven records, where a slot is one too high.

@@ -109,6 +109,19 @@ impl<'a> UpdateCall<'a> {
     /// entries 3, 4; addition entries 3, 4; edits 3, 4; base 7 to 9; 10; deletions one at a time;
     /// additions one at a time; edits one at a time; 19; rebuilt tree 7 to 9.
     fn updated(&self, beneath: Beneath) -> Result<(Tree, i32, u32), Refusal> {
+        let (rebuilt, last_id, visited) = self.planned(beneath)?;
+        refusal_7(&rebuilt, REBUILT)?;
+        refusal_8(&rebuilt, REBUILT)?;
+        refusal_9(&rebuilt, &ids(self.identifiers))?;
+        Ok((rebuilt, last_id, visited))
+    }
+
+    /// The rebuilt tree before 7 to 9 are asked of it.
+    pub fn rebuilt(&self) -> Result<Tree, Refusal> {
+        Ok(self.planned(Beneath::Refused)?.0)
+    }
+
+    fn planned(&self, beneath: Beneath) -> Result<(Tree, i32, u32), Refusal> {
         self.limits()?;
         refusal_25(self.version)?;
         let base = read_tree(self.records, self.pool, BASE)?;
@@ -143,9 +156,6 @@ impl<'a> UpdateCall<'a> {
         }
         let rebuilt = Tree::of(&plan.members(&base.roots, None));
         refusal_19(&rebuilt)?;
-        refusal_7(&rebuilt, REBUILT)?;
-        refusal_8(&rebuilt, REBUILT)?;
-        refusal_9(&rebuilt, &identifiers)?;
         Ok((rebuilt, plan.last_id, plan.visited()))
     }
 

@@ -1,6 +1,7 @@
-//! The cases that have a name, each with the answer that it must have. All but the longest stand in
-//! the recorded list.
+//! The cases that have a name, each with the answer that it must have. All but the longest, and
+//! those of names that crowd their chains, stand in the recorded list.
 
+mod crowded;
 mod dropped;
 mod edits;
 mod faults;
@@ -27,7 +28,8 @@ pub struct Named {
     pub title: String,
     pub case: Case,
     pub expected: Expected,
-    /// Does it stand in the recorded list? A line of thousands of records is too long for it.
+    /// Does it stand in the recorded list? A line of thousands of records is too long for it; and
+    /// names that crowd their chains say nothing of the text that others don't.
     pub listed: bool,
 }
 
@@ -107,7 +109,8 @@ impl Expected {
 
 /// Every named case: the worked tree, the readings, the limits, faults two at a time, what
 /// iceberg's own code decided, the look-up that forgets case, that of many ids, additions beneath
-/// what is dropped, the columns that can be identifiers, edits, widenings, and what is visited.
+/// what is dropped, the columns that can be identifiers, edits, widenings, what is visited, and
+/// names that crowd their chains.
 pub fn named() -> Vec<Named> {
     let mut all = Cases(vec![]);
     worked::put(&mut all);
@@ -122,6 +125,7 @@ pub fn named() -> Vec<Named> {
     edits::put(&mut all);
     widenings::put(&mut all);
     visited::put(&mut all);
+    crowded::put(&mut all);
     all.0
 }
 
@@ -133,7 +137,7 @@ impl Cases {
         self.0.push(Named { title: title.into(), case, expected, listed: true });
     }
 
-    /// A case that is too long for the recorded list.
+    /// A case that stands beside the recorded list.
     fn put_beside(&mut self, title: &str, case: Case, expected: Expected) {
         self.0.push(Named { title: title.into(), case, expected, listed: false });
     }
