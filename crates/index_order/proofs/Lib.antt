@@ -2,3 +2,4 @@ pub mod Ordering
 pub mod Ends
 pub mod Blocks
 pub mod Walking
+pub mod Keeping
