@@ -11,16 +11,18 @@ use judge::{LEVELS, LIST, MAP, MOST_RECORDS, Node, PRIMITIVE, STRUCT, Tree};
 use crate::edits::{editing, widening};
 use crate::rows::rows;
 use crate::schemas::{SCHEMAS, numbered, required};
-use crate::worst::{worst_identifiers, worst_ids};
+use crate::worst::{worst_identifiers, worst_ids, worst_names};
 
 /// Cases whose walks go as deep as they can, in trees as large as they can be: the table's own,
-/// sixteen levels of each kind, ids that are bad to search, edits, and random ones.
+/// sixteen levels of each kind, ids and names that are bad to search, edits, and random ones.
 pub fn deepest() -> impl Iterator<Item = Case> {
     let table = SCHEMAS.iter().flat_map(|(name, _)| rows(name, MOST_RECORDS));
     let nested = [STRUCT, LIST, MAP, KEY].into_iter().flat_map(|kind| asked_of(&nested(kind)));
     let random = Generator { seed: 1, sizes: Sizes::Usual };
-    let random = (0..4_000).map(move |n| random.case(n)).filter(|case| case.ask != Ask::List);
-    let ids = worst_ids().into_iter().flatten().chain(worst_identifiers());
+    let crowded = (0..450).map(move |n| random.crowded(n).0);
+    let random = (0..4_000).map(move |n| random.case(n)).chain(crowded);
+    let random = random.filter(|case| case.ask != Ask::List);
+    let ids = worst_ids().into_iter().flatten().chain(worst_identifiers()).chain(worst_names());
     let edits = editing().into_iter().chain(widening()).flat_map(|editing| editing.rows);
     table.chain(ids).chain(edits).map(|row| row.case).chain(nested).chain(random)
 }
