@@ -20,7 +20,9 @@ pub fn deepest() -> impl Iterator<Item = Case> {
     let table = SCHEMAS.iter().flat_map(|(name, _)| rows(name, MOST_RECORDS));
     let nested = [STRUCT, LIST, MAP, KEY].into_iter().flat_map(|kind| asked_of(&nested(kind)));
     let random = Generator { seed: 1, sizes: Sizes::Usual };
-    let random = (0..4_000).map(move |n| random.case(n)).filter(|case| case.ask != Ask::List);
+    let crowded = (0..450).map(move |n| random.crowded(n).0);
+    let random = (0..4_000).map(move |n| random.case(n)).chain(crowded);
+    let random = random.filter(|case| case.ask != Ask::List);
     let ids = worst_ids().into_iter().flatten().chain(worst_identifiers());
     let beside = editing().into_iter().chain(widening()).chain(worst_names());
     let beside = beside.flat_map(|beside| beside.rows);
