@@ -26,7 +26,7 @@ lens-in index = row index 4
 abbrev pub tags-in : List (List ℕ) → List ℕ
 tags-in index = row index 5
 
--- Heads and links of the chains of full names.
+-- Heads and links of the chains of full names; or what is remembered, and the sorted slots (crates/index_full_names).
 abbrev pub name-heads : List (List ℕ) → List ℕ
 name-heads index = row index 6
 

@@ -19,7 +19,7 @@ ghost use Rattle.index_ids.specs.Path.{IdsChained, Followed, entered-at,
 
 // An index's rows. A place is one more than a slot, or 0 for none: the heads of the paths of ids and, in a row for each bit, their
 // links; of each slot the place above it, and the length and the tag of its full name; the heads of the chains of full names and their
-// links.
+// links, or, where full names are sorted, what is remembered of comparisons and the slots in their order.
 pub type IndexRows = [[u16; 1024]; 8];
 
 pub const ID_HEADS: usize = 0;
