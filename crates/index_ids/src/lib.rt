@@ -50,7 +50,7 @@ pub fn bucket_of(key: u32) -> usize
 }
 
 // A number of 16 bits as a place, a length or a tag.
-fn place(x: u16) -> usize
+pub fn place(x: u16) -> usize
     ensures { λ r. ⌜ (r ≡ x) × (r < 65536) ⌝ }
 {
     x as usize
