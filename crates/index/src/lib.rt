@@ -82,7 +82,7 @@ fn index_names<'a>(
     check_names(trees, plan, m, list, index)
 }
 
-// Refusals 7, 8 and 9 of a planned tree, in that order. Where there is none, its index is left, in a table that was fresh.
+// Refusals 7, 8 and 9 of a planned tree, in that order, in a fresh table. Where there is none, its index is left.
 pub fn index_plan<'a>(
     trees: &Trees<'a>,
     plan: &PlanRows,

@@ -76,7 +76,7 @@ pub fn clear(heads: &mut [u16; 1024])
     }
 }
 
-// An index that was used is made fresh. One that was just made is fresh, and no heads are cleared in it.
+// An index that was used is made fresh. A table of zeros is fresh as it is, so no entry calls this for a table that it has just made.
 pub fn refresh(index: &mut IndexRows)
     requires { ⌜ Rooms (now index) ⌝ }
     ensures { λ r. ⌜ Fresh (now (index .exit)) ⌝ }
