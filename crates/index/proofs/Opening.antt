@@ -36,7 +36,7 @@ use Rattle.tree.proofs.Deciding.{decode-refused, decode-ok}
 use Rattle.plan.specs.Table.{PlanIn, fields-in, Roomy, TakenIn}
 use Rattle.plan.proofs.Rooms.{roomy-fresh, copied-roomy}
 use Rattle.plan.proofs.Taking.{Based, base-plan}
-use Rattle.index_ids.proofs.Tables.{rooms-fresh}
+use Rattle.index_ids.proofs.Tables.{fresh-index}
 use Rattle.index.specs.Index.{Indexing, Readable, BaseIndexed, Opened, ById, ByParent}
 
 -- ---- the base as a plan of itself
@@ -148,4 +148,4 @@ module _ (s pool : List ℕ) (plan : List (List ℕ)) (m : ℕ) (index : List (L
     unfolding find-parent looked _>>=_
     parent-looked i e = rw (o .tree q, e .finds (alone s pool) (o .planned q) (o .indexed q .raised))
 
-pub ruleset finding = (roomy-fresh, rooms-fresh, name-refused, id-refused, parent-refused, name-looked, id-looked, parent-looked)
+pub ruleset finding = (roomy-fresh, fresh-index, name-refused, id-refused, parent-refused, name-looked, id-looked, parent-looked)

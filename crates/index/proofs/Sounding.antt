@@ -20,7 +20,8 @@ use Rattle.plan.specs.Plan.{kids-in}
 use Rattle.plan.specs.Table.{sources, numbers, members, PlanIn, fields-in}
 use Rattle.plan.proofs.Standing.{plan-sources}
 use Rattle.index_ids.specs.Ids.{ids-in, rule-7}
-use Rattle.index_ids.specs.Table.{row, ups-in, lens-in, tags-in, Rooms}
+use Rattle.index_ids.specs.Chain.{Cleared}
+use Rattle.index_ids.specs.Table.{row, ups-in, lens-in, tags-in, name-heads, Rooms, Fresh}
 use Rattle.index_ids.specs.Path.{IdsChained, IndexedIn}
 use Rattle.index_ids.proofs.Tables.{within-both, within-wider}
 use Rattle.index_ids.proofs.Paths.{rows-kept}
@@ -40,18 +41,18 @@ use Rattle.index.specs.Index.{NamesIndexed, Indexing}
 
 -- ---- 8
 
-pub names-marked : (l : Trees) (xs : List ℕ) (kids : ℕ → ℕ) (m r : ℕ) (old mid : List (List ℕ)) → Sources l xs m → Rooms old → MarkedIn (name-in l xs) (walk kids m 16 m 0) 0 0 0 0 old mid r → Spelt l xs m (ups-in mid) (lens-in mid) × (Tagged l xs m (ups-in mid) (tags-in mid) × Rooms mid)
-names-marked l xs kids m r old mid S R w = (
+pub names-marked : (l : Trees) (xs : List ℕ) (kids : ℕ → ℕ) (m r : ℕ) (old mid : List (List ℕ)) → Sources l xs m → Rooms old → Cleared (name-heads old) → MarkedIn (name-in l xs) (walk kids m 16 m 0) 0 0 0 0 old mid r → Spelt l xs m (ups-in mid) (lens-in mid) × (Tagged l xs m (ups-in mid) (tags-in mid) × (Rooms mid × Cleared (name-heads mid)))
+names-marked l xs kids m r old mid S R z w = (
   names-told l xs kids m r _ _ _ _ _ _ (R .wide 3 (omega arith)) (R .wide 4 (omega arith)) (R .wide 5 (omega arith)) S (w .marked),
-  (tags-told l xs kids m r _ _ _ _ _ _ (R .wide 3 (omega arith)) (R .wide 4 (omega arith)) (R .wide 5 (omega arith)) S (w .marked), w .within .rooms R),
+  (tags-told l xs kids m r _ _ _ _ _ _ (R .wide 3 (omega arith)) (R .wide 4 (omega arith)) (R .wide 5 (omega arith)) S (w .marked), (w .within .rooms R, rw (w .within .beyond 6 (omega arith)) z)),
 )
 
-pub names-indexed : (l : Trees) (plan : List (List ℕ)) (m list r : ℕ) (c : Check) (old mid new : List (List ℕ)) → SourcesIn l plan m → Rooms old → MarkedIn (names-in l plan) (walk-in plan m 16 m 0) 0 0 0 0 old mid r → UnequalIn l plan m list c mid new → NamesIndexed l plan m list c old new
+pub names-indexed : (l : Trees) (plan : List (List ℕ)) (m list r : ℕ) (c : Check) (old mid new : List (List ℕ)) → SourcesIn l plan m → Rooms old → Cleared (name-heads old) → MarkedIn (names-in l plan) (walk-in plan m 16 m 0) 0 0 0 0 old mid r → UnequalIn l plan m list c mid new → NamesIndexed l plan m list c old new
 unfolding rule-8
-names-indexed l plan m list r c old mid new S R w u =
+names-indexed l plan m list r c old mid new S R z w u =
     let q : (i : ℕ) → i < 6 → row new i ≡ row mid i = u .within .below in
     let kids = kids-in (members plan) in
-    let h = names-marked l (sources plan) kids m r old mid S R w in
+    let h = names-marked l (sources plan) kids m r old mid S R z w in
     let up : Raised (members plan) m (ups-in mid) = record { above = ups-told l (sources plan) kids m r _ _ _ _ _ _ (R .wide 3 (omega arith)) (R .wide 4 (omega arith)) (R .wide 5 (omega arith)) S (w .marked) } in
     record {
       answer = u .answer ∙ ap (λ z. tested 8 list (repeated same [] 0 z)) (fulls-are (names-in l plan) kids m (ups-in mid) (up .above));
@@ -83,9 +84,13 @@ module _ (l : Trees) (plan : List (List ℕ)) (m list : ℕ) (identifiers : List
       let ks = members plan in
       rw (plan-ids l xs is ks m p, plan-names l xs is ks m p)
 
-  module _ (a : Check) (old mid : List (List ℕ)) (R : Rooms old) (ea : IndexedIn (numbers plan) m list a old mid) where
+  module _ (a : Check) (old mid : List (List ℕ)) (F : Fresh old) (ea : IndexedIn (numbers plan) m list a old mid) where
     pub ids-rooms : Rooms mid
-    ids-rooms = ea .within .rooms R
+    ids-rooms = ea .within .rooms (F .rooms)
+
+    -- the test of the ids leaves the heads of the names
+    pub ids-beside : Cleared (name-heads mid)
+    ids-beside = rw (ea .within .beyond 6 (omega arith)) (F .names)
 
     pub stop-7 : (x : Refusal) → a ≡ Refused x → Indexing l plan m list identifiers (Refused x) old mid
     unfolding rule-7 checked
@@ -120,4 +125,4 @@ module _ (l : Trees) (plan : List (List ℕ)) (m list : ℕ) (identifiers : List
             rooms = R′;
           }
 
-pub ruleset sounding = (plan-sources, ids-rooms, stop-7, stop-8, all-sound)
+pub ruleset sounding = (plan-sources, ids-rooms, ids-beside, stop-7, stop-8, all-sound)

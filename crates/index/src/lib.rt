@@ -35,8 +35,8 @@ ghost use Rattle.paper.specs.Rows.{look-name};
 ghost use Rattle.record.specs.Says.{found-row, looked};
 ghost use Rattle.record.specs.Trees.{trees-in};
 ghost use Rattle.plan.specs.Table.{sources, numbers, members, PlanIn, fields-in, Roomy};
-ghost use Rattle.index_ids.specs.Chain.{Below};
-ghost use Rattle.index_ids.specs.Table.{ups-in, Rooms};
+ghost use Rattle.index_ids.specs.Chain.{Below, Cleared};
+ghost use Rattle.index_ids.specs.Table.{ups-in, name-heads, Rooms, Fresh};
 ghost use Rattle.index_ids.specs.Path.{IdsChained};
 ghost use Rattle.plan.specs.Named.{SourcesIn};
 ghost use Rattle.index.specs.Index.{
@@ -55,7 +55,7 @@ ghost use Rattle.index.specs.Index.{
   Opened,
 };
 
-// Refusal 8, and the index of full names.
+// Refusal 8, and the index of full names. Ids stand on their paths by then, so of the heads only those of the names are still cleared.
 fn index_names<'a>(
     trees: &Trees<'a>,
     plan: &PlanRows,
@@ -63,7 +63,8 @@ fn index_names<'a>(
     list: u32,
     index: &mut IndexRows,
 ) -> Check
-    requires { ⌜ SourcesIn (trees-in (now trees)) (now plan) m × Rooms (now index) ⌝ }
+    requires { ⌜ SourcesIn (trees-in (now trees)) (now plan) m
+        × (Rooms (now index) × Cleared (name-heads (now index))) ⌝ }
     ensures { λ r. ⌜ NamesIndexed (trees-in (now (trees .entry))) (now (plan .entry)) m list r
         (now (index .entry)) (now (index .exit)) ⌝ }
 {
@@ -81,7 +82,7 @@ fn index_names<'a>(
     check_names(trees, plan, m, list, index)
 }
 
-// Refusals 7, 8 and 9 of a planned tree, in that order. Where there is none, its index is left.
+// Refusals 7, 8 and 9 of a planned tree, in that order, in a fresh table. Where there is none, its index is left.
 pub fn index_plan<'a>(
     trees: &Trees<'a>,
     plan: &PlanRows,
@@ -90,7 +91,7 @@ pub fn index_plan<'a>(
     identifiers: &[u8],
     index: &mut IndexRows,
 ) -> Check
-    requires { ⌜ PlanIn (trees-in (now trees)) (now plan) m × (Rooms (now index)
+    requires { ⌜ PlanIn (trees-in (now trees)) (now plan) m × (Fresh (now index)
         × (length (now identifiers) ≤ 256)) ⌝ }
     ensures { λ r. ⌜ Indexing (trees-in (now (trees .entry))) (now (plan .entry)) m list
         (now (identifiers .entry)) r (now (index .entry)) (now (index .exit)) ⌝ }
@@ -115,7 +116,7 @@ pub fn index_base<'a>(
     index: &mut IndexRows,
 ) -> Check
     requires { ⌜ Readable (trees-in (now trees)) n × ((length (now identifiers) ≤ 256)
-        × (Roomy (now plan) × Rooms (now index))) ⌝ }
+        × (Roomy (now plan) × Fresh (now index))) ⌝ }
     ensures { λ r. ⌜ BaseIndexed (trees-in (now (trees .entry))) n (now (identifiers .entry)) r
         (now (plan .entry)) (now (plan .exit)) (now (index .exit)) ⌝ }
 {
@@ -218,7 +219,7 @@ pub fn open_base<'a>(
     plan: &mut PlanRows,
     index: &mut IndexRows,
 ) -> Check
-    requires { ⌜ Roomy (now plan) × Rooms (now index) ⌝ }
+    requires { ⌜ Roomy (now plan) × Fresh (now index) ⌝ }
     ensures { λ r. ⌜ Opened (now (records .entry)) (now (pool .entry)) r (now (plan .exit))
         (length (now (records .entry)) / 24) (now (index .exit)) ⌝ }
 {

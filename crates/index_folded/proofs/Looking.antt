@@ -35,7 +35,7 @@ use Rattle.plan.proofs.Standing.{field-in, field-id, plan-is, plan-sources}
 use Rattle.plan.proofs.Rooms.{roomy-fresh}
 use Rattle.plan.proofs.Walks.{all-there, all-numbered}
 use Rattle.index_ids.specs.Chain.{Below}
-use Rattle.index_ids.proofs.Tables.{rooms-fresh}
+use Rattle.index_ids.proofs.Tables.{fresh-index}
 use Rattle.index_turns.specs.Turn.{left-at, seen}
 use Rattle.index_turns.proofs.Fitting.{left-in}
 use Rattle.index.specs.Index.{found-slot, held, Opened}
@@ -187,4 +187,4 @@ module _ (s pool : List ℕ) (plan : List (List ℕ)) (m : ℕ) (index : List (L
   unfolding find-folded _>>=_
   folded-looked h q e = e ∙ sym (ap looked (ap (λ t. t >>= λ u. look-folded u x) (o .tree q)))
 
-pub ruleset finding = (roomy-fresh, rooms-fresh, folded-refused, folded-looked)
+pub ruleset finding = (roomy-fresh, fresh-index, folded-refused, folded-looked)

@@ -22,11 +22,11 @@ use Rattle.index_ids.specs.declared.Way.{Way}
 use Rattle.index_ids.specs.declared.Way.the-variants.{Met, Ended}
 use Rattle.index_ids.specs.Chain.{lowest-below, Cleared}
 use Rattle.index_ids.specs.Ids.{bucket-of, id-in, is-id, new-id, rule-7}
-use Rattle.index_ids.specs.Table.{row, Rooms, Within}
+use Rattle.index_ids.specs.Table.{row, id-heads, Rooms, Within}
 use Rattle.index_ids.specs.Path.{unasked, bit, Together, met, First, IdsChained, AtCell, EndsAt, slot-met, Followed, entered-at, IndexedIn}
 use Rattle.index_ids.proofs.Chains.{eqb-cases, none-below, one-below}
 use Rattle.index_ids.proofs.Repeats.{repeats}
-use Rattle.index_ids.proofs.Tables.{within-same, within-both, within-wider, within-row, row-stored}
+use Rattle.index_ids.proofs.Tables.{within-same, within-both}
 use Rattle.index_ids.proofs.Paths.{together-same, together-less, all-asked, met-head, met-linked, met-cell, begun, path-fresh}
 use Rattle.index_ids.proofs.Entering.{entered-within, path-enters}
 
@@ -249,30 +249,14 @@ all-new : (list : ℕ) (is : List ℕ) (m : ℕ) → rule-7 list is m ≡ tested
 unfolding rule-7
 all-new list is m = ap (tested 7 list) (repeats eqb (id-in is) 0 m)
 
--- The loop begins where the heads were cleared.
-module _ (is : List ℕ) (m list : ℕ) (old : List (List ℕ)) (heads : List ℕ) (n : Rooms old) (z : Cleared heads) where
-  abbrev first : List (List ℕ)
-  first = set old 0 heads
+-- The loop begins where the heads are cleared.
+module _ (is : List ℕ) (m list : ℕ) (old : List (List ℕ)) (n : Rooms old) where
+  pub checking-starts : Cleared (id-heads old) → Checking is m old old 0
+  checking-starts z = record { small = omega arith; whole = look-starts (new-id is) m; index = path-fresh is old (z .none); within = within-same 0 3 old }
 
-  cleared : Within 0 3 old first
-  cleared = within-wider 0 1 0 3 old first (within-row old 0 heads (z .room)) (omega arith) (omega arith)
-
-  pub checking-starts : Checking is m first first 0
-  checking-starts =
-      let e : row first 0 ≡ heads = row-stored old 0 heads (let y = n .rows in omega arith) in
-      record {
-        small = omega arith;
-        whole = look-starts (new-id is) m;
-        index = path-fresh is first (rw e (z .none));
-        within = within-same 0 3 first;
-      }
-
-  module _ (t : List (List ℕ)) (k : ℕ) (h : Checking is m first t k) where
-    within : Within 0 3 old t
-    within = within-both 0 3 old first t cleared (h .within)
-
+  module _ (t : List (List ℕ)) (k : ℕ) (h : Checking is m old t k) where
     pub checking-rooms : Rooms t
-    checking-rooms = within .rooms n
+    checking-rooms = h .within .rooms n
 
     module _ (w : Way) (g : Followed is t k (id-in is k) w) (l : k < m) where
       pub checking-stops : (s : Slot) → w ≡ Met s → IndexedIn is m list (Refused (refusal-of 7 list k)) old t
@@ -280,10 +264,10 @@ module _ (is : List ℕ) (m list : ℕ) (old : List (List ℕ)) (heads : List �
           record {
             answer = look-stops (new-id is) 7 list (lowest (new-id is) 0 m) k m false (h .whole) l (id-old is k w g s q) refl ∙ sym (all-new list is m);
             index = λ e. absurd (let y : _≡_ {A = ℕ} 0 1 = cc in omega arith);
-            within = within;
+            within = h .within;
           }
 
-      pub checking-goes : (r c : ℕ) (t′ : List (List ℕ)) → w ≡ Ended r c → m ≤ 1024 → t′ ≡ entered-at t r c k → Checking is m first t′ (k + 1)
+      pub checking-goes : (r c : ℕ) (t′ : List (List ℕ)) → w ≡ Ended r c → m ≤ 1024 → t′ ≡ entered-at t r c k → Checking is m old t′ (k + 1)
       checking-goes r c t′ q few e =
           let f = g .ended r c q in
           rw e
@@ -291,7 +275,7 @@ module _ (is : List ℕ) (m list : ℕ) (old : List (List ℕ)) (heads : List �
             small = omega arith;
             whole = look-goes (new-id is) (lowest (new-id is) 0 m) k m true (h .whole) l (id-new is k w g r c q) refl;
             index = path-enters is t k (h .index) checking-rooms (omega arith) r c f;
-            within = within-both 0 3 first t (entered-at t r c k) (h .within) (entered-within t k checking-rooms r c (f .low) (f .small) (omega arith));
+            within = within-both 0 3 old t (entered-at t r c k) (h .within) (entered-within t k checking-rooms r c (f .low) (f .small) (omega arith));
           }
 
     pub checking-ends : m ≤ k → IndexedIn is m list Fine old t
@@ -300,7 +284,7 @@ module _ (is : List ℕ) (m list : ℕ) (old : List (List ℕ)) (heads : List �
         record {
           answer = look-ends (new-id is) 7 list (lowest (new-id is) 0 m) k m (h .whole) l ∙ sym (all-new list is m);
           index = λ y. rw e at (h .index);
-          within = within;
+          within = h .within;
         }
 
 pub ruleset checking = (checking-starts, checking-rooms, checking-stops, checking-goes, checking-ends)

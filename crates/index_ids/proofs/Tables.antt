@@ -6,7 +6,8 @@ use Prim.Native.Nat.{ℕ, zero, suc, _+_, _<_, _≤_}
 use native.Mathlib.Omega.{arith}
 use lib.ListN.{length, getD, set, replicate, length-set, length-replicate, getD-replicate}
 use lib.Seq.{getD-set-same, getD-set-other}
-use Rattle.index_ids.specs.Table.{row, Rooms, Within, EnteredIn}
+use Rattle.index_ids.specs.Chain.{Cleared}
+use Rattle.index_ids.specs.Table.{row, Rooms, Fresh, Within, EnteredIn}
 use Rattle.index_ids.proofs.Chains.{eqb-cases}
 
 pub rooms-wide : (t : List (List ℕ)) (r : ℕ) → Rooms t → r < 8 → length (row t r) ≡ 1024
@@ -57,11 +58,37 @@ cell-stored (x ∷ t) (suc r) k v = cell-stored t r k v
 pub within-cell : (t : List (List ℕ)) (r k v : ℕ) → Within r (suc r) t (set t r (set (row t r) k v))
 within-cell t r k v = row-within t r (set (row t r) k v) (λ h l. length-set (row t r) k v ∙ h .wide r l)
 
+-- ---- fresh tables
+
+zeros-cleared : Cleared (replicate 1024 0)
+zeros-cleared = record { room = length-replicate {A = ℕ} 1024 0; none = λ b l. getD-replicate {A = ℕ} 1024 b 0 0 l }
+
 -- A table of zeros.
-pub rooms-fresh : Rooms (replicate 8 (replicate 1024 0))
-rooms-fresh =
+pub fresh-index : Fresh (replicate 8 (replicate 1024 0))
+fresh-index =
     let zeros : List ℕ = replicate 1024 0 in
-    record { rows = length-replicate 8 zeros; wide = λ r l. ap length (getD-replicate 8 r zeros [] l) ∙ length-replicate {A = ℕ} 1024 0 }
+    let each : (r : ℕ) → r < 8 → row (replicate 8 zeros) r ≡ zeros = λ r l. getD-replicate 8 r zeros [] l in
+    record {
+      rooms = record { rows = length-replicate 8 zeros; wide = λ r l. ap length (each r l) ∙ zeros-cleared .room };
+      ids = rw (each 0 (omega arith)) zeros-cleared;
+      names = rw (each 6 (omega arith)) zeros-cleared;
+    }
+
+-- Both rows of heads are stored.
+module _ (t : List (List ℕ)) (a : List ℕ) (n : Rooms t) (ca : Cleared a) where
+  half : Rooms (set t 0 a)
+  half = rooms-stored t 0 a (λ l. ca .room) n
+
+  pub half-wide : (r : ℕ) → r < 8 → length (row (set t 0 a) r) ≡ 1024
+  half-wide r l = half .wide r l
+
+  pub refreshed : (b : List ℕ) → Cleared b → Fresh (set (set t 0 a) 6 b)
+  refreshed b cb =
+      let e : row (set (set t 0 a) 6 b) 0 ≡ a = row-left (set t 0 a) 6 b 0 (λ z. omega arith) ∙ row-stored t 0 a (let y = n .rows in omega arith) in
+      let f : row (set (set t 0 a) 6 b) 6 ≡ b = row-stored (set t 0 a) 6 b (let y = half .rows in omega arith) in
+      record { rooms = rooms-stored (set t 0 a) 6 b (λ l. cb .room) half; ids = rw e ca; names = rw f cb }
+
+pub ruleset refreshing = (rooms-wide, half-wide, refreshed)
 
 -- ---- a slot is entered in a chain: two stores, in two rows
 

@@ -4,7 +4,7 @@ use Prim.Native.Nat.{ℕ, suc, _<_, _≤_}
 use mathlib.Core.Path.{_≡_}
 use mathlib.Core.List.{List, []}
 use lib.ListN.{length, getD}
-use Rattle.index_ids.specs.Chain.{Entered}
+use Rattle.index_ids.specs.Chain.{Cleared, Entered}
 
 abbrev pub row : (index : List (List ℕ)) → ℕ → List ℕ
 row index r = getD index r []
@@ -37,6 +37,12 @@ name-next index = row index 7
 pub record Rooms (index : List (List ℕ)) : Type 0 where
   pub rows : length index ≡ 8
   pub wide : (r : ℕ) → r < 8 → length (row index r) ≡ 1024
+
+-- An index that is fresh, as a table of zeros is: no id stands on a path, and no full name in a chain.
+pub record Fresh (index : List (List ℕ)) : Type 0 where
+  pub rooms : Rooms index
+  pub ids : Cleared (id-heads index)
+  pub names : Cleared (name-heads index)
 
 -- The rows below a and those from b on are as they were, and all have the room that they had.
 pub record Within (a b : ℕ) (old new : List (List ℕ)) : Type 0 where

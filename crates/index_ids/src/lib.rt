@@ -14,7 +14,7 @@ ghost use Rattle.record.specs.Says.{slot-before};
 ghost use Rattle.plan.specs.Table.{numbers};
 ghost use Rattle.index_ids.specs.Chain.{lowest-below, Cleared};
 ghost use Rattle.index_ids.specs.Ids.{bucket-of, is-id};
-ghost use Rattle.index_ids.specs.Table.{row, Rooms, EnteredIn};
+ghost use Rattle.index_ids.specs.Table.{row, id-heads, Rooms, Fresh, EnteredIn};
 ghost use Rattle.index_ids.specs.Path.{IdsChained, Followed, entered-at, IndexedIn};
 
 // An index's rows. A place is one more than a slot, or 0 for none: the heads of the paths of ids and, in a row for each bit, their
@@ -74,6 +74,15 @@ pub fn clear(heads: &mut [u16; 1024])
         heads[b] = 0;
         b += 1;
     }
+}
+
+// An index that was used is made fresh. A table of zeros is fresh as it is, so no entry calls this for a table that it has just made.
+pub fn refresh(index: &mut IndexRows)
+    requires { ⌜ Rooms (now index) ⌝ }
+    ensures { λ r. ⌜ Fresh (now (index .exit)) ⌝ }
+{
+    clear(&mut index[ID_HEADS]);
+    clear(&mut index[NAME_HEADS]);
 }
 
 // The slot k is put before the chain of the bucket b. The row `heads` has the chains' heads, the next row their links.
@@ -137,13 +146,12 @@ fn enter_id(index: &mut IndexRows, line: usize, c: usize, k: usize)
     index[line][c] = (k + 1) as u16;
 }
 
-// Refusal 7 over m slots. Where there is none, the index of the ids is left; its other rows stay.
+// Refusal 7 over m slots, where no id stands on a path yet. Where there is none, the index of the ids is left; its other rows stay.
 pub fn check_ids(plan: &PlanRows, m: usize, list: u32, index: &mut IndexRows) -> Check
-    requires { ⌜ (m ≤ 1024) × Rooms (now index) ⌝ }
+    requires { ⌜ (m ≤ 1024) × (Rooms (now index) × Cleared (id-heads (now index))) ⌝ }
     ensures { λ r. ⌜ IndexedIn (numbers (now (plan .entry))) m list r (now (index .entry))
         (now (index .exit)) ⌝ }
 {
-    clear(&mut index[ID_HEADS]);
     let mut k = 0;
     while k < m {
         match follow(plan, index, k, plan[NUMBERS][k]) {

@@ -34,7 +34,7 @@ use Rattle.plan.proofs.Rooms.{roomy-fresh}
 use Rattle.index_ids.specs.Chain.{lowest-below}
 use Rattle.index_ids.specs.Ids.{is-id}
 use Rattle.index_ids.proofs.Chains.{found-below-room}
-use Rattle.index_ids.proofs.Tables.{rooms-fresh}
+use Rattle.index_ids.proofs.Tables.{fresh-index}
 use Rattle.index.specs.Index.{found-slot, held, Opened}
 use Rattle.index.proofs.Looking.{finds-id}
 use Rattle.index_many.specs.declared.Searched.{Searched}
@@ -175,4 +175,4 @@ module _ (s pool ids out : List ℕ) where
             let e : asked ≡ ok (rows-of (alone s pool) plan m ids) = reads ∙ bind-is (read s pool) _ _ (o .tree q) in
             rw e (record { told = ap Done (h .counts (alone s pool) (o .planned q)); left = ap (λ (x : List ℕ). x ∷ []) (h .bytes (alone s pool) (o .planned q)) })
 
-pub ruleset finding = (roomy-fresh, rooms-fresh, room-short, not-whole, base-refused, searchable, all-looked)
+pub ruleset finding = (roomy-fresh, fresh-index, room-short, not-whole, base-refused, searchable, all-looked)

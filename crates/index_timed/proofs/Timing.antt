@@ -22,7 +22,6 @@ use Rattle.plan.proofs.Rooms.{roomy-fresh}
 use Rattle.index_ids.specs.Chain.{lowest-below}
 use Rattle.index_ids.specs.Ids.{is-id}
 use Rattle.index_ids.specs.Path.{IndexedIn}
-use Rattle.index_ids.proofs.Tables.{rooms-fresh}
 use Rattle.index_timed.specs.Timed.{counts, each-round, all-rounds, id-row, timed}
 
 module _ (w : FoundSlot) (c : ℕ) where
@@ -90,4 +89,4 @@ module _ (s ids : List ℕ) (rounds : ℕ) (b : Bool) (eb : b ≡ whole 24 1024 
       unfolding timed
       timed-done z e h = rw (← eb, not-false b q, ← same-row, ← en, ← (x .answer), e) h
 
-pub ruleset timing = (roomy-fresh, rooms-fresh, timed-unfit, timed-few, timed-bytes, timed-refused, timed-done)
+pub ruleset timing = (roomy-fresh, timed-unfit, timed-few, timed-bytes, timed-refused, timed-done)

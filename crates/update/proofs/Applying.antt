@@ -36,7 +36,7 @@ use Rattle.laws.proofs.Fitting.{rooms-of}
 use Rattle.laws.proofs.Visiting.{visited-is}
 use Rattle.record_limits.proofs.Within.{update-sized, identifiers-most, deletions-most}
 use Rattle.plan.specs.Table.{Roomy}
-use Rattle.index_ids.specs.Table.{Rooms}
+use Rattle.index_ids.specs.Table.{Fresh}
 use Rattle.index.specs.Index.{Readable, BaseIndexed}
 use Rattle.update_edits.specs.Marks.{Unmarked}
 use Rattle.update_rebuild.specs.declared.Given.{Given}
@@ -97,7 +97,7 @@ module _ (l : Trees) (lists : Lists) (version rr rn : ℕ) (w : Opened) (o : Ope
   own : Contents l lists (through .passed .base) (through .passed .added)
   own = contents l lists (through .passed .base) (through .passed .added) (through .passed .read)
 
-  pub test-asks : (plan index : List (List ℕ)) → Roomy plan → Rooms index → Readable l (slots (l .records)) × ((length (lists .identifiers) ≤ 256) × (Roomy plan × Rooms index))
+  pub test-asks : (plan index : List (List ℕ)) → Roomy plan → Fresh index → Readable l (slots (l .records)) × ((length (lists .identifiers) ≤ 256) × (Roomy plan × Fresh index))
   test-asks plan index p i = (
     record { limits = update-sized _ _ true (sym limits) refl; count = refl; decodes = rw (own .base-read) },
     (identifiers-most _ _ true (sym limits) refl, (p, i)),

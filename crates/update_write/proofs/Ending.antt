@@ -51,7 +51,7 @@ use Rattle.plan.proofs.Laying.{laid-fields, laid-draft}
 use Rattle.plan.proofs.Standing.{fields-size}
 use Rattle.plan.proofs.Summing.{draft-inside, summed-plan, summed-over}
 use Rattle.plan.proofs.Taking.{added-sits}
-use Rattle.index_ids.specs.Table.{Rooms}
+use Rattle.index_ids.specs.Table.{Fresh}
 use Rattle.index.specs.Index.{Indexing}
 use Rattle.update_dropped.specs.declared.Dropped.{Dropped}
 use Rattle.update_dropped.specs.Set.{dropped-ids, Good}
@@ -221,8 +221,8 @@ module _ (l : Trees) (i : List ℕ) (given : Given) (c : ℕ) (decisions : List 
             fitting : within (mapped (planned-field l) t) ≡ true
             fitting = let e = the-plan .sum in within-fits (planned-field l) t ∙ rw (went .0) (ap (λ (x : Forest Field). leb (name-bytes x) 32768) (sym planned) ∙ le-leb _ 32768 e)
 
-            pub test-asks : PlanIn l plan′ (w .at) × (Rooms index × (length i ≤ 256))
-            test-asks = (the-plan, (h .index-room, h .few))
+            pub test-asks : (table : List (List ℕ)) → Fresh table → PlanIn l plan′ (w .at) × (Fresh table × (length i ≤ 256))
+            test-asks table f = (the-plan, (f, h .few))
 
             pub write-asks : PlanIn l plan′ (w .at) × (24576 ≤ length out) × (32768 ≤ length text)
             write-asks = (the-plan, h .records-room, h .names-room)
@@ -236,7 +236,7 @@ module _ (l : Trees) (i : List ℕ) (given : Given) (c : ℕ) (decisions : List 
             unfolding limited-sounded _>>=_
             limited-is base e edits v′ last visited = rw (← (tree-is base e edits v′), fitting, planned)
 
-            module _ (x : Check) (index′ : List (List ℕ)) (s : Indexing l plan′ (w .at) 4 i x index index′) where
+            module _ (x : Check) (table index′ : List (List ℕ)) (s : Indexing l plan′ (w .at) 4 i x table index′) where
               pub sound-stops : (f : Refusal) → x ≡ check.Refused f → Ending (changed.Refused f) out text
               unfolding sounded _>>=_
               sound-stops f o =

@@ -1,6 +1,7 @@
 // The end of an update: the rebuilt tree planned, its limits and its own tests, and the answer written.
 use index::index_plan;
 use index_ids::IndexRows;
+use index_ids::refresh;
 use plan::PlanRows;
 use plan::names_fit;
 use plan_write::write_plan;
@@ -114,7 +115,8 @@ pub fn write_rebuilt<'a>(
             place: 0,
         });
     }
-    // test
+    // test, in the table that held the base's index
+    refresh(index);
     let sound = index_plan(trees, plan, m, 4, identifiers, index);
     if let Check::Refused(r) = sound {
         return Changed::Refused(r);

@@ -1,7 +1,6 @@
 -- The slots below k stand on their paths, and what is left to test gives the whole answer.
 use Prim.Native.Nat.{_-_}
 use Rattle.plan.specs.Table.{numbers}
-use Rattle.index_ids.proofs.Tables.{rooms-wide}
 use Rattle.index_ids.proofs.IdLaws.{Checking, checking, ids}
 use borrow.Author.Needs.{needs}
 use Rattle.index_ids.proofs.check_ids.Statement.{statement}
@@ -19,8 +18,6 @@ check-ids-spec =
     (tie.spec
     Inv-loop
     μ-loop
-    (λ c. search (checking, needs))  -- index-1-clear
-    (λ c κs. search (rooms-wide, needs))  -- clear-requires
     (λ c. search (checking, needs))  -- loop-holds
     (λ c. search (checking, needs))  -- mul-follow
     (λ c. search (checking, needs))  -- index-1-follow

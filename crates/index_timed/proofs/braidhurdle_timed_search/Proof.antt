@@ -1,4 +1,5 @@
 -- Any bytes get an answer: those that are not whole records 0, and so do equal ids.
+use Rattle.index_ids.proofs.Tables.{fresh-index}
 use Rattle.index_timed.proofs.Timing.{timed-few, timing}
 use borrow.Author.Needs.{needs}
 use Rattle.index_timed.proofs.braidhurdle_timed_search.Statement.{statement}
@@ -11,7 +12,7 @@ braidhurdle-timed-search-spec =
     (λ c κs. search needs)  -- whole-list-requires
     (λ c. search (timing, needs))  -- returns
     (λ c κs. search (timing, needs))  -- take-base-requires
-    (λ c κs. search (timing, needs))  -- check-ids-requires
+    (λ c κs. (search (timed-few, needs), (fresh-index .rooms, fresh-index .ids)))  -- check-ids-requires
     (λ c. search needs)  -- enum-told
     (λ c. search (timing, needs))  -- returns-2
     (λ c. search needs)  -- enum-told-2

@@ -1,7 +1,7 @@
 -- A refusal is `read`'s; else the lines are those of the tree that was read.
 use native.Mathlib.Omega.{arith}
 use Rattle.plan.proofs.Rooms.{roomy-fresh}
-use Rattle.index_ids.proofs.Tables.{rooms-fresh}
+use Rattle.index_ids.proofs.Tables.{fresh-index}
 use Rattle.lister_lines.proofs.Lines.{refusal-listed, tree-listed}
 use borrow.Author.Needs.{needs}
 use Rattle.lister_lines.proofs.listing.Statement.{statement}
@@ -11,7 +11,7 @@ pub listing-spec : {M : Type 1} → statement M
 listing-spec =
     tie.close
     (tie.spec
-    (λ c κs. (roomy-fresh, rooms-fresh))  -- open-base-requires
+    (λ c κs. (roomy-fresh, fresh-index))  -- open-base-requires
     (λ c. search needs)  -- enum-known-opened
     (λ c κs. search needs)  -- list-refusal-requires
     (λ c. search needs)  -- same-length

@@ -1,7 +1,7 @@
 -- The steps one after the other. Assumes nothing.
 use borrow.Author.Needs.{needs}
 use Rattle.plan.proofs.Rooms.{roomy-fresh}
-use Rattle.index_ids.proofs.Tables.{rooms-fresh}
+use Rattle.index_ids.proofs.Tables.{fresh-index}
 use Rattle.prune.proofs.Steps.{stop-6, passed, unmarked, base-reads, stop-8, test-goes, stop-20, plan-row, write-asks, kept-small, names-small, all-written}
 use Rattle.prune.proofs.prune.Statement.{statement}
 use Rattle.prune.proofs.prune.Tie as tie
@@ -17,7 +17,7 @@ prune-spec =
     (λ c. search needs)  -- part-trees-start
     (λ c. search needs)  -- part-trees-end
     (λ c. search needs)  -- slice-aggregate-index-base
-    (λ c κs. let h = passed _ _ _ _ _ _ (c .before .before .before .before .before .before .before .before .«open» .ensures) _ (c .before .before .before .before .before .before .count .given .1) in (base-reads h, (search needs, (roomy-fresh, rooms-fresh))))  -- index-base-requires
+    (λ c κs. let h = passed _ _ _ _ _ _ (c .before .before .before .before .before .before .before .before .«open» .ensures) _ (c .before .before .before .before .before .before .count .given .1) in (base-reads h, (search needs, (roomy-fresh, fresh-index))))  -- index-base-requires
     (λ c. search needs)  -- enum-known-tested
     (λ c. let h = passed _ _ _ _ _ _ (c .before .before .before .before .before .before .before .before .before .before .before .before .«open» .ensures) _ (c .before .before .before .before .before .before .before .before .before .before .count .given .1) in search (stop-8, h, needs))  -- returns
     (λ c. search needs)  -- enum-told

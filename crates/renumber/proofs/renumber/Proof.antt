@@ -4,7 +4,7 @@ use mathlib.Core.Path.{refl}
 use Prim.Native.Nat.{ℕ}
 use lib.ListN.{length-replicate}
 use Rattle.plan.proofs.Rooms.{roomy-fresh}
-use Rattle.index_ids.proofs.Tables.{rooms-fresh}
+use Rattle.index_ids.proofs.Tables.{fresh-index}
 use Rattle.renumber.proofs.Entry.{stop-6, readable, few-identifiers, few-records, numbers-left, stop-9, stop-18, mappable, writable, few-names, done}
 use borrow.Author.Needs.{needs}
 use Rattle.renumber.proofs.renumber.Statement.{statement}
@@ -20,7 +20,7 @@ renumber-spec =
     (λ c. search needs)  -- sub-trees
     (λ c. search needs)  -- part-trees-start
     (λ c. search needs)  -- part-trees-end
-    (λ c κs. (search (readable, needs), (search (few-identifiers, needs), (roomy-fresh, rooms-fresh))))  -- index-base-requires
+    (λ c κs. (search (readable, needs), (search (few-identifiers, needs), (roomy-fresh, fresh-index))))  -- index-base-requires
     (λ c. search needs)  -- enum-known-tested
     (λ c. search (stop-9, needs))  -- returns
     (λ c. search needs)  -- enum-told

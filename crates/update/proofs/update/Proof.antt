@@ -1,6 +1,6 @@
 -- Each step's answer is the paper's: open, test, decide, then the end. Assumes nothing.
 use Rattle.plan.proofs.Rooms.{roomy-fresh}
-use Rattle.index_ids.proofs.Tables.{rooms-fresh}
+use Rattle.index_ids.proofs.Tables.{fresh-index}
 use Rattle.update.proofs.Applying.{open-stops, test-asks, test-stops, decide-asks, decide-stops, write-asks, all-written, fresh-decisions}
 use mathlib.Core.Path.{refl}
 use borrow.Author.Needs.{needs}
@@ -16,7 +16,7 @@ update-spec =
     (λ c. search needs)  -- enum-known-roots
     (λ c. search needs)  -- element-copy-out-n
     (λ c. search needs)  -- element-copy-out-index-base
-    (λ c κs. test-asks _ _ _ _ _ _ (c .before .before .before .before .before .before .open-update .ensures) _ _ (c .before .before .before .before .roots .given .1) _ _ roomy-fresh rooms-fresh)  -- index-base-requires
+    (λ c κs. test-asks _ _ _ _ _ _ (c .before .before .before .before .before .before .open-update .ensures) _ _ (c .before .before .before .before .roots .given .1) _ _ roomy-fresh fresh-index)  -- index-base-requires
     (λ c. search needs)  -- enum-known-sound
     (λ c. test-stops _ _ _ _ _ _ _ (c .before .before .before .before .before .before .before .before .before .before .open-update .ensures) _ _ (c .before .before .before .before .before .before .before .before .roots .given .1) _ _ _ _ (c .before .before .before .index-base .ensures) _ (c .before .sound .given .1))  -- returns
     (λ c. search needs)  -- enum-told

@@ -16,15 +16,16 @@ write-rebuilt-spec =
     (λ c. search (ending, needs))  -- returns
     (λ c κs. names-asks _ _ _ _ _ _ _ _ _ _ (c .before .before .before .before .before .before .before .before .before .before .before .before .before .before .pre) _ (c .before .before .before .before .before .before .before .before .gather .ensures) _ _ (c .before .before .before .before .rebuild-edited .ensures) _ (c .before .before .step .given .1))  -- names-fit-requires
     (λ c. search (ending, needs))  -- returns-2
-    (λ c κs. test-asks _ _ _ _ _ _ _ _ _ _ (c .before .before .before .before .before .before .before .before .before .before .before .before .before .before .before .before .before .before .pre) _ (c .before .before .before .before .before .before .before .before .before .before .before .before .gather .ensures) _ _ (c .before .before .before .before .before .before .before .before .rebuild-edited .ensures) _ (c .before .before .before .before .before .before .step .given .1) _ (c .before .before .before .names-fit .ensures) (c .before .before .if1 .left))  -- index-plan-requires
+    (λ c κs. c .before .before .before .before .before .before .before .before .before .before .before .before .before .before .before .before .before .pre .index-room)  -- refresh-requires
+    (λ c κs. test-asks _ _ _ _ _ _ _ _ _ _ (c .before .before .before .before .before .before .before .before .before .before .before .before .before .before .before .before .before .before .before .before .pre) _ (c .before .before .before .before .before .before .before .before .before .before .before .before .before .before .gather .ensures) _ _ (c .before .before .before .before .before .before .before .before .before .before .rebuild-edited .ensures) _ (c .before .before .before .before .before .before .before .before .step .given .1) _ (c .before .before .before .before .before .names-fit .ensures) (c .before .before .before .before .if1 .left) _ (c .before .before .refresh .ensures))  -- index-plan-requires
     (λ c. search needs)  -- enum-known-sound
-    (λ c. sound-stops _ _ _ _ _ _ _ _ _ _ (c .before .before .before .before .before .before .before .before .before .before .before .before .before .before .before .before .before .before .before .before .before .before .pre) _ (c .before .before .before .before .before .before .before .before .before .before .before .before .before .before .before .before .gather .ensures) _ _ (c .before .before .before .before .before .before .before .before .before .before .before .before .rebuild-edited .ensures) _ (c .before .before .before .before .before .before .before .before .before .before .step .given .1) _ (c .before .before .before .before .before .before .before .names-fit .ensures) (c .before .before .before .before .before .before .if1 .left) _ _ (c .before .before .before .index-plan .ensures) _ (c .before .sound .given .1))  -- returns-3
+    (λ c. sound-stops _ _ _ _ _ _ _ _ _ _ (c .before .before .before .before .before .before .before .before .before .before .before .before .before .before .before .before .before .before .before .before .before .before .before .before .pre) _ (c .before .before .before .before .before .before .before .before .before .before .before .before .before .before .before .before .before .before .gather .ensures) _ _ (c .before .before .before .before .before .before .before .before .before .before .before .before .before .before .rebuild-edited .ensures) _ (c .before .before .before .before .before .before .before .before .before .before .before .before .step .given .1) _ (c .before .before .before .before .before .before .before .before .before .names-fit .ensures) (c .before .before .before .before .before .before .before .before .if1 .left) _ _ _ (c .before .before .before .index-plan .ensures) _ (c .before .sound .given .1))  -- returns-3
     (λ c. search needs)  -- enum-told-2
-    (λ c κs. write-asks _ _ _ _ _ _ _ _ _ _ (c .before .before .before .before .before .before .before .before .before .before .before .before .before .before .before .before .before .before .before .before .before .before .before .before .pre) _ (c .before .before .before .before .before .before .before .before .before .before .before .before .before .before .before .before .before .before .gather .ensures) _ _ (c .before .before .before .before .before .before .before .before .before .before .before .before .before .before .rebuild-edited .ensures) _ (c .before .before .before .before .before .before .before .before .before .before .before .before .step .given .1) _ (c .before .before .before .before .before .before .before .before .before .names-fit .ensures) (c .before .before .before .before .before .before .before .before .if1 .left))  -- write-plan-requires
-    (λ c. record { fits = records-fit _ _ _ _ _ _ _ _ _ _ (c .before .before .before .before .before .before .before .before .before .before .before .before .before .before .before .before .before .before .before .before .before .before .before .before .before .before .before .before .before .pre) _ (c .before .before .before .before .before .before .before .before .before .before .before .before .before .before .before .before .before .before .before .before .before .before .before .gather .ensures) _ _ (c .before .before .before .before .before .before .before .before .before .before .before .before .before .before .before .before .before .before .before .rebuild-edited .ensures) _ (c .before .before .before .before .before .before .before .before .before .before .before .before .before .before .before .before .before .step .given .1) _ (c .before .before .before .before .before .before .before .before .before .before .before .before .before .before .names-fit .ensures) (c .before .before .before .before .before .before .before .before .before .before .before .before .before .if1 .left) })  -- cast-t37
-    (λ c. record { fits = names-fit _ _ _ _ _ _ _ _ _ _ (c .before .before .before .before .before .before .before .before .before .before .before .before .before .before .before .before .before .before .before .before .before .before .before .before .before .before .before .before .before .pre) _ (c .before .before .before .before .before .before .before .before .before .before .before .before .before .before .before .before .before .before .before .before .before .before .before .gather .ensures) _ _ (c .before .before .before .before .before .before .before .before .before .before .before .before .before .before .before .before .before .before .before .rebuild-edited .ensures) _ (c .before .before .before .before .before .before .before .before .before .before .before .before .before .before .before .before .before .step .given .1) _ (c .before .before .before .before .before .before .before .before .before .before .before .before .before .before .names-fit .ensures) (c .before .before .before .before .before .before .before .before .before .before .before .before .before .if1 .left) _ _ (c .before .before .before .before .before .before .before .before .before .before .index-plan .ensures) _ _ _ (c .before .before .before .before .write-plan .ensures) })  -- cast-t38
+    (λ c κs. write-asks _ _ _ _ _ _ _ _ _ _ (c .before .before .before .before .before .before .before .before .before .before .before .before .before .before .before .before .before .before .before .before .before .before .before .before .before .before .pre) _ (c .before .before .before .before .before .before .before .before .before .before .before .before .before .before .before .before .before .before .before .before .gather .ensures) _ _ (c .before .before .before .before .before .before .before .before .before .before .before .before .before .before .before .before .rebuild-edited .ensures) _ (c .before .before .before .before .before .before .before .before .before .before .before .before .before .before .step .given .1) _ (c .before .before .before .before .before .before .before .before .before .before .before .names-fit .ensures) (c .before .before .before .before .before .before .before .before .before .before .if1 .left))  -- write-plan-requires
+    (λ c. record { fits = records-fit _ _ _ _ _ _ _ _ _ _ (c .before .before .before .before .before .before .before .before .before .before .before .before .before .before .before .before .before .before .before .before .before .before .before .before .before .before .before .before .before .before .before .pre) _ (c .before .before .before .before .before .before .before .before .before .before .before .before .before .before .before .before .before .before .before .before .before .before .before .before .before .gather .ensures) _ _ (c .before .before .before .before .before .before .before .before .before .before .before .before .before .before .before .before .before .before .before .before .before .rebuild-edited .ensures) _ (c .before .before .before .before .before .before .before .before .before .before .before .before .before .before .before .before .before .before .before .step .given .1) _ (c .before .before .before .before .before .before .before .before .before .before .before .before .before .before .before .before .names-fit .ensures) (c .before .before .before .before .before .before .before .before .before .before .before .before .before .before .before .if1 .left) })  -- cast-t40
+    (λ c. record { fits = names-fit _ _ _ _ _ _ _ _ _ _ (c .before .before .before .before .before .before .before .before .before .before .before .before .before .before .before .before .before .before .before .before .before .before .before .before .before .before .before .before .before .before .before .pre) _ (c .before .before .before .before .before .before .before .before .before .before .before .before .before .before .before .before .before .before .before .before .before .before .before .before .before .gather .ensures) _ _ (c .before .before .before .before .before .before .before .before .before .before .before .before .before .before .before .before .before .before .before .before .before .rebuild-edited .ensures) _ (c .before .before .before .before .before .before .before .before .before .before .before .before .before .before .before .before .before .before .before .step .given .1) _ (c .before .before .before .before .before .before .before .before .before .before .before .before .before .before .before .before .names-fit .ensures) (c .before .before .before .before .before .before .before .before .before .before .before .before .before .before .before .if1 .left) _ _ _ (c .before .before .before .before .before .before .before .before .before .before .index-plan .ensures) _ _ _ (c .before .before .before .before .write-plan .ensures) })  -- cast-t41
     (λ c κs. search needs)  -- turn-back-requires
     (λ c. search needs)  -- same-length
     (λ c. search needs)  -- same-length-2
-    (λ c. all-written _ _ _ _ _ _ _ _ _ _ (c .before .before .before .before .before .before .before .before .before .before .before .before .before .before .before .before .before .before .before .before .before .before .before .before .before .before .before .before .before .before .pre) _ (c .before .before .before .before .before .before .before .before .before .before .before .before .before .before .before .before .before .before .before .before .before .before .before .before .gather .ensures) _ _ (c .before .before .before .before .before .before .before .before .before .before .before .before .before .before .before .before .before .before .before .before .rebuild-edited .ensures) _ (c .before .before .before .before .before .before .before .before .before .before .before .before .before .before .before .before .before .before .step .given .1) _ (c .before .before .before .before .before .before .before .before .before .before .before .before .before .before .before .names-fit .ensures) (c .before .before .before .before .before .before .before .before .before .before .before .before .before .before .if1 .left) _ _ (c .before .before .before .before .before .before .before .before .before .before .before .index-plan .ensures) _ _ _ (c .before .before .before .before .before .write-plan .ensures) (c .before .before .before .before .before .before .before .before .before .enum-told2 .given .1) _ (c .turn-back .ensures))  -- returns-4
+    (λ c. all-written _ _ _ _ _ _ _ _ _ _ (c .before .before .before .before .before .before .before .before .before .before .before .before .before .before .before .before .before .before .before .before .before .before .before .before .before .before .before .before .before .before .before .before .pre) _ (c .before .before .before .before .before .before .before .before .before .before .before .before .before .before .before .before .before .before .before .before .before .before .before .before .before .before .gather .ensures) _ _ (c .before .before .before .before .before .before .before .before .before .before .before .before .before .before .before .before .before .before .before .before .before .before .rebuild-edited .ensures) _ (c .before .before .before .before .before .before .before .before .before .before .before .before .before .before .before .before .before .before .before .before .step .given .1) _ (c .before .before .before .before .before .before .before .before .before .before .before .before .before .before .before .before .before .names-fit .ensures) (c .before .before .before .before .before .before .before .before .before .before .before .before .before .before .before .before .if1 .left) _ _ _ (c .before .before .before .before .before .before .before .before .before .before .before .index-plan .ensures) _ _ _ (c .before .before .before .before .before .write-plan .ensures) (c .before .before .before .before .before .before .before .before .before .enum-told2 .given .1) _ (c .turn-back .ensures))  -- returns-4
     )
