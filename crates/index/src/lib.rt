@@ -73,11 +73,7 @@ fn index_names<'a>(
         count: m as u32,
         levels: 16,
     };
-    let before = Prefix {
-        up: 0,
-        len: 0,
-        hash: 0,
-    };
+    let before = Prefix { len: 0, hash: 0 };
     mark_row(trees, plan, m, row, before, index);
     check_names(trees, plan, m, list, index)
 }

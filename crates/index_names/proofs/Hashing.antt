@@ -7,8 +7,6 @@ use native.Mathlib.Numerals.{add-one}
 use native.Mathlib.Omega.{arith}
 use lib.ListN.{length, getD, drop, drop-of-length-le}
 use lib.Seq.{drop-cons}
-use Rattle.record.specs.Trees.{Trees}
-use Rattle.plan.specs.Named.{name-in}
 use Rattle.index_names.specs.Hash.{mix, hash-on}
 
 pub hash-append : (h : ℕ) (xs ys : List ℕ) → hash-on h (xs ++ ys) ≡ hash-on (hash-on h xs) ys
@@ -47,6 +45,3 @@ pub hash-last : (W h r i : ℕ) (xs : List ℕ) → W ≡ hash-on h (drop i xs) 
 hash-last W h r i xs e f l er = hash-ends W r (i + 1) xs (hash-goes W h r i xs e l er) (omega arith)
 
 pub ruleset hashing = (hash-starts, hash-goes-twice, hash-goes, hash-ends, hash-last)
-
-pub hash-is : (l : Trees) (xs : List ℕ) (k seed r : ℕ) (x : List ℕ) → x ≡ name-in l xs k → r ≡ hash-on seed x → r ≡ hash-on seed (name-in l xs k)
-hash-is l xs k seed r x e h = h ∙ ap (hash-on seed) e

@@ -127,48 +127,51 @@ module _ (name : ℕ → List ℕ) (kids : ℕ → ℕ) (n lv c k u l h : ℕ) (
 mark-room : (name : ℕ → List ℕ) (kids : ℕ → ℕ) (n lv c k u l h r : ℕ) (t t′ : List (List ℕ)) → MarkedIn name (walk kids n lv c k) k u l h t t′ r → k ≤ n → r ≤ n
 mark-room name kids n lv c k u l h r t t′ w q = let f = filled kids n lv c k q in omega (arith, f .most, w .marked .next)
 
--- As a loop over the siblings: whatever marks the rest marks the whole.
-pub record Onward (name : ℕ → List ℕ) (kids : ℕ → ℕ) (n lv c k u l h : ℕ) (old : List (List ℕ)) (c′ k′ : ℕ) (t : List (List ℕ)) : Type 0 where
+-- As a loop over the siblings, with b levels inside them: whatever marks the rest marks the whole.
+pub record Onward (name : ℕ → List ℕ) (kids : ℕ → ℕ) (n b c k u l h : ℕ) (old : List (List ℕ)) (b′ c′ k′ : ℕ) (t : List (List ℕ)) : Type 0 where
   pub small : k′ ≤ n
-  pub go : (r : ℕ) (t₂ : List (List ℕ)) → MarkedIn name (walk kids n lv c′ k′) k′ u l h t t₂ r → MarkedIn name (walk kids n lv c k) k u l h old t₂ r
+  pub level : b′ ≡ b
+  pub go : (lv r : ℕ) (t₂ : List (List ℕ)) → lv ≡ b + 1 → MarkedIn name (walk kids n lv c′ k′) k′ u l h t t₂ r → MarkedIn name (walk kids n lv c k) k u l h old t₂ r
 
-pub onward-starts : (name : ℕ → List ℕ) (kids : ℕ → ℕ) (n lv c k u l h : ℕ) (t : List (List ℕ)) → k ≤ n → Onward name kids n lv c k u l h t c k t
-onward-starts name kids n lv c k u l h t q = record { small = q; go = λ r t₂ m. m }
+pub onward-starts : (name : ℕ → List ℕ) (kids : ℕ → ℕ) (n b c k u l h : ℕ) (t : List (List ℕ)) → k ≤ n → Onward name kids n b c k u l h t b c k t
+onward-starts name kids n b c k u l h t q = record { small = q; level = refl; go = λ lv r t₂ e m. m }
 
-module _ (name : ℕ → List ℕ) (kids : ℕ → ℕ) (n lv c k u l h : ℕ) (old : List (List ℕ)) (c′ k′ : ℕ) (t : List (List ℕ)) (on : Onward name kids n lv c k u l h old c′ k′ t) where
+module _ (name : ℕ → List ℕ) (kids : ℕ → ℕ) (n lv c k u l h : ℕ) (old : List (List ℕ)) (b′ c′ k′ : ℕ) (t : List (List ℕ)) (on : Onward name kids n (lv - 1) c k u l h old b′ c′ k′ t) (e : lv ≡ 0 → ⊥) where
   pub onward-past : n ≤ k′ → MarkedIn name (walk kids n lv c k) k u l h old t k′
-  onward-past e = on .go k′ t (mark-past name kids n lv c′ k′ u l h t e)
+  onward-past q = on .go lv k′ t (omega arith) (mark-past name kids n lv c′ k′ u l h t q)
 
   pub onward-done : c′ ≤ 0 → MarkedIn name (walk kids n lv c k) k u l h old t k′
-  onward-done e = on .go k′ t (mark-none name kids n lv c′ k′ u l h t (omega arith))
+  onward-done q = on .go lv k′ t (omega arith) (mark-none name kids n lv c′ k′ u l h t (omega arith))
 
 -- One record is marked, and what is inside it.
-pub one-marked : (name : ℕ → List ℕ) (k x h h₂ tg : ℕ) (p : Prefix) (t t₀ : List (List ℕ)) → x ≡ length (name k) → x ≤ 255 → h ≡ hash-on (p .hash) (name k) → tg ≡ tag h → h₂ ≡ mix h 46 → PutIn k (p .up) (p .len + x) tg t t₀ → OneIn name k p record { up = k + 1; len = p .len + x + 1; hash = h₂ } t t₀
-one-marked name k x h h₂ tg p t t₀ ex lx eh et eh₂ put = record { put = rw (← eh, ← et, ← ex) put; inner = rw (ex, eh₂, eh); room = omega arith }
+pub one-marked : (name : ℕ → List ℕ) (k u x h h₂ tg : ℕ) (own : List ℕ) (p : Prefix) (t t₀ : List (List ℕ)) → own ≡ name k → x ≡ length (name k) → x ≤ 255 → h ≡ hash-on (p .hash) own → tg ≡ tag h → h₂ ≡ mix h 46 → PutIn k u (p .len + x) tg t t₀ → OneIn name k u p record { hash = h₂; len = p .len + x + 1 } t t₀
+one-marked name k u x h h₂ tg own p t t₀ eo ex lx eh et eh₂ put = record { put = rw (← eo, ← eh, ← et, eo, ← ex) put; inner = rw (ex, eh₂, eh, eo); room = omega arith }
 
-module _ (name : ℕ → List ℕ) (kids : ℕ → ℕ) (n lv c k : ℕ) (p : Prefix) (old : List (List ℕ)) (c′ k′ : ℕ) (t : List (List ℕ)) (on : Onward name kids n lv c k (p .up) (p .len) (p .hash) old c′ k′ t) (r : Prefix) (t₀ : List (List ℕ)) (e : lv ≡ 0 → ⊥) (f : 0 < c′) (q : k′ < n) (one : OneIn name k′ p r t t₀) where
-  pub onward-goes : (m j : ℕ) (t₁ : List (List ℕ)) → m ≡ kids k′ → MarkedIn name (walk kids n (lv - 1) m (k′ + 1)) (k′ + 1) (r .up) (r .len) (r .hash) t₀ t₁ j → Onward name kids n lv c k (p .up) (p .len) (p .hash) old (c′ - 1) j t₁
+module _ (name : ℕ → List ℕ) (kids : ℕ → ℕ) (n b c k u : ℕ) (p : Prefix) (old : List (List ℕ)) (b′ c′ k′ : ℕ) (t : List (List ℕ)) (on : Onward name kids n b c k u (p .len) (p .hash) old b′ c′ k′ t) (r : Prefix) (t₀ : List (List ℕ)) (f : 0 < c′) (q : k′ < n) (one : OneIn name k′ u p r t t₀) where
+  pub onward-goes : (m j : ℕ) (t₁ : List (List ℕ)) → m ≡ kids k′ → MarkedIn name (walk kids n b′ m (k′ + 1)) (k′ + 1) (k′ + 1) (r .len) (r .hash) t₀ t₁ j → Onward name kids n b c k u (p .len) (p .hash) old b′ (c′ - 1) j t₁
   onward-goes m j t₁ em w =
       let i = inside name k′ p in
-      let w′ : MarkedIn name (walk kids n (lv - 1) m (k′ + 1)) (k′ + 1) (i .up) (i .len) (i .hash) t₀ t₁ j = rw (one .inner) at w in
+      let w′ : MarkedIn name (walk kids n b′ m (k′ + 1)) (k′ + 1) (k′ + 1) (i .len) (i .hash) t₀ t₁ j = rw (one .inner) at w in
       record {
-        small = mark-room name kids n (lv - 1) m (k′ + 1) (i .up) (i .len) (i .hash) j t₀ t₁ w′ (omega arith);
-        go = λ s t₂ v. on .go s t₂ (mark-turn name kids n lv c′ k′ (p .up) (p .len) (p .hash) t m (p .len + length (name k′)) (hash-on (p .hash) (name k′)) (i .hash) (tag (hash-on (p .hash) (name k′))) j s t₀ t₁ t₂ e (λ z. omega arith) q em refl refl refl refl (one .put) w′ v);
+        small = mark-room name kids n b′ m (k′ + 1) (k′ + 1) (i .len) (i .hash) j t₀ t₁ w′ (omega arith);
+        level = on .level;
+        go = λ lv s t₂ e v.
+            let below : b′ ≡ lv - 1 = omega (arith, on .level) in
+            on .go lv s t₂ e (mark-turn name kids n lv c′ k′ u (p .len) (p .hash) t m (p .len + length (name k′)) (hash-on (p .hash) (name k′)) (i .hash) (tag (hash-on (p .hash) (name k′))) j s t₀ t₁ t₂ (λ z. omega arith) (λ z. omega arith) q em refl refl refl refl (one .put) (rw below at w′) v);
       }
 
   -- Inside a leaf there is nothing to mark.
-  pub onward-leaf : kids k′ ≡ 0 → Onward name kids n lv c k (p .up) (p .len) (p .hash) old (c′ - 1) (k′ + 1) t₀
-  onward-leaf none = onward-goes _ (k′ + 1) t₀ refl (mark-none name kids n (lv - 1) _ (k′ + 1) (r .up) (r .len) (r .hash) t₀ none)
+  pub onward-leaf : kids k′ ≡ 0 → Onward name kids n b c k u (p .len) (p .hash) old b′ (c′ - 1) (k′ + 1) t₀
+  onward-leaf none = onward-goes _ (k′ + 1) t₀ refl (mark-none name kids n b′ _ (k′ + 1) (k′ + 1) (r .len) (r .hash) t₀ none)
 
-pub level-falls : (lv t : ℕ) → lv ≡ t → (lv ≡ 0 → ⊥) → lv - 1 < t
-level-falls lv t e h = omega arith
+pub level-falls : (lv b t : ℕ) → lv ≡ t → (lv ≡ 0 → ⊥) → b ≡ lv - 1 → b < t
+level-falls lv b t e h eb = omega arith
 
 pub room-here : (lv len : ℕ) → (lv ≡ 0 → ⊥) → len + lv * 256 ≤ 4096 → len + 255 ≤ 4096
 room-here lv len e h = omega arith
 
-module _ (name : ℕ → List ℕ) (k : ℕ) (p r : Prefix) (t t₀ : List (List ℕ)) (one : OneIn name k p r t t₀) where
-  pub room-in : (lv : ℕ) → (lv ≡ 0 → ⊥) → p .len + lv * 256 ≤ 4096 → r .len + (lv - 1) * 256 ≤ 4096
-  room-in lv e h = omega (arith, one .room)
+pub room-in : (name : ℕ → List ℕ) (k u : ℕ) (p r : Prefix) (t t₀ : List (List ℕ)) (lv b : ℕ) → OneIn name k u p r t t₀ → (lv ≡ 0 → ⊥) → p .len + lv * 256 ≤ 4096 → b ≡ lv - 1 → r .len + b * 256 ≤ 4096
+room-in name k u p r t t₀ lv b one e h eb = omega (arith, one .room)
 
-  pub up-in : (l : Trees) (xs : List ℕ) (n : ℕ) → Sources l xs n → k < n → r .up ≤ 1024
-  up-in l xs n s q = omega (arith, s .few, ap (λ (z : Prefix). z .up) (one .inner))
+pub up-small : (l : Trees) (xs : List ℕ) (n u : ℕ) → Sources l xs n → u ≤ n → u ≤ 1024
+up-small l xs n u s q = omega (arith, s .few)

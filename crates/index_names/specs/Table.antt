@@ -32,11 +32,11 @@ pub record PutIn (k up len tag : ℕ) (old new : List (List ℕ)) : Type 0 where
 
 -- What stands before the names inside the record k.
 abbrev pub inside : (name : ℕ → List ℕ) (k : ℕ) → Prefix → Prefix
-inside name k p = record { up = k + 1; len = p .len + length (name k) + 1; hash = mix (hash-on (p .hash) (name k)) 46 }
+inside name k p = record { hash = mix (hash-on (p .hash) (name k)) 46; len = p .len + length (name k) + 1 }
 
 -- One record is marked.
-pub record OneIn (name : ℕ → List ℕ) (k : ℕ) (p r : Prefix) (old new : List (List ℕ)) : Type 0 where
-  pub put : PutIn k (p .up) (p .len + length (name k)) (tag (hash-on (p .hash) (name k))) old new
+pub record OneIn (name : ℕ → List ℕ) (k up : ℕ) (p r : Prefix) (old new : List (List ℕ)) : Type 0 where
+  pub put : PutIn k up (p .len + length (name k)) (tag (hash-on (p .hash) (name k))) old new
   pub inner : r ≡ inside name k p
   pub room : r .len ≤ p .len + 256
 

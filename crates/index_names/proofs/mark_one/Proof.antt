@@ -8,13 +8,13 @@ pub mark-one-spec : {M : Type 1} → statement M
 mark-one-spec =
     tie.close
     (tie.spec
+    (λ c κs. search needs)  -- name-of-requires
     (λ c κs. search needs)  -- name-len-requires
     (λ c. search needs)  -- add-len
-    (λ c κs. search needs)  -- name-hash-requires
+    (λ c κs. search needs)  -- hash-on-requires
     (λ c κs. search needs)  -- tag-requires
     (λ c κs. search needs)  -- put-mark-requires
-    (λ c. search needs)  -- add-t9
-    (λ c. search needs)  -- add-t12
     (λ c κs. search needs)  -- mixed-requires
+    (λ c. search needs)  -- add
     (λ c. search (one-marked, needs))  -- returns
     )

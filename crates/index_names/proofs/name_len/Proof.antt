@@ -12,5 +12,6 @@ name-len-spec =
     (λ c. search (sourced, needs))  -- index-1-planned-name-len
     (λ c. search (sourced, needs))  -- index-2-planned-name-len
     (λ c κs. let s = c .before in source-in _ _ _ _ (s .pre .1) (s .pre .0))  -- planned-name-len-requires
+    (λ c. search (sourced, needs))  -- cast
     (λ c. search (sourced, needs))  -- returns
     )
