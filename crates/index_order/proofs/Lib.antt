@@ -1,5 +1,2 @@
-pub mod Ordering
-pub mod Ends
-pub mod Blocks
 pub mod Walking
-pub mod Keeping
+pub mod Naming
