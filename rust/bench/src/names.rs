@@ -70,6 +70,18 @@ fn apart(records: usize, of: &[Vec<String>]) -> Vec<Node> {
     numbered(roots)
 }
 
+/// So many chains of as many levels as there may be, and before them roots that have such full names
+/// in one piece, of each level from the third on. What is remembered is of a slot, and each of these
+/// roots has but one: so chains are compared with them all the way up.
+fn whole(records: usize, count: usize) -> Vec<Node> {
+    let of = even(&WORDS, LEVELS, 8);
+    let (chained, others) = of.split_at(count);
+    let pieces =
+        others.iter().flat_map(|names| (3..=LEVELS).map(|levels| names[..levels].join(".")));
+    let whole = roots(pieces.take(records - count * LEVELS));
+    numbered([whole, chains(count * LEVELS, chained, None)].concat())
+}
+
 /// The own names of chains whose full names differ in the first word alone; each has so many bytes.
 fn even(words: &[String], levels: usize, bytes: usize) -> Vec<Vec<String>> {
     let names = |word: &String| {
@@ -127,6 +139,8 @@ pub fn bad_structs(records: usize) -> Vec<Bad> {
         ("8 chains of long names, a struct a leaf", apart(records, &higher(8, 255))),
         ("32 chains of short names, a struct a leaf", apart(records, &higher(32, 15))),
         ("24 chains of short names, cut in 3 ways", named(unevenly(24, 3, [15; 2]), 15)),
+        ("64 chains of 15 levels, one leaf each", chains(records, &evenly(64, 31), None)),
+        ("50 chains behind roots of whole full names", whole(records, 50)),
         // so few names of one hash that the chains of the index are not given up
         (
             "14 chains cut in 14 ways, one leaf each",

@@ -167,7 +167,7 @@ fn change_at(roots: &mut Vec<Node>, path: &[usize], change: &Change) {
         match change {
             Change::Word(word) => start_with(&mut node.name, word),
             Change::Length(bytes) => node.name.resize(*bytes, b'x'),
-            Change::Dot(place) => {
+            Change::Dot(place) if !node.name.is_empty() => {
                 let place = place % node.name.len();
                 node.name[place] = if node.name[place] == b'.' { b'x' } else { b'.' };
             }

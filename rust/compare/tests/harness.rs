@@ -1,6 +1,8 @@
 //! The comparison finds what is wrong with a port.
 
-use std::collections::HashSet;
+use std::cmp::Ordering;
+use std::collections::{HashMap, HashSet};
+use std::iter;
 
 use cases::{
     Ask, Broken, ByJudge, Case, Generator, Of, Operations, Sizes, broken_in, budget_left, named,
@@ -1960,6 +1962,44 @@ fn same_to_the_first_cut(tree: &Tree, one: usize, other: usize) -> bool {
     same_length(tree, one, other) && end(tree.full_name(one)) == end(tree.full_name(other))
 }
 
+/// The first slot whose name a sorted row has already, sought by halves as the port does, where
+/// comparisons are remembered: for a slot how a record above another name stands to as much of the
+/// slot's. The rule says whether that is believed of a record.
+fn remembering(tree: &Tree, believed: fn(&Tree, usize, usize) -> bool) -> Option<usize> {
+    let names: Vec<Vec<u8>> = (0..tree.rows.len()).map(|slot| tree.full_name(slot)).collect();
+    let path = |slot: usize| iter::successors(Some(slot), |slot| tree.rows[*slot].parent);
+    let mut kept = HashMap::new();
+    let mut order = |met: usize, slot: usize| {
+        let [a, b] = [met, slot].map(|slot| &names[slot]);
+        let order = a.len().cmp(&b.len()).then_with(|| a.iter().rev().cmp(b.iter().rev()));
+        let above = path(slot).skip(1).map(|up| (up, names[up].len()));
+        for (up, rest) in
+            above.take_while(|(_, rest)| a.len() == b.len() && a[*rest..] == b[*rest..])
+        {
+            let place = path(met).take_while(|at| names[*at].len() >= rest).last();
+            match kept.insert(place, (up, order)) {
+                Some((of, told)) if believed(tree, of, up) => return told,
+                _ => {}
+            }
+        }
+        order
+    };
+    let mut row: Vec<usize> = vec![];
+    for slot in 0..names.len() {
+        let (mut low, mut high) = (0, row.len());
+        while low < high {
+            let half = (low + high) / 2;
+            match order(row[half], slot) {
+                Ordering::Less => low = half + 1,
+                Ordering::Greater => high = half,
+                Ordering::Equal => return Some(slot),
+            }
+        }
+        row.insert(low, slot);
+    }
+    None
+}
+
 /// Every one is right but where names crowd their chains.
 #[test]
 fn wrong_ways_to_sort_names_are_found() {
@@ -1990,6 +2030,14 @@ fn wrong_ways_to_sort_names_are_found() {
             (slot + 1 < tree.rows.len()).then_some(slot)
         };
         "no two names are equal", |_| None;
+        "the right way, remembering",
+        |tree| remembering(tree, |_, of, up| of == up);
+        "what is remembered of any record is believed",
+        |tree| remembering(tree, |_, _, _| true);
+        "what is remembered of the record above is believed",
+        |tree| remembering(tree, |tree, of, up| of == up || tree.rows[up].parent == Some(of));
+        "what is remembered of a record inside is believed",
+        |tree| remembering(tree, |tree, of, up| of == up || tree.rows[of].parent == Some(up));
     );
 }
 

@@ -15,6 +15,7 @@ pub fn put(all: &mut Cases) {
     edge(all, &words);
     repeats(all, &words);
     cuts(all, &words);
+    levels(all, &words);
     rebuilt(all, &words);
     most(all, &words);
 }
@@ -140,6 +141,26 @@ fn cuts(all: &mut Cases, words: &[&str]) {
     all.put_beside(title, name(&base, &joined(&[a, b])), Expected::Found(103, 19));
     base.push(p(105, ""));
     all.put_beside("sorted: an empty name", name(&base, ""), Expected::Found(105, 20));
+}
+
+/// 8 of names whose comparisons are remembered at one level, and asked for at another: in structs
+/// whose names reach over both levels.
+fn levels(all: &mut Cases, words: &[&str]) {
+    let mut words = words[..WITHIN + 2].to_vec();
+    words.sort_by_key(|word| word.bytes().rev().collect::<Vec<u8>>());
+    let others = words[1..].iter().zip(0..);
+    let over = others.map(|(word, n)| s(20 + n, &format!("{word}.x"), vec![p(50 + n, "m")]));
+    let over: Vec<Node> = over.collect();
+    let mut put = |title: &str, inside: Vec<Node>, again: &str| {
+        let more = [s(1, words[0], inside), p(2, &format!("{}.{again}", words[0]))];
+        let base = [&over[..], &more].concat();
+        let last = Tree::of(&base).rows.len() as u32 - 1;
+        all.put_beside(title, update(&base, 200, &[], &[]), refused(8, 0, last));
+    };
+    let strukt = |id: i32, name: &str| s(id, name, vec![p(id + 1, "m")]);
+    let [cut, y, z] = [p(3, "x.m"), strukt(4, "y"), strukt(6, "z")];
+    put("sorted: 8, the outer level is remembered", vec![cut.clone(), y.clone()], "y.m");
+    put("sorted: 8, the inner level is remembered", vec![y, z, cut], "x.m");
 }
 
 /// The base is in chains, the rebuilt tree is not, or the other way round.
