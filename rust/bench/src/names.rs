@@ -70,9 +70,9 @@ fn apart(records: usize, of: &[Vec<String>]) -> Vec<Node> {
     numbered(roots)
 }
 
-/// So many chains of as many levels as there may be, and before them roots that have such full names
-/// in one piece, of each level from the third on. What is remembered is of a slot, and each of these
-/// roots has but one: so chains are compared with them all the way up.
+/// So many chains of as many levels as there may be, and before them roots that have such full
+/// names in one piece, of each level from the third on. What is remembered is of a slot, and each
+/// of these roots has but one: so chains are compared with them all the way up.
 fn whole(records: usize, count: usize) -> Vec<Node> {
     let of = even(&WORDS, LEVELS, 8);
     let (chained, others) = of.split_at(count);
