@@ -5,8 +5,8 @@ use std::sync::atomic::{AtomicUsize, Ordering};
 use braidhurdle::c;
 use cases::{
     Answer, Ask, ByJudge, Case, Generator, Sizes, answer, ask_of, by_version, decimal, edited,
-    ids_by, list_of, lists, map_of, outcome, packed, prim, prune_by, relax, rename, renumber_by,
-    strukt, the_tree, update_of, widen,
+    hash, ids_by, list_of, lists, map_of, outcome, packed, prim, prune_by, relax, rename,
+    renumber_by, strukt, tag, the_tree, update_of, widen, word,
 };
 use judge::{DATE, DEFAULT, DOUBLE, FLOAT, INT, LONG, Node, REQUIRED, TIMESTAMP_NS};
 use port::{Guarded, absent, beside_paper};
@@ -356,6 +356,46 @@ fn name_by_text(records: &[u8], pool: &[u8], slot: u32) -> c::Name {
         return c::Name { refusal: 4, place: slot, ..c::Name::default() };
     }
     c::Name { found: 1, offset, length, ..c::Name::default() }
+}
+
+/// Names of so many letters that share a tag, so that the port compares them byte by byte: those
+/// that differ at the end, and those that differ at the front.
+fn of_one_tag(letters: usize) -> [Vec<Vec<u8>>; 2] {
+    let some = |turned: bool| {
+        let name = |n| {
+            let mut name = [vec![b'0'; letters - 4], word(n, 4)].concat();
+            if turned {
+                name.reverse();
+            }
+            name
+        };
+        let first = tag(hash(&name(0), 0));
+        (0..).map(name).filter(|name| tag(hash(name, 0)) == first).take(20).collect()
+    };
+    [some(false), some(true)]
+}
+
+/// Four to seven letters are compared as two words, eight to fifteen as two halves of a block, more
+/// in blocks: so many names of one tag are sorted, and each is found, and found to be there twice.
+#[test]
+fn names_of_one_tag_are_told_apart_whatever_their_length() {
+    if let Some(why) = absent() {
+        println!("no name was put to the port: {why}");
+        return;
+    }
+    let port = Guarded::port();
+    let agree = |case: Case| assert_eq!(beside_paper(&case, &port), Ok(true), "{case:?}");
+    for names in (4..=18).flat_map(of_one_tag) {
+        let text = |name: &Vec<u8>| String::from_utf8(name.clone()).expect("letters");
+        let roots: Vec<Node> = (1..).zip(&names).map(|(id, name)| prim(id, &text(name))).collect();
+        for (at, name) in names.iter().enumerate() {
+            agree(ask_of(packed(&roots), Ask::Name(name.clone())));
+            // beside all others, and as one of them again
+            agree(update_of(&roots, &[], 100, &[&text(name)], &[(None, prim(0, "x"))]));
+            let twice = [&roots[..], &[prim(99, &text(&names[at]))]].concat();
+            agree(ask_of(packed(&twice), Ask::Id(1)));
+        }
+    }
 }
 
 #[test]
