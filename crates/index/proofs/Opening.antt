@@ -24,7 +24,7 @@ use Rattle.record.specs.declared.Found.{Found}
 use Rattle.record.specs.declared.Sought.the-variants as sought
 use Rattle.record.specs.Says.{found-row, looked}
 use Rattle.record.specs.Trees.{Trees, alone}
-use Rattle.record.proofs.Testing.{checked-ok, checked-refused}
+use Rattle.record.proofs.Testing.{refused-as, checked-ok, checked-refused}
 use Rattle.laws.proofs.Basics.{refused≢ok, bind-is, bind-not, bind-assoc}
 use Rattle.laws.proofs.Fitting.{sized-slots}
 use Rattle.tree.specs.declared.Shaped.{Shaped}
@@ -79,62 +79,59 @@ read-is : (s pool : List ℕ) → read s pool ≡ (only-read s pool >>= λ t. so
 unfolding read only-read
 read-is s pool = sym (bind-assoc (limited (sized s pool)) (λ _. decode 0 s pool) (λ t. sound 0 t [] >>= λ _. ok t))
 
--- what 2 and 3 to 6 told
-sized-then : {P : Type 0} (s pool : List ℕ) (t : Forest Field) → only-read s pool ≡ ok t → (sized s pool ≡ true → decode 0 s pool ≡ ok t → P) → P
-unfolding only-read _>>=_
-sized-then {P} s pool t e f = go (sized s pool) refl e
-  where
-    go : (b : Bool) → sized s pool ≡ b → (limited b >>= λ _. decode 0 s pool) ≡ ok t → P
-    go true q h = f q h
-    go false q h = absurd (refused≢ok h)
-
+-- What 2 to 6 told: a refusal of `read`, or a base that can be read.
 module _ (s pool : List ℕ) (w : Shaped) (ew : w ≡ decoded (only-read s pool)) where
-  pub open-refused : (plan : List (List ℕ)) (m : ℕ) (index : List (List ℕ)) (x : Refusal) → w ≡ shaped.Refused x → Opened s pool (check.Refused x) plan m index
-  open-refused plan m index x h =
+  pub unread : (x : Refusal) → w ≡ shaped.Refused x → read s pool ≡ refused-as x
+  unread x h = read-is s pool ∙ bind-not (only-read s pool) _ _ _ _ (decode-refused (only-read s pool) w x ew h)
+
+  pub readable : (k : ℕ) → w ≡ shaped.Roots k → Readable (alone s pool) (length s / 24)
+  unfolding only-read _>>=_
+  readable k ed = decode-ok _ (only-read s pool) w k ew ed λ t e _. go t (sized s pool) refl e
+    where
+      go : (t : Forest Field) (b : Bool) → sized s pool ≡ b → (limited b >>= λ _. decode 0 s pool) ≡ ok t → Readable (alone s pool) (length s / 24)
+      go t true q h = record { limits = q; count = refl; decodes = rw h }
+      go t false q h = absurd (refused≢ok h)
+
+-- ---- 7 and 8 of a base that was read
+
+module _ (s pool : List ℕ) (h : Readable (alone s pool) (length s / 24)) where
+  was-read : only-read s pool ≡ decode 0 s pool
+  unfolding only-read _>>=_
+  was-read = rw (h .limits)
+
+  pub opened : (r : Check) (old plan index : List (List ℕ)) → BaseIndexed (alone s pool) (length s / 24) [] r old plan index → Opened s pool r plan (length s / 24) index
+  unfolding id-list from
+  opened r old plan index b =
+      let u = fields-in (alone s pool) plan (length s / 24) in
+      let whole : read s pool ≡ (sound 0 u [] >>= λ _. ok u) = read-is s pool ∙ bind-is (only-read s pool) _ u (was-read ∙ b .tree) in
       record {
-        refusal = λ y q. let z : x ≡ y = cc in rw (← z) (read-is s pool ∙ bind-not (only-read s pool) _ _ _ _ (decode-refused (only-read s pool) w x ew h));
-        tree = λ q. absurd (let z : _≡_ {A = ℕ} 0 1 = cc in omega arith);
-        planned = λ q. absurd (let z : _≡_ {A = ℕ} 0 1 = cc in omega arith);
-        indexed = λ q. absurd (let z : _≡_ {A = ℕ} 0 1 = cc in omega arith);
+        refusal = λ x q. whole ∙ bind-not (sound 0 u []) _ _ _ _ (checked-refused (sound 0 u []) r x (b .answer) q);
+        tree = λ q. whole ∙ bind-is (sound 0 u []) _ tt (checked-ok (sound 0 u []) r (b .answer) q);
+        planned = λ q. b .planned;
+        indexed = b .indexed;
       }
 
-  module _ (k : ℕ) (ed : w ≡ shaped.Roots k) where
-    was-read : (P : Type 0) → ((t : Forest Field) → only-read s pool ≡ ok t → sized s pool ≡ true → decode 0 s pool ≡ ok t → P) → P
-    was-read P f = decode-ok _ (only-read s pool) w k ew ed λ t e _. sized-then s pool t e (f t e)
+pub test-refused : (s pool : List ℕ) (plan : List (List ℕ)) (m : ℕ) (index : List (List ℕ)) (r : Check) → Opened s pool r plan m index → (y : Refusal) → r ≡ check.Refused y → read s pool ≡ refused-as y
+test-refused s pool plan m index r o = o .refusal
 
-    pub open-readable : Readable (alone s pool) (length s / 24)
-    open-readable = was-read _ λ t e z d. record { limits = z; count = refl; decodes = rw d }
-
-    pub opened : (r : Check) (old plan index : List (List ℕ)) → BaseIndexed (alone s pool) (length s / 24) [] r old plan index → Opened s pool r plan (length s / 24) index
-    unfolding id-list from
-    opened r old plan index b = was-read _ λ t e z d.
-        let n = length s / 24 in
-        let u = fields-in (alone s pool) plan n in
-        let whole : read s pool ≡ (sound 0 u [] >>= λ _. ok u) = read-is s pool ∙ bind-is (only-read s pool) _ u (e ∙ sym d ∙ b .tree) in
-        record {
-          refusal = λ x q. whole ∙ bind-not (sound 0 u []) _ _ _ _ (checked-refused (sound 0 u []) r x (b .answer) q);
-          tree = λ q. whole ∙ bind-is (sound 0 u []) _ tt (checked-ok (sound 0 u []) r (b .answer) q);
-          planned = λ q. b .planned;
-          indexed = b .indexed;
-        }
-
-pub ruleset opening = (open-refused, open-readable, opened)
+pub ruleset reading = (roomy-fresh, fresh-index, unread, readable, test-refused)
 
 -- ---- the entries
 
-module _ (s pool : List ℕ) (plan : List (List ℕ)) (m : ℕ) (index : List (List ℕ)) (r : Check) (o : Opened s pool r plan m index) where
-  pub name-refused : (x : List ℕ) (y : Refusal) → r ≡ check.Refused y → sought.Refused y ≡ looked (find-name s pool x)
+module _ (s pool : List ℕ) (y : Refusal) (e : read s pool ≡ refused-as y) where
+  pub name-refused : (x : List ℕ) → sought.Refused y ≡ looked (find-name s pool x)
   unfolding find-name looked _>>=_
-  name-refused x y q = rw (o .refusal y q)
+  name-refused x = rw e
 
-  pub id-refused : (i : ℕ) (y : Refusal) → r ≡ check.Refused y → sought.Refused y ≡ looked (find-id s pool i)
+  pub id-refused : (i : ℕ) → sought.Refused y ≡ looked (find-id s pool i)
   unfolding find-id looked _>>=_
-  id-refused i y q = rw (o .refusal y q)
+  id-refused i = rw e
 
-  pub parent-refused : (i : ℕ) (y : Refusal) → r ≡ check.Refused y → sought.Refused y ≡ looked (find-parent s pool i)
+  pub parent-refused : (i : ℕ) → sought.Refused y ≡ looked (find-parent s pool i)
   unfolding find-parent looked _>>=_
-  parent-refused i y q = rw (o .refusal y q)
+  parent-refused i = rw e
 
+module _ (s pool : List ℕ) (plan : List (List ℕ)) (m : ℕ) (index : List (List ℕ)) (r : Check) (o : Opened s pool r plan m index) where
   module _ (q : r ≡ check.Fine) (h : Found) where
     pub name-looked : (x : List ℕ) → h ≡ found-row (look-name (fields-in (alone s pool) plan m) x) → sought.Looked h ≡ looked (find-name s pool x)
     unfolding find-name looked _>>=_
@@ -148,4 +145,4 @@ module _ (s pool : List ℕ) (plan : List (List ℕ)) (m : ℕ) (index : List (L
     unfolding find-parent looked _>>=_
     parent-looked i e = rw (o .tree q, e .finds (alone s pool) (o .planned q) (o .indexed q .raised))
 
-pub ruleset finding = (roomy-fresh, fresh-index, name-refused, id-refused, parent-refused, name-looked, id-looked, parent-looked)
+pub ruleset finding = (reading, name-refused, id-refused, parent-refused, name-looked, id-looked, parent-looked)

@@ -33,7 +33,7 @@ ghost use Rattle.paper.specs.Bytes.{turned};
 ghost use Rattle.paper.specs.Entries.{find-name, find-id, find-parent};
 ghost use Rattle.paper.specs.Rows.{look-name};
 ghost use Rattle.record.specs.Says.{found-row, looked};
-ghost use Rattle.record.specs.Trees.{trees-in};
+ghost use Rattle.record.specs.Trees.{trees-in, alone};
 ghost use Rattle.plan.specs.Table.{sources, numbers, members, PlanIn, fields-in, Roomy};
 ghost use Rattle.index_ids.specs.Chain.{Below, Cleared};
 ghost use Rattle.index_ids.specs.Table.{ups-in, name-heads, Rooms, Fresh};
@@ -208,21 +208,19 @@ pub fn look_name<'a>(
     look_short(trees, plan, m, name)
 }
 
-// Lent bytes as a base: refusals 2 to 8, or the plan of the tree that they hold, with its index.
-pub fn open_base<'a>(
+// Lent bytes as a base that passed 2 to 6: refusals 7 and 8, or its plan with its index. Its callers make the tables when 2 to 6 are
+// passed: to fill them takes longer than to read a small tree.
+pub fn test_base<'a>(
     records: &'a [u8],
     pool: &'a [u8],
     plan: &mut PlanRows,
     index: &mut IndexRows,
 ) -> Check
-    requires { ⌜ Roomy (now plan) × Fresh (now index) ⌝ }
+    requires { ⌜ Readable (alone (now records) (now pool)) (length (now records) / 24)
+        × (Roomy (now plan) × Fresh (now index)) ⌝ }
     ensures { λ r. ⌜ Opened (now (records .entry)) (now (pool .entry)) r (now (plan .exit))
         (length (now (records .entry)) / 24) (now (index .exit)) ⌝ }
 {
-    let read = read_tree(records, pool);
-    if let Shaped::Refused(r) = read {
-        return Check::Refused(r);
-    }
     let trees = [records, pool, records, pool, &pool[0..0]];
     index_base(&trees, records.len() / 24, b"", plan, index)
 }
@@ -232,10 +230,14 @@ pub fn find_name<'a>(records: &'a [u8], pool: &'a [u8], name: &[u8]) -> Sought
     ensures { λ r. ⌜ r ≡ looked (find-name (now (records .entry)) (now (pool .entry))
         (now (name .entry))) ⌝ }
 {
+    let read = read_tree(records, pool);
+    if let Shaped::Refused(r) = read {
+        return Sought::Refused(r);
+    }
     let mut plan = [[0u32; 1024]; 3];
     let mut index = [[0u16; 1024]; 8];
-    let opened = open_base(records, pool, &mut plan, &mut index);
-    if let Check::Refused(r) = opened {
+    let tested = test_base(records, pool, &mut plan, &mut index);
+    if let Check::Refused(r) = tested {
         return Sought::Refused(r);
     }
     let trees = [records, pool, records, pool, &pool[0..0]];
@@ -247,10 +249,14 @@ pub fn find_name<'a>(records: &'a [u8], pool: &'a [u8], name: &[u8]) -> Sought
 pub fn find_id<'a>(records: &'a [u8], pool: &'a [u8], id: FieldId) -> Sought
     ensures { λ r. ⌜ r ≡ looked (find-id (now (records .entry)) (now (pool .entry)) (id .0)) ⌝ }
 {
+    let read = read_tree(records, pool);
+    if let Shaped::Refused(r) = read {
+        return Sought::Refused(r);
+    }
     let mut plan = [[0u32; 1024]; 3];
     let mut index = [[0u16; 1024]; 8];
-    let opened = open_base(records, pool, &mut plan, &mut index);
-    if let Check::Refused(r) = opened {
+    let tested = test_base(records, pool, &mut plan, &mut index);
+    if let Check::Refused(r) = tested {
         return Sought::Refused(r);
     }
     Sought::Looked(look_id(&plan, records.len() / 24, &index, id))
@@ -260,10 +266,14 @@ pub fn find_id<'a>(records: &'a [u8], pool: &'a [u8], id: FieldId) -> Sought
 pub fn find_parent<'a>(records: &'a [u8], pool: &'a [u8], id: FieldId) -> Sought
     ensures { λ r. ⌜ r ≡ looked (find-parent (now (records .entry)) (now (pool .entry)) (id .0)) ⌝ }
 {
+    let read = read_tree(records, pool);
+    if let Shaped::Refused(r) = read {
+        return Sought::Refused(r);
+    }
     let mut plan = [[0u32; 1024]; 3];
     let mut index = [[0u16; 1024]; 8];
-    let opened = open_base(records, pool, &mut plan, &mut index);
-    if let Check::Refused(r) = opened {
+    let tested = test_base(records, pool, &mut plan, &mut index);
+    if let Check::Refused(r) = tested {
         return Sought::Refused(r);
     }
     Sought::Looked(look_parent(&plan, records.len() / 24, &index, id))

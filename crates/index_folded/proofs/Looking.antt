@@ -5,13 +5,12 @@ use mathlib.Core.List.{List, [], _∷_}
 use mathlib.Core.Option.{some}
 use Prim.Native.Nat.{ℕ, zero, suc, _-_, _<_, _≤_}
 use native.Mathlib.Omega.{arith}
-use borrow.Author.Tests.{eq-eqb, ne-eqb, not-true, not-false}
+use borrow.Author.Tests.{ne-eqb, not-true, not-false}
 use lib.Dec.{eqb}
-use lib.ListN.{length}
 use Rattle.paper.specs.declared.Kind.{Kind}
 use Rattle.paper.specs.declared.Role.the-variants.{Member}
 use Rattle.paper.specs.Answer.{_>>=_, among}
-use Rattle.paper.specs.Entries.{find-folded}
+use Rattle.paper.specs.Entries.{read, find-folded}
 use Rattle.paper.specs.Field.{Field}
 use Rattle.paper.specs.Folded.{folded, matching, or-short, only, look-folded}
 use Rattle.paper.specs.Forest.{Forest, mapped}
@@ -25,20 +24,20 @@ use Rattle.record.specs.declared.Found.{Found}
 use Rattle.record.specs.declared.FoundSlot.{FoundSlot}
 use Rattle.record.specs.declared.Sought.{Sought}
 use Rattle.record.specs.declared.Sought.the-variants as sought
-use Rattle.record.specs.Says.{refusal-of, found-row, looked, slot-before}
+use Rattle.record.specs.Says.{found-row, looked, slot-before}
+use Rattle.record.proofs.Testing.{refused-as}
 use Rattle.record.specs.Trees.{Trees, alone}
-use Rattle.plan.specs.Named.{name-in, kind-in, SourcesIn}
+use Rattle.plan.specs.Named.{name-in, kind-in}
 use Rattle.plan.specs.Plan.{planned-field, kids-in, plan-fields, Plan}
-use Rattle.plan.specs.Table.{sources, numbers, members, PlanIn, fields-in}
+use Rattle.plan.specs.Table.{fields-in}
 use Rattle.plan.specs.Walk.{walk, trees-of}
 use Rattle.plan.proofs.Standing.{field-in, field-id, plan-is, plan-sources}
-use Rattle.plan.proofs.Rooms.{roomy-fresh}
 use Rattle.plan.proofs.Walks.{all-there, all-numbered}
 use Rattle.index_ids.specs.Chain.{Below}
-use Rattle.index_ids.proofs.Tables.{fresh-index}
 use Rattle.index_turns.specs.Turn.{left-at, seen}
 use Rattle.index_turns.proofs.Fitting.{left-in}
 use Rattle.index.specs.Index.{found-slot, held, Opened}
+use Rattle.index.proofs.Opening.{reading}
 use Rattle.index_folded_names.specs.declared.Met.{Met}
 use Rattle.index_folded_names.specs.declared.Met.the-variants.{Twice, Past}
 use Rattle.index_folded_names.specs.Met.{matched, met, meeting}
@@ -178,13 +177,13 @@ pub ruleset looking = (plan-sources, walked-small, full-told, root-told, short-t
 
 -- ---- the entry
 
-module _ (s pool : List ℕ) (plan : List (List ℕ)) (m : ℕ) (index : List (List ℕ)) (r : Check) (o : Opened s pool r plan m index) (x : List ℕ) where
-  pub folded-refused : (y : Refusal) → r ≡ check.Refused y → sought.Refused y ≡ looked (find-folded s pool x)
+module _ (s pool x : List ℕ) where
+  pub folded-refused : (y : Refusal) → read s pool ≡ refused-as y → sought.Refused y ≡ looked (find-folded s pool x)
   unfolding find-folded looked _>>=_
-  folded-refused y q = rw (o .refusal y q)
+  folded-refused y e = rw e
 
-  pub folded-looked : (h : Sought) → r ≡ check.Fine → h ≡ looked (look-folded (fields-in (alone s pool) plan m) x) → h ≡ looked (find-folded s pool x)
+  pub folded-looked : (plan : List (List ℕ)) (m : ℕ) (index : List (List ℕ)) (r : Check) → Opened s pool r plan m index → (h : Sought) → r ≡ check.Fine → h ≡ looked (look-folded (fields-in (alone s pool) plan m) x) → h ≡ looked (find-folded s pool x)
   unfolding find-folded _>>=_
-  folded-looked h q e = e ∙ sym (ap looked (ap (λ t. t >>= λ u. look-folded u x) (o .tree q)))
+  folded-looked plan m index r o h q e = e ∙ sym (ap looked (ap (λ t. t >>= λ u. look-folded u x) (o .tree q)))
 
-pub ruleset finding = (roomy-fresh, fresh-index, folded-refused, folded-looked)
+pub ruleset finding = (reading, folded-refused, folded-looked)

@@ -1,6 +1,6 @@
 // The look-up that forgets case, beside the exact one of `index` (02, 1/13): full names, then short ones; refusal 21 where two match at
 // the same level.
-use index::open_base;
+use index::test_base;
 use index::with_id;
 use index_folded_names::Met;
 use index_folded_names::meet_row;
@@ -13,6 +13,8 @@ use record::Sought;
 use record::Trees;
 use record::has_dot;
 use record::slot_before;
+use tree::Shaped;
+use tree::read_tree;
 ghost use mathlib.Core.Path.{_≡_};
 ghost use Rattle.paper.specs.Entries.{find-folded};
 ghost use Rattle.paper.specs.Folded.{look-folded};
@@ -83,10 +85,14 @@ pub fn find_folded<'a>(records: &'a [u8], pool: &'a [u8], name: &[u8]) -> Sought
     ensures { λ r. ⌜ r ≡ looked (find-folded (now (records .entry)) (now (pool .entry))
         (now (name .entry))) ⌝ }
 {
+    let read = read_tree(records, pool);
+    if let Shaped::Refused(r) = read {
+        return Sought::Refused(r);
+    }
     let mut plan = [[0u32; 1024]; 3];
     let mut index = [[0u16; 1024]; 8];
-    let opened = open_base(records, pool, &mut plan, &mut index);
-    if let Check::Refused(r) = opened {
+    let tested = test_base(records, pool, &mut plan, &mut index);
+    if let Check::Refused(r) = tested {
         return Sought::Refused(r);
     }
     let trees = [records, pool, records, pool, &pool[0..0]];

@@ -30,12 +30,11 @@ use Rattle.record.specs.Trees.{Trees, alone}
 use Rattle.record.proofs.Testing.{refused-as}
 use Rattle.record_limits.proofs.Within.{whole-most}
 use Rattle.plan.specs.Table.{numbers, PlanIn, fields-in}
-use Rattle.plan.proofs.Rooms.{roomy-fresh}
 use Rattle.index_ids.specs.Chain.{lowest-below}
 use Rattle.index_ids.specs.Ids.{is-id}
 use Rattle.index_ids.proofs.Chains.{found-below-room}
-use Rattle.index_ids.proofs.Tables.{fresh-index}
 use Rattle.index.specs.Index.{found-slot, held, Opened}
+use Rattle.index.proofs.Opening.{reading}
 use Rattle.index.proofs.Looking.{finds-id}
 use Rattle.index_many.specs.declared.Searched.{Searched}
 use Rattle.index_many.specs.declared.Searched.the-variants.{Done, Refused}
@@ -156,15 +155,15 @@ module _ (s pool ids out : List ℕ) where
     unfolding find-ids _>>=_
     not-whole t = stops (refusal-of 2 0 0) (rw (le-leb (length ids) (length out) room, ← eb, not-true b t))
 
-    module _ (t : not b ≡ false) (plan : List (List ℕ)) (m : ℕ) (index : List (List ℕ)) (r : Check) (o : Opened s pool r plan m index) where
+    module _ (t : not b ≡ false) where
       reads : asked ≡ (read s pool >>= λ tree. ok (map (look-id tree) (id-list ids)))
       unfolding find-ids _>>=_
       reads = rw (le-leb (length ids) (length out) room, ← eb, not-false b t)
 
-      pub base-refused : (y : Refusal) → r ≡ check.Refused y → Ends (Refused y) out
-      base-refused y q = stops y (reads ∙ bind-not (read s pool) _ _ _ _ (o .refusal y q))
+      pub base-refused : (y : Refusal) → read s pool ≡ refused-as y → Ends (Refused y) out
+      base-refused y e = stops y (reads ∙ bind-not (read s pool) _ _ _ _ e)
 
-      module _ (q : r ≡ check.Fine) where
+      module _ (plan : List (List ℕ)) (m : ℕ) (index : List (List ℕ)) (r : Check) (o : Opened s pool r plan m index) (q : r ≡ check.Fine) where
         pub searchable : Searchable plan m index ids out
         searchable =
             record { few = o .planned q .few; chained = o .indexed q .by-id; asked = whole-most 4 1024 ids (sym eb ∙ not-false b t); room = room }
@@ -175,4 +174,4 @@ module _ (s pool ids out : List ℕ) where
             let e : asked ≡ ok (rows-of (alone s pool) plan m ids) = reads ∙ bind-is (read s pool) _ _ (o .tree q) in
             rw e (record { told = ap Done (h .counts (alone s pool) (o .planned q)); left = ap (λ (x : List ℕ). x ∷ []) (h .bytes (alone s pool) (o .planned q)) })
 
-pub ruleset finding = (roomy-fresh, fresh-index, room-short, not-whole, base-refused, searchable, all-looked)
+pub ruleset finding = (reading, room-short, not-whole, base-refused, searchable, all-looked)

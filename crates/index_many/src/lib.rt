@@ -1,5 +1,5 @@
 // Many ids looked up at once, in a tree that is tested once (02, 2/13): refusals 1 to 8, then the slot of each id.
-use index::open_base;
+use index::test_base;
 use index_ids::IndexRows;
 use index_ids::find_id;
 use plan::PlanRows;
@@ -10,6 +10,8 @@ use record::Refusal;
 use record::word_bytes;
 use record_entries::id_at;
 use record_limits::whole_list;
+use tree::Shaped;
+use tree::read_tree;
 ghost use mathlib.Core.Path.{_≡_};
 ghost use mathlib.Core.List.{[], _∷_};
 ghost use lib.ListN.{length};
@@ -85,10 +87,14 @@ pub fn find_ids<'a>(records: &'a [u8], pool: &'a [u8], ids: &[u8], out_slots: &m
             place: 0,
         });
     }
+    let read = read_tree(records, pool);
+    if let Shaped::Refused(r) = read {
+        return Searched::Refused(r);
+    }
     let mut plan = [[0u32; 1024]; 3];
     let mut index = [[0u16; 1024]; 8];
-    let opened = open_base(records, pool, &mut plan, &mut index);
-    if let Check::Refused(r) = opened {
+    let tested = test_base(records, pool, &mut plan, &mut index);
+    if let Check::Refused(r) = tested {
         return Searched::Refused(r);
     }
     Searched::Done(look_ids(&plan, records.len() / 24, &index, ids, out_slots))

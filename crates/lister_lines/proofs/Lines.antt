@@ -7,6 +7,7 @@ use native.Mathlib.Nat.{add-zero, zero-add}
 use native.Mathlib.Omega.{arith}
 use lib.ListN.{length, getD}
 use Rattle.paper.specs.Bytes.{from}
+use Rattle.paper.specs.Entries.{read}
 use Rattle.paper.specs.Field.{Field}
 use Rattle.paper.specs.Forest.{Forest, empty, node, size, mapped}
 use Rattle.paper.specs.Lister.{decimal, signed, parent-text, line, lines, listing, lister}
@@ -16,6 +17,7 @@ use Rattle.record.specs.declared.Refusal.{Refusal}
 use Rattle.record.specs.declared.Check.{Check}
 use Rattle.record.specs.declared.Check.the-variants as check
 use Rattle.record.specs.Trees.{Trees, alone}
+use Rattle.record.proofs.Testing.{refused-as}
 use Rattle.plan.specs.Plan.{kids-in}
 use Rattle.plan.specs.Table.{sources, numbers, members, PlanIn, fields-in}
 use Rattle.plan.proofs.Standing.{field-in, field-id, field-name, plan-is}
@@ -31,6 +33,7 @@ use Rattle.plan.proofs.Walks.{Numbered, all-there, all-numbered}
 use Rattle.index_names.proofs.Marking.{length-fulls, length-ups}
 use Rattle.index_names.proofs.Telling.{fulls-are}
 use Rattle.index.specs.Index.{Opened}
+use Rattle.index.proofs.Opening.{reading}
 use Rattle.lister_lines.specs.Text.{above, line-start, line-at, joined, refusal-text, Shown}
 
 lines-append : (a b : List Row) → lines (a ++ b) ≡ lines a ++ lines b
@@ -134,11 +137,13 @@ plan-listed l plan m index p rs =
 
 -- ---- the lister
 
-module _ (records pool : List ℕ) (r : Check) (plan : List (List ℕ)) (m : ℕ) (index : List (List ℕ)) (o : Opened records pool r plan m index) (at : ℕ) (out : List ℕ) (n : ℕ) (out′ : List ℕ) where
-  pub refusal-listed : (x : Refusal) → r ≡ check.Refused x → Shown (refusal-text x) at out n out′ → Shown (lister records pool) at out n out′
+module _ (records pool : List ℕ) (at : ℕ) (out : List ℕ) (n : ℕ) (out′ : List ℕ) where
+  pub refusal-listed : (x : Refusal) → read records pool ≡ refused-as x → Shown (refusal-text x) at out n out′ → Shown (lister records pool) at out n out′
   unfolding lister
-  refusal-listed x q h = rw (o .refusal x q) h
+  refusal-listed x e h = rw e h
 
-  pub tree-listed : r ≡ check.Fine → Shown (joined (line-at (alone records pool) plan index) m) at out n out′ → Shown (lister records pool) at out n out′
+  pub tree-listed : (r : Check) (plan : List (List ℕ)) (m : ℕ) (index : List (List ℕ)) → Opened records pool r plan m index → r ≡ check.Fine → Shown (joined (line-at (alone records pool) plan index) m) at out n out′ → Shown (lister records pool) at out n out′
   unfolding lister listing
-  tree-listed q h = rw (o .tree q, plan-listed (alone records pool) plan m index (o .planned q) (o .indexed q .raised)) h
+  tree-listed r plan m index o q h = rw (o .tree q, plan-listed (alone records pool) plan m index (o .planned q) (o .indexed q .raised)) h
+
+pub ruleset listed = (reading, refusal-listed, tree-listed)

@@ -1,5 +1,5 @@
 // The lister: from lent bytes to its text.
-use index::open_base;
+use index::test_base;
 use index_ids::IndexRows;
 use index_ids::LENS;
 use index_ids::UPS;
@@ -11,6 +11,8 @@ use plan::put_bytes;
 use record::Check;
 use record::Refusal;
 use record::Trees;
+use tree::Shaped;
+use tree::read_tree;
 ghost use mathlib.Core.Path.{_≡_};
 ghost use Prim.Native.Nat.{_+_, _-_, _<_, _≤_};
 ghost use lib.ListN.{length, take, drop};
@@ -239,10 +241,14 @@ pub fn listing<'a>(records: &'a [u8], pool: &'a [u8], from: usize, out: &mut [u8
     ensures { λ r. ⌜ Shown (lister (now (records .entry)) (now (pool .entry))) from
         (now (out .entry)) r (now (out .exit)) ⌝ }
 {
+    let read = read_tree(records, pool);
+    if let Shaped::Refused(refusal) = read {
+        return list_refusal(refusal, from, out);
+    }
     let mut plan = [[0u32; 1024]; 3];
     let mut index = [[0u16; 1024]; 8];
-    let opened = open_base(records, pool, &mut plan, &mut index);
-    if let Check::Refused(refusal) = opened {
+    let tested = test_base(records, pool, &mut plan, &mut index);
+    if let Check::Refused(refusal) = tested {
         return list_refusal(refusal, from, out);
     }
     let trees = [records, pool, records, pool, &pool[0..0]];

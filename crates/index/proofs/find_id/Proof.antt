@@ -8,10 +8,14 @@ pub find-id-spec : {M : Type 1} → statement M
 find-id-spec =
     tie.close
     (tie.spec
-    (λ c κs. search (finding, needs))  -- open-base-requires
-    (λ c. search (finding, needs))  -- enum-known-opened
+    (λ c κs. search (finding, needs))  -- read-tree-requires
+    (λ c. search (finding, needs))  -- enum-known-read
     (λ c. search (finding, needs))  -- returns
     (λ c. search (finding, needs))  -- enum-told
-    (λ c κs. let o = c .before .before .before .before .open-base .ensures in let q = c .before .before .enum-told .given .1 in (o .planned q .few, o .indexed q .by-id))  -- look-id-requires
+    (λ c κs. search (finding, needs))  -- test-base-requires
+    (λ c. search (finding, needs))  -- enum-known-tested
     (λ c. search (finding, needs))  -- returns-2
+    (λ c. search (finding, needs))  -- enum-told-2
+    (λ c κs. let o = c .before .before .before .before .test-base .ensures in let q = c .before .before .enum-told2 .given .1 in (o .planned q .few, o .indexed q .by-id))  -- look-id-requires
+    (λ c. search (finding, needs))  -- returns-3
     )

@@ -8,13 +8,17 @@ pub find-folded-spec : {M : Type 1} → statement M
 find-folded-spec =
     tie.close
     (tie.spec
-    (λ c κs. search (finding, needs))  -- open-base-requires
-    (λ c. search (finding, needs))  -- enum-known-opened
+    (λ c κs. search (finding, needs))  -- read-tree-requires
+    (λ c. search (finding, needs))  -- enum-known-read
     (λ c. search (finding, needs))  -- returns
     (λ c. search (finding, needs))  -- enum-told
+    (λ c κs. search (finding, needs))  -- test-base-requires
+    (λ c. search (finding, needs))  -- enum-known-tested
+    (λ c. search (finding, needs))  -- returns-2
+    (λ c. search (finding, needs))  -- enum-told-2
     (λ c. search needs)  -- sub-trees
     (λ c. search needs)  -- part-trees-start
     (λ c. search needs)  -- part-trees-end
-    (λ c κs. c .before .before .before .before .before .open-base .ensures .planned (c .before .before .before .enum-told .given .1))  -- look-folded-requires
-    (λ c. search (finding, needs))  -- returns-2
+    (λ c κs. c .before .before .before .before .before .test-base .ensures .planned (c .before .before .before .enum-told2 .given .1))  -- look-folded-requires
+    (λ c. search (finding, needs))  -- returns-3
     )

@@ -11,11 +11,15 @@ find-ids-spec =
     (λ c. search (finding, needs))  -- returns
     (λ c κs. search (finding, needs))  -- whole-list-requires
     (λ c. search (finding, needs))  -- returns-2
-    (λ c κs. search (finding, needs))  -- open-base-requires
-    (λ c. search (finding, needs))  -- enum-known-opened
+    (λ c κs. search (finding, needs))  -- read-tree-requires
+    (λ c. search (finding, needs))  -- enum-known-read
     (λ c. search (finding, needs))  -- returns-3
     (λ c. search (finding, needs))  -- enum-told
-    (λ c κs. searchable _ _ _ _ (c .before .before .before .before .before .before .before .before .before .before .if1 .left) _ (c .before .before .before .before .before .before .before .before .before .whole-list .ensures) (c .before .before .before .before .before .before .before .before .if2 .left) _ _ _ _ (c .before .before .before .before .before .open-base .ensures) (c .before .before .before .enum-told .given .1))  -- look-ids-requires
-    (λ c. search (finding, needs))  -- same-length
+    (λ c κs. search (finding, needs))  -- test-base-requires
+    (λ c. search (finding, needs))  -- enum-known-tested
     (λ c. search (finding, needs))  -- returns-4
+    (λ c. search (finding, needs))  -- enum-told-2
+    (λ c κs. searchable _ _ _ _ (c .before .before .before .before .before .before .before .before .before .before .before .before .before .if1 .left) _ (c .before .before .before .before .before .before .before .before .before .before .before .before .whole-list .ensures) (c .before .before .before .before .before .before .before .before .before .before .before .if2 .left) _ _ _ _ (c .before .before .before .before .before .test-base .ensures) (c .before .before .before .enum-told2 .given .1))  -- look-ids-requires
+    (λ c. search (finding, needs))  -- same-length
+    (λ c. search (finding, needs))  -- returns-5
     )
