@@ -97,13 +97,13 @@ pub fn prune<'a>(
             let trees = [records, pool, records, pool, &pool[0..0]];
             let mut plan = [[0u32; 1024]; 3];
             let mut index = [[0u16; 1024]; 8];
-            let mut marks = [0u8; 1024];
             // test: 7 and 8, with the base as its own plan
             let tested = index_base(&trees, records.len() / 24, b"", &mut plan, &mut index);
             if let Check::Refused(r) = tested {
                 return Changed::Refused(r);
             }
             // decide: what is chosen, and 20
+            let mut marks = [0u8; 1024];
             let decided = decide(records, selected, full, count, &plan, &index, &mut marks);
             if let Check::Refused(r) = decided {
                 return Changed::Refused(r);

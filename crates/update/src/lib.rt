@@ -118,8 +118,6 @@ pub fn update<'a>(
         Opened::Roots(roots, columns) => {
             let mut plan = [[0u32; 1024]; 3];
             let mut index = [[0u16; 1024]; 8];
-            let mut decisions = [[0u64; 64]; 4];
-            let mut marks = [0u16; 1024];
             // test
             let n = trees[RECORDS].len() / 24;
             let sound = index_base(trees, n, lists[IDENTIFIERS], &mut plan, &mut index);
@@ -128,6 +126,8 @@ pub fn update<'a>(
             }
             // decide
             let last = counted(last_id);
+            let mut decisions = [[0u64; 64]; 4];
+            let mut marks = [0u16; 1024];
             match decide(
                 trees,
                 lists,
