@@ -2,7 +2,7 @@
 use mathlib.Core.Path.{_≡_, refl, sym, ap, _∙_}
 use mathlib.Core.Bool.{Bool, true, false, not, _&&_}
 use mathlib.Core.List.{List, [], _∷_, map}
-use Prim.Native.Nat.{ℕ, _+_, _-_, _≤_, _<_}
+use Prim.Native.Nat.{ℕ, _+_, _-_, _/_, _≤_, _<_}
 use native.Mathlib.Omega.{arith}
 use borrow.Author.Tests.{not-true, not-false, leb-true, lt-ltb, le-ltb}
 use lib.Dec.{leb, ltb}
@@ -47,7 +47,8 @@ use Rattle.index.specs.Index.{Readable, BaseIndexed}
 use Rattle.index_names.proofs.Rows.{plan-ids}
 use Rattle.renumber_id_reassigner.specs.declared.Reassigned.{Reassigned}
 use Rattle.renumber_id_reassigner.specs.Numbers.{Room, Given}
-use Rattle.renumber_identifiers.specs.Mapped.{Mappable, mapped-bytes, Mapped}
+use Rattle.renumber_identifiers.specs.Mapped.{Findable, Located, Applicable, Applied, mapped-bytes}
+use Rattle.renumber_identifiers.proofs.Mapping.{located-small, located-mapped}
 use Rattle.renumber.specs.Opening.{opened}
 use Rattle.renumber.proofs.NewIds.{new-plan, new-fields}
 
@@ -135,8 +136,8 @@ module _ (records pool identifiers : List ℕ) (lr ln li : ℕ) where
       pub few-records : slots records < 4294967296
       few-records = let a = few in omega arith
 
-      pub numbers-left : (zeros : List ℕ) (first : ℕ) → first ≤ 4294967295 - slots records → Room records 16 c 0 zeros first
-      numbers-left zeros first l = let a = o .all in let e = few in record { there = o .there; numbers = omega arith }
+      pub numbers-left : (is : List ℕ) (first : ℕ) → first ≤ 4294967295 - slots records → Room records 16 c 0 is first
+      numbers-left is first l = let a = o .all in let e = few in record { there = o .there; numbers = omega arith }
 
       module _ (r : Check) (zeros plan index : List (List ℕ)) (b : BaseIndexed (alone records pool) (slots records) identifiers r zeros plan index) where
         abbrev tree : Forest Field
@@ -168,14 +169,21 @@ module _ (records pool identifiers : List ℕ) (lr ln li : ℕ) where
           ids-are : ids tree ≡ ids-in (numbers plan) (slots records)
           ids-are = plan-ids (alone records pool) _ _ _ _ (b .planned)
 
-          pub mappable : (out : List ℕ) → li ≡ length out → Mappable identifiers (numbers plan) index (slots records) out
-          mappable out e =
+          pub findable : (blank : List ℕ) → length blank ≡ 64 → Findable identifiers (numbers plan) index (slots records) blank
+          findable blank e =
               record {
                 few = few;
                 chained = b .indexed d .by-id;
                 known = rw (← ids-are) (sound-known 0 tree (id-list identifiers) is-sound);
-                room = rw (← e) (leb-true (length identifiers) li (both (room lr ln) (leb (length identifiers) li) (p .rooms) .1));
+                few-identifiers = few-identifiers;
+                room = e;
               }
+
+          pub applicable : (found out : List ℕ) → Located identifiers (numbers plan) (slots records) found → li ≡ length out → Applicable (length identifiers / 4) found out
+          applicable found out h e =
+              let f = few-identifiers in
+              let r = leb-true (length identifiers) li (both (room lr ln) (leb (length identifiers) li) (p .rooms) .1) in
+              record { few = omega arith; small = located-small identifiers (numbers plan) (slots records) found h few; room = omega arith }
 
           module _ (new : List ℕ) where
             planned : PlanIn (alone records pool) (set plan 1 new) (slots records)
@@ -188,7 +196,7 @@ module _ (records pool identifiers : List ℕ) (lr ln li : ℕ) where
               pub few-names : names < 4294967296
               few-names = let e = length-pool (fields-in (alone records pool) (set plan 1 new) (slots records)) in let a = v .bytes in let f = planned .sum in omega arith
 
-              module _ (first : ℕ) (l : first ≤ 4294967295 - slots records) (s : Reassigned) (blank : List ℕ) (lb : length blank ≡ 1024) (g : Given records false 16 c 0 blank first s new) where
+              module _ (first : ℕ) (l : first ≤ 4294967295 - slots records) (s : Reassigned) (g : Given records false 16 c 0 (numbers plan) first s new) where
                 abbrev new-tree : Forest Field
                 new-tree = numbered with-id kind-of first tree
 
@@ -197,17 +205,16 @@ module _ (records pool identifiers : List ℕ) (lr ln li : ℕ) where
                 new-tree-is =
                     let a = few in
                     new-row plan new (b .roomy .rows) (λ xs is ks. plan-fields (alone records pool) xs is ks (slots records) ≡ new-tree)
-                    (new-fields (alone records pool) _ _ _ _ (b .planned) new records pool blank first (row-of records 16 c 0 .trees) (ok-is (sym (o .tree) ∙ b .tree)) (omega arith) lb (g .given))
+                    (new-fields (alone records pool) _ _ _ _ (b .planned) new records pool first (row-of records 16 c 0 .trees) (ok-is (sym (o .tree) ∙ b .tree)) (omega arith) (b .roomy .numbers-room) (g .given))
 
-                new-ids-are : ids new-tree ≡ ids-in new (slots records)
-                new-ids-are =
-                    sym (ap ids new-tree-is) ∙ plan-ids (alone records pool) _ _ _ _ planned
-                    ∙ ap (λ (is : List ℕ). ids-in is (slots records)) (getD-set-same plan 1 new [] (let a = b .roomy .rows in omega arith))
+                new-ids-are : ids new-tree ≡ ids-in (numbers (set plan 1 new)) (slots records)
+                new-ids-are = sym (ap ids new-tree-is) ∙ plan-ids (alone records pool) _ _ _ _ planned
 
-                pub done : (start : ℕ) (out-identifiers identifiers′ : List ℕ) → first ≡ turned start → Mapped identifiers (numbers plan) new (slots records) out-identifiers identifiers′
+                pub done : (start : ℕ) (found out-identifiers identifiers′ : List ℕ) → first ≡ turned start → Located identifiers (numbers plan) (slots records) found
+                    → Applied (length identifiers / 4) found (numbers (set plan 1 new)) out-identifiers identifiers′
                     → Answers changes (entry start) (for-records out-records ∷ for-names out-names ∷ for-identifiers out-identifiers ∷ []) (changed.Done (record { records = slots records; names = names; «last_id» = 0; visited = 0 })) (records′ ∷ names′ ∷ identifiers′ ∷ [])
                 unfolding after-6 renumber _>>=_ changes leaves mapped-bytes
-                done start out-identifiers identifiers′ ef m =
+                done start found out-identifiers identifiers′ ef h m =
                     let a = few in
                     let z = tree-size in
                     let q : ltb highest (turned start + size tree) ≡ false = le-ltb highest (turned start + size tree) (omega arith) in
@@ -215,5 +222,5 @@ module _ (records pool identifiers : List ℕ) (lr ln li : ℕ) where
                     let e : entry start ≡ ok (record { tree = new-tree; identifiers = B; last = 0; visited = 0 }) = entry-is start ∙ rw (is-sound, q, ef) in
                     let y : size new-tree ≡ slots records = sym (ap size new-tree-is) ∙ fields-size (set plan 1 new) (slots records) (planned .shaped) (alone records pool) in
                     let v′ = rw new-tree-is at v in
-                    let written = rw (← ids-are, ← new-ids-are) at (m .bytes) in
+                    let written = rw (← ids-are, ← new-ids-are) at (located-mapped identifiers (numbers plan) (slots records) found h (numbers (set plan 1 new)) out-identifiers identifiers′ m .bytes) in
                     rw e (record { told = rw (y, v′ .bytes); left = rw (v′ .rows, v′ .pool, written) refl })

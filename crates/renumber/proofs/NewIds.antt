@@ -85,10 +85,10 @@ module _ (l : Trees) (xs old ks : List ℕ) (m : ℕ) (p : Plan l xs old ks m) (
       let d : (is : List ℕ) → Draft l xs is ks m = λ is. record { few = p .few; sits = p .sits; shaped = p .shaped } in
       record { few = p .few; sits = p .sits; shaped = p .shaped; sum = rw (draft-sum l (xs ∷ new ∷ ks ∷ []) m (d new), ← (draft-sum l (xs ∷ old ∷ ks ∷ []) m (d old))) (p .sum) }
 
-  pub new-fields : (records pool zeros : List ℕ) (first : ℕ) (t : Forest ℕ) → mapped (field-at pool records) t ≡ plan-fields l xs old ks m → first + m < 4294967296 → length zeros ≡ 1024
-      → new ≡ sets zeros 0 (new-ids (kind-at records) false first (first + siblings t) t) → plan-fields l xs new ks m ≡ numbered with-id kind-of first (plan-fields l xs old ks m)
+  pub new-fields : (records pool : List ℕ) (first : ℕ) (t : Forest ℕ) → mapped (field-at pool records) t ≡ plan-fields l xs old ks m → first + m < 4294967296 → length old ≡ 1024
+      → new ≡ sets old 0 (new-ids (kind-at records) false first (first + siblings t) t) → plan-fields l xs new ks m ≡ numbered with-id kind-of first (plan-fields l xs old ks m)
   unfolding planned-field field-at numbered
-  new-fields records pool zeros first t et f lz e =
+  new-fields records pool first t et f lo e =
       let u = trees-of (kids-in ks) m in
       let fld = field-in l xs old in
       let few = p .few in
@@ -98,7 +98,7 @@ module _ (l : Trees) (xs old ks : List ℕ) (m : ℕ) (p : Plan l xs old ks m) (
       let lw = length-new (λ k. kind-of (fld k)) false first (first + siblings u) u in
       let same : new-ids (kind-at records) false first (first + siblings t) t ≡ W = of-fields (field-at pool records) first t ∙ ap (λ (y : Forest Field). preorder (numbered (λ i _. turned i) kind-of first y)) (et ∙ is-u) ∙ sym (of-fields fld first u) in
       let back = read-back new (λ k. kind-of (fld k)) 0 false first (first + siblings u) (first + size u) u (all-numbered (kids-in ks) m) (omega arith, omega arith) (omega arith)
-      (λ j b. rw (e, same) (getD-sets W zeros 0 j 0 (omega arith) (omega arith))) in
+      (λ j b. rw (e, same) (getD-sets W old 0 j 0 (omega arith) (omega arith))) in
       plan-is l xs new ks m new-plan
       ∙ sym (ap (mapped (λ (a : ℕ × ℕ). with-id (a .0) (fld (a .1)))) back ∙ mapped-mapped (λ j. with-slot (id-in new j) j) (λ (a : ℕ × ℕ). with-id (a .0) (fld (a .1))) u)
       ∙ sym (ap (numbered with-id kind-of first) is-u ∙ numbered-mapped fld (λ (a : ℕ × ℕ). with-id (a .0) (fld (a .1))) with-slot with-id (λ i a. refl) kind-of first u)

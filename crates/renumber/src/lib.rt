@@ -11,6 +11,7 @@ use record_limits::room_with_identifiers;
 use record_limits::sized_identifiers;
 use renumber_id_reassigner::reassign_field_ids;
 use renumber_identifiers::apply_to_identifier_fields;
+use renumber_identifiers::find_identifiers;
 use tree::Shaped;
 use tree::check_tree;
 ghost use mathlib.Core.Path.{_≡_};
@@ -102,11 +103,11 @@ pub fn renumber<'a>(
                     place: 0,
                 });
             }
-            // plan: the new ids, once the identifiers are mapped by the old ones
-            let mut new_ids = [0u32; 1024];
-            reassign_field_ids(records, 0, count, 16, &mut new_ids, first);
-            apply_to_identifier_fields(identifiers, &plan, &new_ids, &index, n, out_identifiers);
-            plan[NUMBERS] = new_ids;
+            // plan: the new ids. The index finds a record by its old id, so the identifiers' slots are looked up before
+            let mut slots = [0u16; 64];
+            find_identifiers(identifiers, &plan, &index, n, &mut slots);
+            reassign_field_ids(records, 0, count, 16, &mut plan[NUMBERS], first);
+            apply_to_identifier_fields(identifiers.len() / 4, &slots, &plan, out_identifiers);
             // write
             let names = write_plan(&trees, &plan, n, out_records, out_names);
             Changed::Done(Sizes {
