@@ -47,8 +47,8 @@ use Rattle.index.specs.Index.{Readable, BaseIndexed}
 use Rattle.index_names.proofs.Rows.{plan-ids}
 use Rattle.renumber_id_reassigner.specs.declared.Reassigned.{Reassigned}
 use Rattle.renumber_id_reassigner.specs.Numbers.{Room, Given}
-use Rattle.renumber_identifiers.specs.Mapped.{Findable, Located, Applicable, Applied, mapped-bytes}
-use Rattle.renumber_identifiers.proofs.Mapping.{located-small, located-mapped}
+use Rattle.renumber_identifiers.specs.Mapped.{Findable, Located, Applicable, Applied}
+use Rattle.renumber_identifiers.proofs.Mapping.{located-small, located-bytes}
 use Rattle.renumber.specs.Opening.{opened}
 use Rattle.renumber.proofs.NewIds.{new-plan, new-fields}
 
@@ -213,7 +213,7 @@ module _ (records pool identifiers : List ℕ) (lr ln li : ℕ) where
                 pub done : (start : ℕ) (found out-identifiers identifiers′ : List ℕ) → first ≡ turned start → Located identifiers (numbers plan) (slots records) found
                     → Applied (length identifiers / 4) found (numbers (set plan 1 new)) out-identifiers identifiers′
                     → Answers changes (entry start) (for-records out-records ∷ for-names out-names ∷ for-identifiers out-identifiers ∷ []) (changed.Done (record { records = slots records; names = names; «last_id» = 0; visited = 0 })) (records′ ∷ names′ ∷ identifiers′ ∷ [])
-                unfolding after-6 renumber _>>=_ changes leaves mapped-bytes
+                unfolding after-6 renumber _>>=_ changes leaves
                 done start found out-identifiers identifiers′ ef h m =
                     let a = few in
                     let z = tree-size in
@@ -222,5 +222,5 @@ module _ (records pool identifiers : List ℕ) (lr ln li : ℕ) where
                     let e : entry start ≡ ok (record { tree = new-tree; identifiers = B; last = 0; visited = 0 }) = entry-is start ∙ rw (is-sound, q, ef) in
                     let y : size new-tree ≡ slots records = sym (ap size new-tree-is) ∙ fields-size (set plan 1 new) (slots records) (planned .shaped) (alone records pool) in
                     let v′ = rw new-tree-is at v in
-                    let written = rw (← ids-are, ← new-ids-are) at (located-mapped identifiers (numbers plan) (slots records) found h (numbers (set plan 1 new)) out-identifiers identifiers′ m .bytes) in
+                    let written = rw (located-bytes identifiers (numbers plan) (slots records) found h (numbers (set plan 1 new)), ← ids-are, ← new-ids-are) at (m .bytes) in
                     rw e (record { told = rw (y, v′ .bytes); left = rw (v′ .rows, v′ .pool, written) refl })

@@ -4,7 +4,7 @@ use Prim.Native.Nat.{ℕ, zero, suc, _+_, _*_, _/_, _≤_, _<_}
 use mathlib.Core.Path.{_≡_, refl, sym, ap, _∙_}
 use mathlib.Core.Logic.{_⊎_, inl, inr}
 use mathlib.Core.Bool.{Bool, true, false, not}
-use mathlib.Core.List.{List, [], _∷_, _++_}
+use mathlib.Core.List.{List, [], _∷_, _++_, map}
 use mathlib.Core.Option.{some}
 use native.Mathlib.Nat.{zero-add}
 use native.Mathlib.Omega.{arith}
@@ -28,7 +28,7 @@ use Rattle.index_ids.specs.Chain.{lowest-below}
 use Rattle.index_ids.proofs.Chains.{eqb-cases, found-within}
 use Rattle.index_ids.specs.Ids.{id-in, ids-in, is-id}
 use Rattle.index_ids.proofs.Repeats.{slot-at, found-below, any-found}
-use Rattle.renumber_identifiers.specs.Mapped.{Findable, Located, Applicable, bytes-at, Applied, mapped-bytes, Mapped}
+use Rattle.renumber_identifiers.specs.Mapped.{Findable, Located, Applicable, bytes-at, Applied}
 
 -- ---- the slots: `search finding`
 
@@ -149,10 +149,10 @@ module _ (s is : List ℕ) (m : ℕ) (slots : List ℕ) (h : Located s is m slot
   located-small f i l = let a = place-some (eqb (id-at s i)) (id-in is) 0 m (getD slots i 0) (h .stands i l) .2 in omega arith
 
   -- The ids at them are those to which the identifiers are mapped.
-  pub located-mapped : (new out out′ : List ℕ) → Applied (length s / 4) slots new out out′ → Mapped s is new m out out′
-  unfolding id-list mapped-bytes bytes-at
-  located-mapped new out out′ g =
+  pub located-bytes : (new : List ℕ) → bytes-at (length s / 4) slots new ≡ id-bytes (map (renamed (ids-in is m) (ids-in new m)) (id-list s))
+  unfolding id-list bytes-at
+  located-bytes new =
       let e = map-from (renamed (ids-in is m) (ids-in new m)) (id-at s) 0 (length s / 4) in
       let f = from-same (λ i. renamed (ids-in is m) (ids-in new m) (id-at s i)) (id-by slots new) 0 (length s / 4)
       (λ i l. renamed-at (id-in is) (id-in new) (id-at s i) 0 m (getD slots i 0) (h .stands i (omega arith))) in
-      record { bytes = rw (e, f) (g .bytes) }
+      rw (e, f)

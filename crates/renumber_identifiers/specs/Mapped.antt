@@ -2,7 +2,7 @@
 use Prim.Native.Nat.{ℕ, _*_, _/_, _≤_, _<_}
 use mathlib.Core.Path.{_≡_}
 use mathlib.Core.Bool.{not}
-use mathlib.Core.List.{List, map, _++_}
+use mathlib.Core.List.{List, _++_}
 use mathlib.Core.Option.{none, some}
 use lib.Dec.{eqb}
 use lib.ListN.{length, getD, drop}
@@ -10,7 +10,6 @@ use Rattle.paper.specs.Answer.{among, place-of}
 use Rattle.paper.specs.Bytes.{from}
 use Rattle.paper.specs.Lists.{id-at, id-list}
 use Rattle.paper.specs.Encode.{id-bytes}
-use Rattle.paper.specs.Renumber.{renamed}
 use Rattle.index_ids.specs.Ids.{id-in, ids-in}
 use Rattle.index_ids.specs.Path.{IdsChained}
 
@@ -40,10 +39,3 @@ bytes-at n slots ids = id-bytes (from (λ i. id-in ids (getD slots i 0)) 0 n)
 -- These bytes, then the old ones.
 pub record Applied (n : ℕ) (slots ids out out′ : List ℕ) : Type 0 where
   pub bytes : out′ ≡ bytes-at n slots ids ++ drop (length (bytes-at n slots ids)) out
-
-unfoldable pub mapped-bytes : (identifiers ids new-ids : List ℕ) (m : ℕ) → List ℕ
-mapped-bytes identifiers ids new-ids m = id-bytes (map (renamed (ids-in ids m) (ids-in new-ids m)) (id-list identifiers))
-
--- The bytes of the mapped ids, then the old ones.
-pub record Mapped (identifiers ids new-ids : List ℕ) (m : ℕ) (out out′ : List ℕ) : Type 0 where
-  pub bytes : out′ ≡ mapped-bytes identifiers ids new-ids m ++ drop (length (mapped-bytes identifiers ids new-ids m)) out
