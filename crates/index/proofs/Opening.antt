@@ -37,7 +37,7 @@ use Rattle.plan.specs.Table.{PlanIn, fields-in, Roomy, TakenIn}
 use Rattle.plan.proofs.Rooms.{roomy-fresh, copied-roomy}
 use Rattle.plan.proofs.Taking.{Based, base-plan}
 use Rattle.index_ids.proofs.Tables.{fresh-index}
-use Rattle.index.specs.Index.{Indexing, Readable, BaseIndexed, Opened, ById, ByParent}
+use Rattle.index.specs.Index.{Indexing, Index, Readable, BaseIndexed, ById, ByParent}
 
 -- ---- the base as a plan of itself
 
@@ -94,10 +94,17 @@ module _ (s pool : List ℕ) (w : Shaped) (ew : w ≡ decoded (only-read s pool)
 
 -- ---- 7 and 8 of a base that was read
 
-module _ (s pool : List ℕ) (h : Readable (alone s pool) (length s / 24)) where
+-- The refusal of 2 to 8, or the plan of the tree that lent bytes hold, with its index.
+pub record Opened (records pool : List ℕ) (r : Check) (plan : List (List ℕ)) (m : ℕ) (index : List (List ℕ)) : Type 0 where
+  pub refusal : (x : Refusal) → r ≡ check.Refused x → read records pool ≡ refused-as x
+  pub tree : r ≡ check.Fine → read records pool ≡ ok (fields-in (alone records pool) plan m)
+  pub planned : r ≡ check.Fine → PlanIn (alone records pool) plan m
+  pub indexed : r ≡ check.Fine → Index (alone records pool) plan m index
+
+module _ (s pool : List ℕ) (w : Shaped) (ew : w ≡ decoded (only-read s pool)) (k : ℕ) (ed : w ≡ shaped.Roots k) where
   was-read : only-read s pool ≡ decode 0 s pool
   unfolding only-read _>>=_
-  was-read = rw (h .limits)
+  was-read = rw (readable s pool w ew k ed .limits)
 
   pub opened : (r : Check) (old plan index : List (List ℕ)) → BaseIndexed (alone s pool) (length s / 24) [] r old plan index → Opened s pool r plan (length s / 24) index
   unfolding id-list from
@@ -114,7 +121,7 @@ module _ (s pool : List ℕ) (h : Readable (alone s pool) (length s / 24)) where
 pub test-refused : (s pool : List ℕ) (plan : List (List ℕ)) (m : ℕ) (index : List (List ℕ)) (r : Check) → Opened s pool r plan m index → (y : Refusal) → r ≡ check.Refused y → read s pool ≡ refused-as y
 test-refused s pool plan m index r o = o .refusal
 
-pub ruleset reading = (roomy-fresh, fresh-index, unread, readable, test-refused)
+pub ruleset reading = (unread, test-refused)
 
 -- ---- the entries
 

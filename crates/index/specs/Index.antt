@@ -6,15 +6,13 @@ use mathlib.Core.List.{List, []}
 use mathlib.Core.Option.{Option, none, some}
 use lib.ListN.{getD}
 use Rattle.paper.specs.declared.Role.the-variants.{Member}
-use Rattle.paper.specs.Answer.{same, repeated, ok, refused}
+use Rattle.paper.specs.Answer.{same, repeated, ok}
 use Rattle.paper.specs.Bytes.{turned, slots}
 use Rattle.paper.specs.Decode.{decode}
 use Rattle.paper.specs.Limits.{sized}
-use Rattle.paper.specs.Entries.{read}
 use Rattle.paper.specs.Lists.{id-list}
 use Rattle.paper.specs.Rows.{look-id, look-parent}
 use Rattle.paper.specs.Sound.{sound}
-use Rattle.record.specs.declared.Refusal.{Refusal}
 use Rattle.record.specs.declared.Check.{Check}
 use Rattle.record.specs.declared.Check.the-variants as check
 use Rattle.record.specs.declared.FoundSlot.{FoundSlot}
@@ -22,7 +20,7 @@ use Rattle.record.specs.declared.FoundSlot.the-variants as found-slots
 use Rattle.record.specs.declared.Found.{Found}
 use Rattle.record.specs.declared.Found.the-variants.{At, Nothing}
 use Rattle.record.specs.Says.{tested, checked, found-row}
-use Rattle.record.specs.Trees.{Trees, alone}
+use Rattle.record.specs.Trees.{Trees}
 use Rattle.tree.specs.Read.{fine}
 use Rattle.plan.specs.Plan.{kids-in}
 use Rattle.plan.specs.Table.{numbers, members, PlanIn, fields-in, Roomy, TakenIn}
@@ -106,10 +104,3 @@ pub record BaseIndexed (l : Trees) (n : ℕ) (identifiers : List ℕ) (r : Check
   pub indexed : r ≡ check.Fine → Index l new n index
   pub roomy : Roomy new
   pub rooms : Rooms index
-
--- Lent bytes as a base: the refusal of 2 to 8, or the plan of the tree that they hold, with its index.
-pub record Opened (records pool : List ℕ) (r : Check) (plan : List (List ℕ)) (m : ℕ) (index : List (List ℕ)) : Type 0 where
-  pub refusal : (x : Refusal) → r ≡ check.Refused x → read records pool ≡ refused (x .number) (x .list) (x .place)
-  pub tree : r ≡ check.Fine → read records pool ≡ ok (fields-in (alone records pool) plan m)
-  pub planned : r ≡ check.Fine → PlanIn (alone records pool) plan m
-  pub indexed : r ≡ check.Fine → Index (alone records pool) plan m index

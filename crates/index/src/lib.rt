@@ -33,7 +33,7 @@ ghost use Rattle.paper.specs.Bytes.{turned};
 ghost use Rattle.paper.specs.Entries.{find-name, find-id, find-parent};
 ghost use Rattle.paper.specs.Rows.{look-name};
 ghost use Rattle.record.specs.Says.{found-row, looked};
-ghost use Rattle.record.specs.Trees.{trees-in, alone};
+ghost use Rattle.record.specs.Trees.{trees-in};
 ghost use Rattle.plan.specs.Table.{sources, numbers, members, PlanIn, fields-in, Roomy};
 ghost use Rattle.index_ids.specs.Chain.{Below, Cleared};
 ghost use Rattle.index_ids.specs.Table.{ups-in, name-heads, Rooms, Fresh};
@@ -52,7 +52,6 @@ ghost use Rattle.index.specs.Index.{
   ByParent,
   Readable,
   BaseIndexed,
-  Opened,
 };
 
 // Refusal 8, and the index of full names. Ids stand on their paths by then, so of the heads only those of the names are still cleared.
@@ -208,23 +207,6 @@ pub fn look_name<'a>(
     look_short(trees, plan, m, name)
 }
 
-// Lent bytes as a base that passed 2 to 6: refusals 7 and 8, or its plan with its index. Its callers make the tables when 2 to 6 are
-// passed: to fill them takes longer than to read a small tree.
-pub fn test_base<'a>(
-    records: &'a [u8],
-    pool: &'a [u8],
-    plan: &mut PlanRows,
-    index: &mut IndexRows,
-) -> Check
-    requires { ⌜ Readable (alone (now records) (now pool)) (length (now records) / 24)
-        × (Roomy (now plan) × Fresh (now index)) ⌝ }
-    ensures { λ r. ⌜ Opened (now (records .entry)) (now (pool .entry)) r (now (plan .exit))
-        (length (now (records .entry)) / 24) (now (index .exit)) ⌝ }
-{
-    let trees = [records, pool, records, pool, &pool[0..0]];
-    index_base(&trees, records.len() / 24, b"", plan, index)
-}
-
 // 2 to 8, then the look-up by name, in any bytes.
 pub fn find_name<'a>(records: &'a [u8], pool: &'a [u8], name: &[u8]) -> Sought
     ensures { λ r. ⌜ r ≡ looked (find-name (now (records .entry)) (now (pool .entry))
@@ -234,15 +216,15 @@ pub fn find_name<'a>(records: &'a [u8], pool: &'a [u8], name: &[u8]) -> Sought
     if let Shaped::Refused(r) = read {
         return Sought::Refused(r);
     }
+    let trees = [records, pool, records, pool, &pool[0..0]];
+    let n = records.len() / 24;
     let mut plan = [[0u32; 1024]; 3];
     let mut index = [[0u16; 1024]; 8];
-    let tested = test_base(records, pool, &mut plan, &mut index);
+    let tested = index_base(&trees, n, b"", &mut plan, &mut index);
     if let Check::Refused(r) = tested {
         return Sought::Refused(r);
     }
-    let trees = [records, pool, records, pool, &pool[0..0]];
-    let m = records.len() / 24;
-    Sought::Looked(look_name(&trees, &plan, m, &index, name))
+    Sought::Looked(look_name(&trees, &plan, n, &index, name))
 }
 
 // 2 to 8, then the look-up by id, in any bytes.
@@ -253,13 +235,15 @@ pub fn find_id<'a>(records: &'a [u8], pool: &'a [u8], id: FieldId) -> Sought
     if let Shaped::Refused(r) = read {
         return Sought::Refused(r);
     }
+    let trees = [records, pool, records, pool, &pool[0..0]];
+    let n = records.len() / 24;
     let mut plan = [[0u32; 1024]; 3];
     let mut index = [[0u16; 1024]; 8];
-    let tested = test_base(records, pool, &mut plan, &mut index);
+    let tested = index_base(&trees, n, b"", &mut plan, &mut index);
     if let Check::Refused(r) = tested {
         return Sought::Refused(r);
     }
-    Sought::Looked(look_id(&plan, records.len() / 24, &index, id))
+    Sought::Looked(look_id(&plan, n, &index, id))
 }
 
 // 2 to 8, then the look-up of the record above an id, in any bytes.
@@ -270,11 +254,13 @@ pub fn find_parent<'a>(records: &'a [u8], pool: &'a [u8], id: FieldId) -> Sought
     if let Shaped::Refused(r) = read {
         return Sought::Refused(r);
     }
+    let trees = [records, pool, records, pool, &pool[0..0]];
+    let n = records.len() / 24;
     let mut plan = [[0u32; 1024]; 3];
     let mut index = [[0u16; 1024]; 8];
-    let tested = test_base(records, pool, &mut plan, &mut index);
+    let tested = index_base(&trees, n, b"", &mut plan, &mut index);
     if let Check::Refused(r) = tested {
         return Sought::Refused(r);
     }
-    Sought::Looked(look_parent(&plan, records.len() / 24, &index, id))
+    Sought::Looked(look_parent(&plan, n, &index, id))
 }

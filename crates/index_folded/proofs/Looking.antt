@@ -36,8 +36,8 @@ use Rattle.plan.proofs.Walks.{all-there, all-numbered}
 use Rattle.index_ids.specs.Chain.{Below}
 use Rattle.index_turns.specs.Turn.{left-at, seen}
 use Rattle.index_turns.proofs.Fitting.{left-in}
-use Rattle.index.specs.Index.{found-slot, held, Opened}
-use Rattle.index.proofs.Opening.{reading}
+use Rattle.index.specs.Index.{found-slot, held}
+use Rattle.index.proofs.Opening.{Opened, reading}
 use Rattle.index_folded_names.specs.declared.Met.{Met}
 use Rattle.index_folded_names.specs.declared.Met.the-variants.{Twice, Past}
 use Rattle.index_folded_names.specs.Met.{matched, met, meeting}

@@ -1,6 +1,6 @@
 // The look-up that forgets case, beside the exact one of `index` (02, 1/13): full names, then short ones; refusal 21 where two match at
 // the same level.
-use index::test_base;
+use index::index_base;
 use index::with_id;
 use index_folded_names::Met;
 use index_folded_names::meet_row;
@@ -89,12 +89,13 @@ pub fn find_folded<'a>(records: &'a [u8], pool: &'a [u8], name: &[u8]) -> Sought
     if let Shaped::Refused(r) = read {
         return Sought::Refused(r);
     }
+    let trees = [records, pool, records, pool, &pool[0..0]];
+    let n = records.len() / 24;
     let mut plan = [[0u32; 1024]; 3];
     let mut index = [[0u16; 1024]; 8];
-    let tested = test_base(records, pool, &mut plan, &mut index);
+    let tested = index_base(&trees, n, b"", &mut plan, &mut index);
     if let Check::Refused(r) = tested {
         return Sought::Refused(r);
     }
-    let trees = [records, pool, records, pool, &pool[0..0]];
-    look_folded(&trees, &plan, records.len() / 24, name)
+    look_folded(&trees, &plan, n, name)
 }

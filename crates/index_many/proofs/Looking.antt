@@ -33,8 +33,8 @@ use Rattle.plan.specs.Table.{numbers, PlanIn, fields-in}
 use Rattle.index_ids.specs.Chain.{lowest-below}
 use Rattle.index_ids.specs.Ids.{is-id}
 use Rattle.index_ids.proofs.Chains.{found-below-room}
-use Rattle.index.specs.Index.{found-slot, held, Opened}
-use Rattle.index.proofs.Opening.{reading}
+use Rattle.index.specs.Index.{found-slot, held}
+use Rattle.index.proofs.Opening.{Opened, reading}
 use Rattle.index.proofs.Looking.{finds-id}
 use Rattle.index_many.specs.declared.Searched.{Searched}
 use Rattle.index_many.specs.declared.Searched.the-variants.{Done, Refused}

@@ -1,5 +1,5 @@
 // Many ids looked up at once, in a tree that is tested once (02, 2/13): refusals 1 to 8, then the slot of each id.
-use index::test_base;
+use index::index_base;
 use index_ids::IndexRows;
 use index_ids::find_id;
 use plan::PlanRows;
@@ -91,11 +91,13 @@ pub fn find_ids<'a>(records: &'a [u8], pool: &'a [u8], ids: &[u8], out_slots: &m
     if let Shaped::Refused(r) = read {
         return Searched::Refused(r);
     }
+    let trees = [records, pool, records, pool, &pool[0..0]];
+    let n = records.len() / 24;
     let mut plan = [[0u32; 1024]; 3];
     let mut index = [[0u16; 1024]; 8];
-    let tested = test_base(records, pool, &mut plan, &mut index);
+    let tested = index_base(&trees, n, b"", &mut plan, &mut index);
     if let Check::Refused(r) = tested {
         return Searched::Refused(r);
     }
-    Searched::Done(look_ids(&plan, records.len() / 24, &index, ids, out_slots))
+    Searched::Done(look_ids(&plan, n, &index, ids, out_slots))
 }

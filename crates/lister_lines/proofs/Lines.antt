@@ -32,8 +32,7 @@ use Rattle.index_names.specs.Told.{Raised}
 use Rattle.plan.proofs.Walks.{Numbered, all-there, all-numbered}
 use Rattle.index_names.proofs.Marking.{length-fulls, length-ups}
 use Rattle.index_names.proofs.Telling.{fulls-are}
-use Rattle.index.specs.Index.{Opened}
-use Rattle.index.proofs.Opening.{reading}
+use Rattle.index.proofs.Opening.{Opened, reading}
 use Rattle.lister_lines.specs.Text.{above, line-start, line-at, joined, refusal-text, Shown}
 
 lines-append : (a b : List Row) → lines (a ++ b) ≡ lines a ++ lines b

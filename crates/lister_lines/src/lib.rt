@@ -1,5 +1,5 @@
 // The lister: from lent bytes to its text.
-use index::test_base;
+use index::index_base;
 use index_ids::IndexRows;
 use index_ids::LENS;
 use index_ids::UPS;
@@ -245,14 +245,14 @@ pub fn listing<'a>(records: &'a [u8], pool: &'a [u8], from: usize, out: &mut [u8
     if let Shaped::Refused(refusal) = read {
         return list_refusal(refusal, from, out);
     }
+    let trees = [records, pool, records, pool, &pool[0..0]];
+    let n = records.len() / 24;
     let mut plan = [[0u32; 1024]; 3];
     let mut index = [[0u16; 1024]; 8];
-    let tested = test_base(records, pool, &mut plan, &mut index);
+    let tested = index_base(&trees, n, b"", &mut plan, &mut index);
     if let Check::Refused(refusal) = tested {
         return list_refusal(refusal, from, out);
     }
-    let trees = [records, pool, records, pool, &pool[0..0]];
-    let m = records.len() / 24;
     let mut line = [0u8; 65571];
-    list_rows(&trees, &plan, m, &index, from, &mut line, out)
+    list_rows(&trees, &plan, n, &index, from, &mut line, out)
 }
