@@ -34,9 +34,8 @@ use Rattle.tree.specs.Says.{decoded}
 use Rattle.tree.specs.Only.{only-read}
 use Rattle.tree.proofs.Deciding.{decode-refused, decode-ok}
 use Rattle.plan.specs.Table.{PlanIn, fields-in, Roomy, TakenIn}
-use Rattle.plan.proofs.Rooms.{roomy-fresh, copied-roomy}
+use Rattle.plan.proofs.Rooms.{copied-roomy}
 use Rattle.plan.proofs.Taking.{Based, base-plan}
-use Rattle.index_ids.proofs.Tables.{fresh-index}
 use Rattle.index.specs.Index.{Indexing, Index, Readable, BaseIndexed, ById, ByParent}
 
 -- ---- the base as a plan of itself

@@ -128,8 +128,11 @@ module _ (name : ℕ → List ℕ) (kind : ℕ → Kind) (kids : ℕ → ℕ) (x
     pub leave-done : c ≤ 0 → r ≡ W
     leave-done l = nothing-sighted name kind role (left-at x pos) (seen wait) (walk kids n lv c k) k r (walk-none kids n lv c k (omega arith)) er ∙ sym eW
 
-  module _ (m : ℕ) (t : Turn) (w : Sighting) (el : lv ≡ 0 → ⊥) (ec : 0 < c) (l : k < n) (em : m ≡ kids k) (et : Turned name kind role x pos k t)
-      (ew : w ≡ sighting name kind (t .role) (left-at x (t .pos)) (seen 0) (walk kids n (lv - 1) m (k + 1))) where
+  module _ (m li : ℕ) (t : Turn) (w : Sighting) (el : lv ≡ 0 → ⊥) (ec : 0 < c) (l : k < n) (em : m ≡ kids k) (ei : li ≡ lv - 1) (et : Turned name kind role x pos k t)
+      (es : w ≡ sighting name kind (t .role) (left-at x (t .pos)) (seen 0) (walk kids n li m (k + 1))) where
+    ew : w ≡ sighting name kind (t .role) (left-at x (t .pos)) (seen 0) (walk kids n (lv - 1) m (k + 1))
+    ew = es ∙ rw ei
+
     abbrev inside-part : Part
     inside-part = walk kids n (lv - 1) m (k + 1)
 

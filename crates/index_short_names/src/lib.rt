@@ -120,25 +120,25 @@ pub fn seek<'a>(
         (walk-in (now (plan .entry)) m (row .levels) (row .count) (row .slot)) ⌝ }
 {
     let levels = row.levels;
+    // the row itself, then each row inside it, so that a frame holds one
+    let mut inner = row;
     if x.len() < pos {
-        return ended(wait, row_next(plan, m, row));
+        return ended(wait, row_next(plan, m, inner));
     }
     if levels == 0 {
-        return ended(wait, row.slot);
+        return ended(wait, inner.slot);
     }
-    let mut at = row.slot;
-    let mut left = row.count;
+    let mut at = inner.slot;
+    let mut left = inner.count;
+    inner.levels = levels - 1;
     let mut part = role;
     let mut first = wait;
     while 0 < left {
         if m <= at {
             return ended(first, at);
         }
-        let inner = Siblings {
-            slot: at + 1,
-            count: plan[MEMBERS][at],
-            levels: levels - 1,
-        };
+        inner.slot = at + 1;
+        inner.count = plan[MEMBERS][at];
         let turn = turn_at(trees, plan, m, at, part, x, pos);
         let inside = turn.role;
         let me = turn.me;
