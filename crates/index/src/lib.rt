@@ -207,7 +207,8 @@ pub fn look_name<'a>(
     look_short(trees, plan, m, name)
 }
 
-// 2 to 8, then the look-up by name, in any bytes.
+// 2 to 8, then the look-up by name, in any bytes. The tables are made when 2 to 6 are passed, as in each look-up: to fill them takes
+// longer than to read a small tree.
 pub fn find_name<'a>(records: &'a [u8], pool: &'a [u8], name: &[u8]) -> Sought
     ensures { λ r. ⌜ r ≡ looked (find-name (now (records .entry)) (now (pool .entry))
         (now (name .entry))) ⌝ }
