@@ -137,18 +137,17 @@ module _ (s pool : List ℕ) (y : Refusal) (e : read s pool ≡ refused-as y) wh
   unfolding find-parent looked _>>=_
   parent-refused i = rw e
 
-module _ (s pool : List ℕ) (plan : List (List ℕ)) (m : ℕ) (index : List (List ℕ)) (r : Check) (o : Opened s pool r plan m index) where
-  module _ (q : r ≡ check.Fine) (h : Found) where
-    pub name-looked : (x : List ℕ) → h ≡ found-row (look-name (fields-in (alone s pool) plan m) x) → sought.Looked h ≡ looked (find-name s pool x)
-    unfolding find-name looked _>>=_
-    name-looked x e = rw (o .tree q, e)
+module _ (s pool : List ℕ) (plan : List (List ℕ)) (m : ℕ) (index : List (List ℕ)) (r : Check) (o : Opened s pool r plan m index) (q : r ≡ check.Fine) (h : Found) where
+  pub name-looked : (x : List ℕ) → h ≡ found-row (look-name (fields-in (alone s pool) plan m) x) → sought.Looked h ≡ looked (find-name s pool x)
+  unfolding find-name looked _>>=_
+  name-looked x e = rw (o .tree q, e)
 
-    pub id-looked : (i : ℕ) → ById plan m i h → sought.Looked h ≡ looked (find-id s pool i)
-    unfolding find-id looked _>>=_
-    id-looked i e = rw (o .tree q, e .finds (alone s pool) (o .planned q))
+  pub id-looked : (i : ℕ) → ById plan m i h → sought.Looked h ≡ looked (find-id s pool i)
+  unfolding find-id looked _>>=_
+  id-looked i e = rw (o .tree q, e .finds (alone s pool) (o .planned q))
 
-    pub parent-looked : (i : ℕ) → ByParent plan index m i h → sought.Looked h ≡ looked (find-parent s pool i)
-    unfolding find-parent looked _>>=_
-    parent-looked i e = rw (o .tree q, e .finds (alone s pool) (o .planned q) (o .indexed q .raised))
+  pub parent-looked : (i : ℕ) → ByParent plan index m i h → sought.Looked h ≡ looked (find-parent s pool i)
+  unfolding find-parent looked _>>=_
+  parent-looked i e = rw (o .tree q, e .finds (alone s pool) (o .planned q) (o .indexed q .raised))
 
 pub ruleset finding = (reading, name-refused, id-refused, parent-refused, name-looked, id-looked, parent-looked)
