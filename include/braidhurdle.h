@@ -2,9 +2,9 @@
  *
  * This header is the manual of the C boundary. Every function is a thin layer over a proved library: what it says here of
  * sizes, of what is written and of what a refusal leaves is proved of the Rattle source (docs/PROMISES.md), and so is the order
- * of arguments and of a result's numbers (crates/braidhurdle/proofs/Tied.antt). What is not proved is this declaration itself:
- * keep it as it is. examples/c/calls.c calls every function; examples/c/revise.c takes a tree in files through a board revision;
- * docs/USING.md says how to link.
+ * of arguments and of a result's numbers (Tied.antt of crates/braidhurdle_c and crates/braidhurdle). What is not proved is this
+ * declaration itself: keep it as it is. examples/c/calls.c calls every function; examples/c/revise.c takes a tree in files
+ * through a board revision; docs/USING.md says how to link.
  *
  * Calls. No function has a state, allocates, or keeps a pointer: each may be called from any thread at any time. No call needs a
  * check first: any bytes at all get an answer. Each list is a pointer and a length in BYTES, and its pointer needs no alignment.

@@ -1,4 +1,5 @@
-# The module of a library, for a machine that is not x86-64: awk -v name=LIBRARY -f tools/results.awk.
+# The module of a static library, for a machine that is not x86-64: awk -v name=LIBRARY -v crate=CRATE -f
+# tools/results.awk. The crate exports functions whose names begin with the library's.
 # It returns a struct as C on x86-64 does: one of more than 16 bytes through a pointer that the
 # function takes first and gives back. `sret` says that this is what the pointer is for; then it comes
 # by the machine's own way, and one header serves both. The size is that of the struct that the
@@ -15,7 +16,7 @@ behind != "" && /@llvm\.memmove\.p0\.p0\.i64\(ptr %a0, ptr %r[0-9]+, i64 [0-9]+,
 
 $0 ~ exported {
     split($0, part, /[@(]/)
-    bytes = size[name "::" part[2]]
+    bytes = size[crate "::" part[2]]
     if (!bytes) {
         print "tools/results.awk: no size of the result of " part[2] > "/dev/stderr"
         exit 1
@@ -27,6 +28,6 @@ $0 ~ exported {
 returns && /^  ret ptr %a0$/ { print "  ret void"; next }
 /^}/ { returns = 0 }
 {
-    sub(/"target-cpu"="x86-64"/, "")
+    sub(/"target-cpu"="x86-64[^"]*"/, "")
     print
 }

@@ -35,8 +35,16 @@ fn folder() -> Result<PathBuf, String> {
     let checkout = checkout.join("../..");
     let maker = checkout.join("tools/archive");
     if maker.exists() {
-        for source in ["tools/archive", "tools/staticlib", "crates.txt", "crates"] {
+        for source in ["tools/archive", "tools/staticlib", "crates.txt"] {
             println!("cargo::rerun-if-changed={}", checkout.join(source).display());
+        }
+        // not a crate's out/: the toolchain's own, it changes with each check
+        for made in fs::read_dir(checkout.join("crates")).into_iter().flatten().flatten() {
+            for part in ["src", "specs", "proofs"].map(|part| made.path().join(part)) {
+                if part.exists() {
+                    println!("cargo::rerun-if-changed={}", part.display());
+                }
+            }
         }
         told(Command::new(&maker).arg("--look"))?;
         if told(Command::new(&maker).arg("--fresh")).is_err() {

@@ -68,7 +68,7 @@ module _ (κs : Lfts 2) (a : ArgsD name_at.signature κs) (r : ResD name_at.sign
 
   pub name_at_says : name_at_reads.Learnt κs a r s
       ≡ ((r.now ≡ take part.size (drop part.offset a.0.now))
-      × (r.ptr.0 ≡ a.0.ptr.0)
-      × (r.ptr.1 ≡ a.0.ptr.1 + part.offset))
+      × (r.ref_ptr.0 ≡ a.0.ref_ptr.0)
+      × (r.ref_ptr.1 ≡ a.0.ref_ptr.1 + part.offset))
   unfolding name_of
   name_at_says = refl

@@ -1,5 +1,6 @@
 -- The C boundary by place. Contracts and code follow names: two parameters of one type, or two fields of a result, could
--- change places and all would still be proved. Here each C function is held to the order of include/braidhurdle.h.
+-- change places and all would still be proved. Here each C function is held to the order of include/braidhurdle.h. What is
+-- exported is held to it in crates/braidhurdle_c/proofs/Tied.antt.
 use mathlib.Core.Path.{◌≡◌, refl}
 use mathlib.Core.List.{List, [], ◌∷◌, ◌++◌}
 use Prim.Native.Nat.{ℕ}

@@ -1,7 +1,7 @@
 -- Where the name of the record at a slot stands in the lent pool, and its six numbers.
 use Rattle.std.specs.Prelude.{ℕ, ◌+◌, ◌≤◌, ◌≡◌, cond, List, ltb, length, take, drop}
 use Rattle.std.proofs.Math.Option.{Option, none, some}
-use Rattle.paper.specs.Answer.{Answer, ok, refused, ◌>>=◌, ◌>>◌, lowest}
+use Rattle.paper.specs.Answer.{Answer, ok, refused, ◌>>◌, lowest}
 use Rattle.paper.specs.Refusals.{pooled}
 use Rattle.paper.specs.Bytes.{rec_at, in_pool, slots}
 use Rattle.paper.specs.Rows.{Row}

@@ -1,4 +1,6 @@
-// The functions that C and Rust call: thin, numbers and slices. Each lays its entry's answer out as numbers.
+// The functions that braidhurdle_c exports to C and Rust: thin, numbers and slices. Each lays its entry's answer out as numbers.
+#![tactic(auto)]
+
 ghost use Rattle.std.specs.Prelude.{◌≡◌, [], ◌∷◌, length};
 ghost use Rattle.paper.specs.Entries.{find_name, find_folded, find_id, find_parent, find_ids, prune_entry, renumber_entry, update_entry};
 ghost use Rattle.paper.specs.Outcome.{found, for_records, for_names, for_identifiers, for_slots, Answers};
@@ -25,7 +27,7 @@ use update::update;
 
 // The answer of update, pruning and renumbering. On a refusal the last four are 0.
 #[repr(C)]
-#[derive(Drop)]
+#[derive(Clone, Copy)]
 pub struct ChangedNumbers {
     pub refusal: u32,
     pub list: u32,
@@ -38,7 +40,7 @@ pub struct ChangedNumbers {
 
 // The answer of a look-up. On a refusal, and where nothing is found, id and slot are 0.
 #[repr(C)]
-#[derive(Drop)]
+#[derive(Clone, Copy)]
 pub struct FoundNumbers {
     pub refusal: u32,
     pub list: u32,
@@ -50,7 +52,7 @@ pub struct FoundNumbers {
 
 // The answer of a search for many ids. On a refusal the last one is 0.
 #[repr(C)]
-#[derive(Drop)]
+#[derive(Clone, Copy)]
 pub struct SearchedNumbers {
     pub refusal: u32,
     pub list: u32,
@@ -60,7 +62,7 @@ pub struct SearchedNumbers {
 
 // Where a name stands in the lent pool. On a refusal, and where there is no record, offset and length are 0.
 #[repr(C)]
-#[derive(Drop)]
+#[derive(Clone, Copy)]
 pub struct NameNumbers {
     pub refusal: u32,
     pub list: u32,
@@ -155,16 +157,14 @@ fn lay_searched(searched: Searched) -> SearchedNumbers
 
 // The version of these functions, in its name too: whoever is compiled against other declarations asks for another name, and finds
 // none here. A change of any declaration raises both, and so does a call that is answered otherwise than before.
-#[unsafe(no_mangle)]
-pub extern "C" fn braidhurdle_abi_9() -> u32
+pub fn braidhurdle_abi_9() -> u32
     ensures { result ≡ 9 }
 {
     9
 }
 
 // Drops, adds and edits columns; ids are handed out from `last_id` + 1, and types widened by the steps of `version`.
-#[unsafe(no_mangle)]
-pub extern "C" fn braidhurdle_update<'a>(
+pub fn braidhurdle_update<'a>(
     records: &'a [u8],
     pool: &'a [u8],
     identifiers: &'a [u8],
@@ -192,8 +192,7 @@ pub extern "C" fn braidhurdle_update<'a>(
 }
 
 // Keeps the selected columns; not 0 for full mode.
-#[unsafe(no_mangle)]
-pub extern "C" fn braidhurdle_prune<'a>(
+pub fn braidhurdle_prune<'a>(
     records: &'a [u8],
     pool: &'a [u8],
     selected: &[u8],
@@ -212,8 +211,7 @@ pub extern "C" fn braidhurdle_prune<'a>(
 }
 
 // Numbers every column anew from `start` on; identifiers are mapped in the order given.
-#[unsafe(no_mangle)]
-pub extern "C" fn braidhurdle_renumber<'a>(
+pub fn braidhurdle_renumber<'a>(
     records: &'a [u8],
     pool: &'a [u8],
     identifiers: &[u8],
@@ -243,12 +241,7 @@ pub extern "C" fn braidhurdle_renumber<'a>(
 }
 
 // The column of a full name, or else of a short name.
-#[unsafe(no_mangle)]
-pub extern "C" fn braidhurdle_find_name<'a>(
-    records: &'a [u8],
-    pool: &'a [u8],
-    name: &[u8],
-) -> FoundNumbers
+pub fn braidhurdle_find_name<'a>(records: &'a [u8], pool: &'a [u8], name: &[u8]) -> FoundNumbers
     ensures { result ≡ found_in (found (find_name records.now pool.now
         name.now)) }
 {
@@ -256,12 +249,7 @@ pub extern "C" fn braidhurdle_find_name<'a>(
 }
 
 // The same where case is forgotten; refusal 21 where two columns match at the same level.
-#[unsafe(no_mangle)]
-pub extern "C" fn braidhurdle_find_folded<'a>(
-    records: &'a [u8],
-    pool: &'a [u8],
-    name: &[u8],
-) -> FoundNumbers
+pub fn braidhurdle_find_folded<'a>(records: &'a [u8], pool: &'a [u8], name: &[u8]) -> FoundNumbers
     ensures { result ≡ found_in (found (find_folded records.now pool.now
         name.now)) }
 {
@@ -269,12 +257,7 @@ pub extern "C" fn braidhurdle_find_folded<'a>(
 }
 
 // The slot of an id.
-#[unsafe(no_mangle)]
-pub extern "C" fn braidhurdle_find_id<'a>(
-    records: &'a [u8],
-    pool: &'a [u8],
-    id: u32,
-) -> FoundNumbers
+pub fn braidhurdle_find_id<'a>(records: &'a [u8], pool: &'a [u8], id: u32) -> FoundNumbers
     ensures { result ≡ found_in
         (found (find_id records.now pool.now id)) }
 {
@@ -282,8 +265,7 @@ pub extern "C" fn braidhurdle_find_id<'a>(
 }
 
 // The slots of many ids, four bytes each; 4,294,967,295 where there is none.
-#[unsafe(no_mangle)]
-pub extern "C" fn braidhurdle_find_ids<'a>(
+pub fn braidhurdle_find_ids<'a>(
     records: &'a [u8],
     pool: &'a [u8],
     ids: &[u8],
@@ -298,12 +280,7 @@ pub extern "C" fn braidhurdle_find_ids<'a>(
 }
 
 // The column above that of an id.
-#[unsafe(no_mangle)]
-pub extern "C" fn braidhurdle_find_parent<'a>(
-    records: &'a [u8],
-    pool: &'a [u8],
-    id: u32,
-) -> FoundNumbers
+pub fn braidhurdle_find_parent<'a>(records: &'a [u8], pool: &'a [u8], id: u32) -> FoundNumbers
     ensures { result ≡ found_in (found (find_parent records.now pool.now
         id)) }
 {
@@ -311,8 +288,7 @@ pub extern "C" fn braidhurdle_find_parent<'a>(
 }
 
 // The name of the record at a slot, as a part of the lent pool. That record alone is read; the tree is not tested.
-#[unsafe(no_mangle)]
-pub extern "C" fn braidhurdle_found_name(records: &[u8], pool: &[u8], slot: u32) -> NameNumbers
+pub fn braidhurdle_found_name(records: &[u8], pool: &[u8], slot: u32) -> NameNumbers
     ensures { result ≡ name_numbers (found_name records.now pool.now slot) }
 {
     let k = slot as usize;

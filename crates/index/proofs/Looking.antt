@@ -109,12 +109,14 @@ module _ (l : Trees) (xs is ks : List ℕ) (m : ℕ) (p : Plan l xs is ks m) whe
       no_id z = go (look_id (plan_fields l xs is ks m) i) (subst (λ (v : FoundSlot). Rel fld us (look_id (plan_fields l xs is ks m) i) (held v)) z id_raised)
         where
           go : (O : Option Row) → Rel fld us O none → Nothing ≡ found_row (look_some (plan_fields l xs is ks m) (parent_of O))
+          go (some _) x'' = elim x'' [ ]
           go none none_found = refl
 
       parent_is : (k : ℕ) → held w ≡ some k → parent_of (look_id (plan_fields l xs is ks m) i) ≡ parent_at fld (get_or us k 0)
       parent_is k z = go (look_id (plan_fields l xs is ks m) i) (subst (Rel fld us (look_id (plan_fields l xs is ks m) i)) z id_raised)
         where
           go : (O : Option Row) → Rel fld us O (some k) → parent_of O ≡ parent_at fld (get_or us k 0)
+          go none x' = elim x' [ ]
           go (some r) (found_at h) = line_nearest fld us h.above
 
       module _ (u : ℕ) (s : Slot) (h : w ≡ slots.At s) (eu : u ≡ get_or us s.0 0) where
@@ -177,6 +179,8 @@ module _ (l : Trees) (xs is ks : List ℕ) (m : ℕ) (p : Plan l xs is ks m) whe
       by_short r h er = er ∙ rw (no_full h) (sym (go short_row (short_slot l xs ks m x) short_found))
         where
           go : (O : Option Row) (o : Option ℕ) → short.Rel fld O o → found_row O ≡ found_slot is o
+          go none (some k) x3 = elim x3 [ ]
+          go (some r) none x4 = elim x4 [ ]
           go none none short.none_found = refl
           go (some r) (some k) (short.found_at f g) = rw (f, g, field_id l xs is k)
 

@@ -1,4 +1,6 @@
 // index.rs: ids, parents and names of a planned tree, which the base is too. Refusals 7 to 9, and the look-ups.
+#![tactic(auto)]
+
 ghost use Rattle.std.specs.Prelude.{◌≡◌, ◌/◌, ◌≤◌, length};
 ghost use Rattle.paper.specs.Bytes.{turned};
 ghost use Rattle.paper.specs.Entries.{find_name, find_id, find_parent};

@@ -3,7 +3,7 @@ use mathlib.Core.Path.{◌≡◌, refl, sym, ap, subst, ◌∙◌}
 use mathlib.Core.Bool.{Bool, true, false, not, cond, true≢false}
 use mathlib.Core.List.{List, [], ◌∷◌}
 use mathlib.Core.Option.{some}
-use Prim.Native.Nat.{ℕ, zero, suc, ◌-◌, ◌<◌, ◌≤◌}
+use Prim.Native.Nat.{ℕ, zero, suc, ◌<◌, ◌≤◌}
 use native.Mathlib.Omega.{arith}
 use borrow.Author.Tests.{ne_eqb, not-true, not-false}
 use lib.Dec.{eqb}
@@ -132,14 +132,20 @@ module _ (l : Trees) (xs is ks : List ℕ) (m : ℕ) (p : Plan l xs is ks m) (x 
 
   told_is : (rs : List Row) (ss : List ℕ) (n : ℕ) → At fld rs ss → told is (met 0 ss n) ≡ looked (only rs)
   unfolding told met looked found_row found_slot seen
+  told_is [] (k ∷ ss) n x3 = elim x3 [ ]
+  told_is (r ∷ rs) [] n x4 = elim x4 [ ]
   told_is [] [] n done = refl
   told_is (r ∷ rs) (k ∷ ss) n (more e f a) = go rs ss a
     where
       go : (rs : List Row) (ss : List ℕ) → At fld rs ss → told is (met (suc k) ss n) ≡ looked (only (r ∷ rs))
+      go [] (j ∷ ss) x7 = elim x7 [ ]
+      go (q ∷ rs) [] x8 = elim x8 [ ]
       go [] [] done = rw (e, f, field_id l xs is k)
       go (q ∷ rs) (j ∷ ss) (more g h a) = rw g
 
   at_none : (rs : List Row) (ss : List ℕ) → At fld rs ss → ss ≡ [] → rs ≡ []
+  at_none [] (k ∷ ss) x5 e = elim x5 [ ]
+  at_none (r ∷ rs) [] x5 e = elim x5 [ ]
   at_none [] [] done e = refl
   at_none (r ∷ rs) (k ∷ ss) (more d f a) e = absurd (let z : ◌≡◌ {A = ℕ} 0 1 = cc in omega arith)
 
@@ -153,6 +159,8 @@ module _ (l : Trees) (xs is ks : List ℕ) (m : ℕ) (p : Plan l xs is ks m) (x 
     full_told r q er = er ∙ ap (told is) ew ∙ answers false ∙ go (kept false) (slots false) (kept_at false) (sym (ap is_none (ew ∙ walked_is false)) ∙ sym eb ∙ not-true b q)
       where
         go : (rs : List Row) (ss : List ℕ) → At fld rs ss → is_none (met 0 ss (walk (kids_in ks) m 16 m 0).next) ≡ false → looked (only rs) ≡ looked (only (or_short rs (kept true)))
+        go [] (k ∷ ss) x5 e = elim x5 [ ]
+        go (r ∷ rs) [] x5 e = elim x5 [ ]
         go [] [] done e = absurd (let z : ◌≡◌ {A = ℕ} 0 1 = cc in omega arith)
         go (r ∷ rs) (k ∷ ss) (more d f a) e = refl
 

@@ -1,5 +1,7 @@
 // The look-up that forgets case, beside the exact one of `index` (02, 1/13): full names, then short ones; refusal 21 where two match at
 // the same level.
+#![tactic(auto)]
+
 ghost use Rattle.std.specs.Prelude.{◌≡◌};
 ghost use Rattle.paper.specs.Entries.{find_folded};
 ghost use Rattle.paper.specs.Folded.{look_folded};

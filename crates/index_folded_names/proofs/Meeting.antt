@@ -4,7 +4,6 @@ use mathlib.Core.Bool.{Bool, true, false, not, ◌&&◌, cond, true≢false}
 use mathlib.Core.List.{List, [], ◌∷◌, ◌++◌, append-nil}
 use mathlib.Core.Option.{Option, none, some}
 use Prim.Native.Nat.{ℕ, zero, suc, ◌+◌, ◌-◌, ◌<◌, ◌≤◌}
-use native.Mathlib.Numerals.{add-one}
 use native.Mathlib.Omega.{arith}
 use borrow.Author.Tests.{ltb-true, lt-ltb, eqb-true, eqb-false, not-true}
 use lib.Dec.{eqb, ltb}
@@ -15,7 +14,7 @@ use Rattle.paper.specs.Answer.{or_else, same}
 use Rattle.paper.specs.Forest.{Forest, empty, node}
 use Rattle.paper.specs.Field.{first, after}
 use Rattle.paper.specs.Folded.{folded}
-use Rattle.paper.specs.Layout.{Part, nothing, before}
+use Rattle.paper.specs.Layout.{Part, nothing}
 use Rattle.paper.specs.Rows.{skipped}
 use Rattle.laws.proofs.Basics.{none≢some, some_is, or_else_none}
 use Rattle.laws.proofs.Folding.{folded_length}

@@ -1,5 +1,7 @@
 // Names whose case is forgotten, in slot order (02, 1/13): a walk that carries how much of the asked name is matched, and builds no
 // name. Full names and short ones are walked alike.
+#![tactic(auto)]
+
 ghost use Rattle.std.specs.Prelude.{◌≡◌, not, ◌&&◌, ◌-◌, ◌≤◌, ◌<◌, eqb, ltb, length};
 ghost use Rattle.paper.specs.Folded.{folded};
 ghost use Rattle.record.specs.Trees.{trees_in};
@@ -14,7 +16,7 @@ use plan::{MEMBERS, PlanRows, name_of};
 use record::{Siblings, Slot, Trees};
 
 // Two matches, with the slot of the second; or the slot behind a row, and the place of the one match up to there, 0 for none.
-#[derive(Drop)]
+#[derive(Clone, Copy)]
 pub enum Met {
     Twice(Slot),
     Past(Slot, usize),

@@ -1,4 +1,6 @@
 // The identifiers of a tree: refusal 9, of a column that an id finds and of those above it.
+#![tactic(auto)]
+
 ghost use Rattle.std.specs.Prelude.{◌≡◌, ◌≤◌, ◌<◌, length, get_or};
 ghost use Rattle.paper.specs.Bytes.{turned};
 ghost use Rattle.paper.specs.Rows.{look_id};

@@ -5,11 +5,11 @@ use mathlib.Core.List.{List}
 use Prim.Native.Nat.{ℕ, zero, suc, ◌+◌, ◌<◌, ◌≤◌}
 use native.Mathlib.Numerals.{add-one}
 use native.Mathlib.Omega.{arith}
-use lib.ListN.{length, get_or, set, length-set}
+use lib.ListN.{get_or, set}
 use lib.Seq.{get_or-set_same, get_or-set_other}
 use Rattle.index_ids.specs.Ids.{bucket_of, id_in}
 use Rattle.index_ids.specs.Table.{row, Rooms, Within}
-use Rattle.index_ids.specs.Path.{bit, Together, met, linked, First, IdsChained, EndsAt, unlinked, entered_at}
+use Rattle.index_ids.specs.Path.{bit, Together, met, First, IdsChained, EndsAt, unlinked, entered_at}
 use Rattle.index_ids.proofs.Chains.{eqb_cases}
 use Rattle.index_ids.proofs.Tables.{row_left, cell_stored, within_both, within_wider, within_cell}
 use Rattle.index_ids.proofs.Paths.{together_back, together_on, together_less, together_more, met_head, met_linked, met_stops, met_cell, met_together, went, own_way, own_below, one_depth, no_first}

@@ -1,4 +1,6 @@
 // An index of ids: each stands on a path by its bits. Refusal 7, and the search for an id. And slots in chains, for full names.
+#![tactic(auto)]
+
 ghost use Rattle.std.specs.Prelude.{◌≡◌, eqb, ◌≤◌, ◌<◌, length, get_or};
 ghost use Rattle.paper.specs.Bytes.{turned};
 ghost use Rattle.record.specs.Says.{slot_before};
@@ -31,7 +33,7 @@ pub const NAME_HEADS: usize = 6;
 pub const NAME_NEXT: usize = 7;
 
 // Where the way to an id leads: to the slot that has it, or to the row and the cell in which its path ends.
-#[derive(Drop)]
+#[derive(Clone, Copy)]
 pub enum Way {
     Met(Slot),
     Ended(usize, usize),

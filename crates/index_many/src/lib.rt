@@ -1,4 +1,6 @@
 // Many ids looked up at once, in a tree that is tested once (02, 2/13): refusals 1 to 8, then the slot of each id.
+#![tactic(auto)]
+
 ghost use Rattle.std.specs.Prelude.{◌≡◌, [], ◌∷◌, length};
 ghost use Rattle.paper.specs.Entries.{find_ids};
 ghost use Rattle.paper.specs.Outcome.{for_slots, Answers};
@@ -14,7 +16,7 @@ use record_limits::whole_list;
 use tree::{Shaped, read_tree};
 
 // How many of the ids were found, or a refusal.
-#[derive(Drop)]
+#[derive(Clone, Copy)]
 pub enum Searched {
     Done(u32),
     Refused(Refusal),

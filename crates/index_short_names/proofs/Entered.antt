@@ -2,23 +2,22 @@
 -- asked name behind the names above tells whether a short name is it.
 use mathlib.Core.Path.{◌≡◌, refl, sym, subst, ◌∙◌}
 use mathlib.Core.Logic.{◌⊎◌, inl, inr, ⊎_elim}
-use mathlib.Core.Bool.{Bool, true, false, ◌&&◌, cond}
+use mathlib.Core.Bool.{Bool, true, false, cond}
 use mathlib.Core.List.{List, [], ◌∷◌, ◌++◌}
 use mathlib.Core.Option.{Option, none, some}
 use Prim.Native.Nat.{ℕ, suc, ◌+◌, ◌<◌, ◌≤◌}
 use native.Mathlib.Omega.{arith}
-use lib.Dec.{eqb}
 use Rattle.paper.specs.declared.Kind.{Kind}
 use Rattle.paper.specs.declared.Role.{Role}
 use Rattle.paper.specs.declared.Role.TheVariants.{Member}
 use Rattle.paper.specs.Answer.{find, or_else, same, among}
 use Rattle.paper.specs.Forest.{Forest, empty, node, size, mapped}
 use Rattle.paper.specs.Field.{Field, first, after}
-use Rattle.paper.specs.Rows.{Row, Start, row, below, beside, rows, entered, skipped, late, dotted}
-use Rattle.laws.proofs.Basics.{none≢some, some_is, neither, or_none, cond_none}
+use Rattle.paper.specs.Rows.{Row, Start, row, below, beside, rows, entered, skipped, late}
+use Rattle.laws.proofs.Basics.{none≢some, some_is, or_none, cond_none}
 use Rattle.laws.proofs.Preorder.{size_mapped}
 use Rattle.plan.proofs.Walks.{Numbered}
-use Rattle.index_turns.specs.Turn.{strip, then_strip, left_is, inside, own}
+use Rattle.index_turns.specs.Turn.{strip, left_is, inside, own}
 use Rattle.index_turns.proofs.Left.{same_strip, strip_below, undotted}
 use Rattle.index_short_names.specs.Seek.{seek_in}
 use Rattle.index_short_names.proofs.Seeking.{seek_nothing}

@@ -1,4 +1,6 @@
 // Look-up of a short name: a walk that carries how much of the asked name is matched, and builds no name.
+#![tactic(auto)]
+
 ghost use Rattle.std.specs.Prelude.{◌≡◌, not, ◌&&◌, cond, ◌≤◌, ◌<◌, ltb, length};
 ghost use Rattle.paper.specs.Answer.{or_else};
 ghost use Rattle.paper.specs.Rows.{late};
@@ -14,14 +16,14 @@ use plan::{MEMBERS, PlanRows};
 use record::{Siblings, Slot, Trees};
 
 // A slot that was found, or the slot behind a row in which there is none.
-#[derive(Drop)]
+#[derive(Clone, Copy)]
 pub enum Sighting {
     Found(Slot),
     Past(Slot),
 }
 
 // What a search meets at a record: its members' role, where to look on inside it, and its own place if its name is what is left.
-#[derive(Drop)]
+#[derive(Clone, Copy)]
 struct Turn {
     role: Role,
     pos: usize,

@@ -1,4 +1,6 @@
 // Building the index of ids and searching in it, apart from all else, so that the benchmark can time it. No entry calls this.
+#![tactic(auto)]
+
 ghost use Rattle.std.specs.Prelude.{◌≡◌, ◌/◌, ◌≤◌, length};
 ghost use Rattle.plan.specs.Table.{numbers};
 ghost use Rattle.index_ids.specs.Path.{IdsChained};
@@ -52,8 +54,7 @@ fn search_rounds(plan: &PlanRows, index: &IndexRows, m: usize, ids: &[u8], round
 
 // The index of the records' ids is built, then each id is sought in it, in so many rounds: how many searches found a slot, modulo
 // 2^32. 0 where the bytes are not at most 1,024 whole records, and where two ids are equal.
-#[unsafe(no_mangle)]
-pub extern "C" fn braidhurdle_timed_search(records: &[u8], ids: &[u8], rounds: u32) -> u32
+pub fn braidhurdle_timed_search(records: &[u8], ids: &[u8], rounds: u32) -> u32
     ensures { result ≡ timed records.now ids.now rounds }
 {
     if !whole_list(records, 24, 1024) {

@@ -1,5 +1,7 @@
 // What a walk that looks for a name meets at a record: how much of the name is matched there, full or short, with case or without.
 // No name is built or copied.
+#![tactic(auto)]
+
 ghost use Rattle.std.specs.Prelude.{◌≡◌, ◌&&◌, ◌+◌, ◌≤◌, ◌<◌, eqb, length, get_or, drop};
 ghost use Rattle.paper.specs.Answer.{or_else, same};
 ghost use Rattle.paper.specs.Folded.{fold, folded};
@@ -15,7 +17,7 @@ use plan::{MEMBERS, PlanRows, SOURCES, name_of, planned_kind};
 use record::{Siblings, Trees, equal};
 
 // What is inside a record for a search: its first member's role, and where to look on.
-#[derive(Drop)]
+#[derive(Clone, Copy)]
 pub struct Inside {
     pub role: Role,
     pub pos: usize,

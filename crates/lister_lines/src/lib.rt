@@ -1,4 +1,6 @@
 // The lister: from lent bytes to its text.
+#![tactic(auto)]
+
 ghost use Rattle.std.specs.Prelude.{◌≡◌, ◌+◌, ◌-◌, ◌<◌, ◌≤◌, length, take, drop};
 ghost use Rattle.std.proofs.lemmas.List.Edits.{sets};
 ghost use Rattle.paper.specs.Bytes.{turned};
@@ -16,7 +18,7 @@ use record::{Check, Refusal, Trees};
 use tree::{Shaped, read_tree};
 
 // Decimal digits, at the end of ten bytes.
-#[derive(Drop)]
+#[derive(Clone, Copy)]
 struct Digits {
     bytes: [u8; 10],
     start: usize,

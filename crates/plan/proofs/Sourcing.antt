@@ -141,7 +141,7 @@ module _ (base added edits : List ℕ) (x slot : ℕ) (l : 2048 ≤ x) (es : slo
 
 module _ (slices : List (Bor (List ℕ))) (x : ℕ) (r : Bor (List ℕ)) where
   abbrev pub Part : (name : List ℕ) (pool at : ℕ) → Type 0
-  Part name pool at = (r.now ≡ name) × (r.ref_ptr.0 ≡ (slice_at slices pool).ptr.0) × (r.ref_ptr.1 ≡ (slice_at slices pool).ptr.1 + at)
+  Part name pool at = (r.now ≡ name) × (r.ref_ptr.0 ≡ (slice_at slices pool).ref_ptr.0) × (r.ref_ptr.1 ≡ (slice_at slices pool).ref_ptr.1 + at)
 
   pub name_base : x < 1024 → Part (name_of (trees_in slices).pool (trees_in slices).records x) 1 (rec_at (trees_in slices).records x).name_at → NameAt slices x r
   unfolding source_field field_at

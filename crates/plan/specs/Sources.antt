@@ -1,6 +1,6 @@
 -- What a planned record takes from its source.
 use Rattle.std.specs.Prelude.{ℕ, ◌+◌, ◌-◌, ◌*◌, ◌<◌, ◌≤◌, ◌≡◌, Bool, cond, List, ltb, leb, length, get_or}
-use Rattle.std.specs.Borrow.{MutBor}
+use Rattle.std.specs.Borrow.{Bor}
 use Rattle.paper.specs.declared.Kind.{Kind}
 use Rattle.paper.specs.Sound.{name_bytes}
 use Rattle.paper.specs.Bytes.{rec_at, kind_at}
@@ -38,10 +38,10 @@ name_from base added edits x =
     (cond (ltb (low_part (mark_of x)) 2) (rec_at base (edited_slot x)).name_at (edit_at edits (renaming (mark_of x))).name_at)
 
 -- A slice is a source's name: the very part of the pool that holds it.
-pub record NameAt (slices : List (MutBor (List ℕ))) (x : ℕ) (r : MutBor (List ℕ)) : Type 0 where
+pub record NameAt (slices : List (Bor (List ℕ))) (x : ℕ) (r : Bor (List ℕ)) : Type 0 where
   pub name : r.now ≡ (source_field (trees_in slices) x).name
-  pub pool : r.ref_ptr.0 ≡ (slice_at slices (pool_of x)).ptr.0
-  pub offset : r.ref_ptr.1 ≡ (slice_at slices (pool_of x)).ptr.1 + name_from (trees_in slices).records (trees_in slices).added_records (trees_in slices).edits x
+  pub pool : r.ref_ptr.0 ≡ (slice_at slices (pool_of x)).ref_ptr.0
+  pub offset : r.ref_ptr.1 ≡ (slice_at slices (pool_of x)).ref_ptr.1 + name_from (trees_in slices).records (trees_in slices).added_records (trees_in slices).edits x
 
 -- A source stands in its list, and the edits that rename and widen it in theirs.
 pub record In (base added edits : List ℕ) (x : ℕ) : Type 0 where

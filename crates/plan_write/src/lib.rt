@@ -1,4 +1,6 @@
 // The one writer: a plan's records as bytes, and their names.
+#![tactic(auto)]
+
 ghost use Rattle.std.specs.Prelude.{◌≡◌, true, ◌+◌, ◌*◌, ◌≤◌, ◌<◌, length, get_or};
 ghost use Rattle.std.proofs.lemmas.List.Edits.{sets};
 ghost use Rattle.paper.specs.Encode.{kind_byte, row24, record_bytes, pool_bytes};
@@ -170,7 +172,7 @@ fn source_at(plan: &PlanRows, i: usize) -> u32
 }
 
 // Names that stand one behind the other in the base's pool: where they end there, and the place behind the last of them.
-#[derive(Drop)]
+#[derive(Clone, Copy)]
 struct Run {
     end: usize,
     next: usize,

@@ -1,7 +1,7 @@
 -- What the steps of pruning find, in their order.
 use Rattle.std.specs.Prelude.{ℕ, ◌<◌, ◌≡◌, Bool, List, get_or}
 use Rattle.paper.specs.declared.Role.TheVariants.{Member}
-use Rattle.paper.specs.Answer.{Answer, ◌>>=◌, ◌>>◌, among}
+use Rattle.paper.specs.Answer.{Answer, ◌>>◌, among}
 use Rattle.paper.specs.Refusals.{roomy, limited}
 use Rattle.paper.specs.Forest.{Forest}
 use Rattle.paper.specs.Field.{Field}

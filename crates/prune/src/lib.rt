@@ -1,4 +1,6 @@
 // Pruning, whole: from lent bytes to lent bytes.
+#![tactic(auto)]
+
 ghost use Rattle.std.specs.Prelude.{◌≡◌, [], ◌∷◌, length};
 ghost use Rattle.paper.specs.Entries.{prune_entry};
 ghost use Rattle.paper.specs.Outcome.{Answers, for_records, for_names};

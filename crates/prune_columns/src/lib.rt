@@ -1,5 +1,7 @@
 // prune_columns.rs: what is kept of a tree of which some records are chosen. The first walk finds refusal 20; the second plans
 // what is kept, in slot order. Both call themselves for the inside of a record, with the levels left falling.
+#![tactic(auto)]
+
 ghost use Rattle.std.specs.Prelude.{◌≡◌, ◌+◌, ◌*◌, ◌≤◌, ◌<◌, length};
 ghost use Rattle.paper.specs.declared.Role.TheVariants.{Member, Element, Key};
 ghost use Rattle.tree_walk.specs.There.{There};
@@ -27,7 +29,7 @@ use tree::{Walked, inside_role, row_past};
 use tree_walk::is_map;
 
 // What was planned: the slot after the trees, the place after their plan, and how many of the siblings are kept.
-#[derive(Drop)]
+#[derive(Clone, Copy)]
 pub struct Step {
     pub next: usize,
     pub at: usize,

@@ -1,4 +1,6 @@
 // The chosen ids of prune_columns.rs, as marks on slots: linear time, by the index of ids.
+#![tactic(auto)]
+
 ghost use Rattle.std.specs.Prelude.{◌≡◌, ◌≤◌};
 ghost use Rattle.plan.specs.Table.{numbers};
 ghost use Rattle.index_ids.specs.Chain.{Below};

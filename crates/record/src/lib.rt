@@ -1,4 +1,6 @@
 // Numbers and their bytes. Records of 24 bytes: reading them, and refusals 3 and 4 over a list of them.
+#![tactic(auto)]
+
 ghost use Rattle.std.specs.Prelude.{◌≡◌, ◌+◌, ◌*◌, ◌%◌, ◌<◌, ◌≤◌, true, [], length};
 ghost use Rattle.std.proofs.Math.Option.{none};
 ghost use Rattle.paper.specs.Answer.{among, lowest, same};
@@ -10,11 +12,11 @@ ghost use Rattle.record.specs.Sifts.{kept, Sifts};
 use paper::Kind;
 
 // The bit pattern of an id; its signed reading is what people see.
-#[derive(Drop)]
+#[derive(Clone, Copy)]
 pub struct FieldId(pub u32);
 
 // A place in today's list of records.
-#[derive(Drop)]
+#[derive(Clone, Copy)]
 pub struct Slot(pub usize);
 
 // What is lent as trees: the base's records and their pool, the added records and the request's pool, and the edits, whose new names
@@ -41,7 +43,7 @@ pub const DELETIONS: usize = 1;
 pub const ADDITIONS: usize = 2;
 
 // So many trees from a slot on, with so many levels left for them.
-#[derive(Drop)]
+#[derive(Clone, Copy)]
 pub struct Siblings {
     pub slot: usize,
     pub count: u32,
@@ -49,7 +51,7 @@ pub struct Siblings {
 }
 
 // Why a request is turned down: 01's number, the list and the place in it.
-#[derive(Drop)]
+#[derive(Clone, Copy)]
 pub struct Refusal {
     pub number: u32,
     pub list: u32,
@@ -57,42 +59,42 @@ pub struct Refusal {
 }
 
 // A test over a list.
-#[derive(Drop)]
+#[derive(Clone, Copy)]
 pub enum Check {
     Fine,
     Refused(Refusal),
 }
 
 // What one pass tells of records: the first `fine` keep 3 and 4, and where `nested` is false none of all is a list or a map.
-#[derive(Drop)]
+#[derive(Clone, Copy)]
 pub struct Sifted {
     pub fine: usize,
     pub nested: bool,
 }
 
 // What a look-up in a tree finds.
-#[derive(Drop)]
+#[derive(Clone, Copy)]
 pub enum Found {
     At(FieldId, Slot),
     Nothing,
 }
 
 // What a look-up over the slots of an index finds.
-#[derive(Drop)]
+#[derive(Clone, Copy)]
 pub enum FoundSlot {
     At(Slot),
     Nothing,
 }
 
 // What a look-up in lent bytes answers.
-#[derive(Drop)]
+#[derive(Clone, Copy)]
 pub enum Sought {
     Looked(Found),
     Refused(Refusal),
 }
 
 // How much an accepted answer holds: records, name bytes; and for an update the last id consumed and the records visited.
-#[derive(Drop)]
+#[derive(Clone, Copy)]
 pub struct Sizes {
     pub records: u32,
     pub names: u32,
@@ -101,7 +103,7 @@ pub struct Sizes {
 }
 
 // What update, pruning and renumbering answer; the bytes stand in the lent buffers.
-#[derive(Drop)]
+#[derive(Clone, Copy)]
 pub enum Changed {
     Done(Sizes),
     Refused(Refusal),

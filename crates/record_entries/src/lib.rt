@@ -1,4 +1,6 @@
 // Path entries of 8 bytes, edits of 16 and ids of 4: reading them, and refusals 3 and 4 over a list of entries.
+#![tactic(auto)]
+
 ghost use Rattle.std.specs.Prelude.{◌≡◌, true, ◌+◌, ◌*◌, ◌≤◌, ◌<◌, eqb, length};
 ghost use Rattle.paper.specs.Answer.{lowest};
 ghost use Rattle.paper.specs.Bytes.{word32, turned};
@@ -10,7 +12,7 @@ ghost use Rattle.record_entries.specs.Rule.{number_of, width_of, rule_of, inside
 use record::{Check, Refusal, le16, le32, length_of};
 
 // The lists whose entries have paths. They differ in their number, the width of an entry, and what 3 and 4 ask of it.
-#[derive(Drop)]
+#[derive(Clone, Copy)]
 pub enum PathList {
     Deletions,
     Additions,
@@ -18,7 +20,7 @@ pub enum PathList {
 }
 
 // What an edit does to its column: a new name, no longer required, a wider type.
-#[derive(Drop)]
+#[derive(Clone, Copy)]
 pub enum What {
     Rename,
     Relax,

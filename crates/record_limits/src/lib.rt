@@ -1,4 +1,6 @@
 // Refusals 1 and 2: the lengths of all that is lent, tested before anything else is read. Each test takes any bytes at all.
+#![tactic(auto)]
+
 ghost use Rattle.std.specs.Prelude.{◌≡◌, ◌&&◌, ◌*◌, ◌≤◌, ◌<◌, leb, length};
 ghost use Rattle.paper.specs.Limits.{room, whole, sum_from, name_lens, tree_sized, sized, sized_ids};
 ghost use Rattle.record.specs.Trees.{trees_in, lists_in};

@@ -1,9 +1,9 @@
 // What was replayed, and how it came out.
-use libc::STDOUT_FILENO;
 use record::equal;
+use std::io;
 
 // What a line is: a case of an operation or of the lister, or a comment.
-#[derive(Drop)]
+#[derive(Clone, Copy)]
 pub enum Line {
     Update,
     Prune,
@@ -19,7 +19,7 @@ pub enum Line {
 }
 
 // How a case came out.
-#[derive(Drop)]
+#[derive(Clone, Copy)]
 pub enum Verdict {
     Agrees,
     Differs,
@@ -27,7 +27,7 @@ pub enum Verdict {
 }
 
 // The lines so far, the cases of each operation and of the lister, and how many agree and differ.
-#[derive(Drop)]
+#[derive(Clone, Copy)]
 pub struct Tally {
     pub lines: u64,
     pub update: u64,
@@ -56,18 +56,14 @@ fn more(n: u64) -> u64 {
     std::num::wrapping_add_u64(n, 1)
 }
 
-// Writes what is wrong with a line.
-fn tell(line: u64, wrong: &[u8]) {
-    io::write_all(STDOUT_FILENO, b"line ");
-    io::print_decimal(STDOUT_FILENO, line);
-    io::write_all(STDOUT_FILENO, wrong);
+// Writes what is wrong with a line. One that can't be written is counted all the same.
+fn tell(rt: &impl Print, line: u64, wrong: &str) {
+    let _ = println!(rt; "line {line} {wrong}");
 }
 
 // Writes one count.
-fn tell_count(word: &[u8], n: u64) {
-    io::write_all(STDOUT_FILENO, word);
-    io::print_decimal(STDOUT_FILENO, n);
-    io::write_all(STDOUT_FILENO, b"\n");
+fn tell_count(rt: &impl Print, word: &str, n: u64) -> io::Result<()> {
+    println!(rt; "{word} {n}")
 }
 
 // What a line is, by its first field. A comment has # first.
@@ -164,17 +160,17 @@ impl Tally {
     }
 
     // The case of the present line is done; one that does not agree is told.
-    pub fn judged(mut self, verdict: Verdict) -> Self {
+    pub fn judged(mut self, rt: &impl Print, verdict: Verdict) -> Self {
         match verdict {
             Verdict::Agrees => {
                 self.agree = more(self.agree);
             }
             Verdict::Differs => {
-                tell(self.lines, b" differs\n");
+                tell(rt, self.lines, "differs");
                 self.differ = more(self.differ);
             }
             Verdict::Unreadable => {
-                tell(self.lines, b" can't be read\n");
+                tell(rt, self.lines, "can't be read");
                 self.differ = more(self.differ);
             }
         }
@@ -182,19 +178,18 @@ impl Tally {
     }
 
     // Writes the counts.
-    pub fn report(self) {
-        tell_count(b"update ", self.update);
-        tell_count(b"prune ", self.prune);
-        tell_count(b"renumber ", self.renumber);
-        tell_count(b"name ", self.name);
-        tell_count(b"id ", self.id);
-        tell_count(b"parent ", self.parent);
-        tell_count(b"list ", self.list);
-        tell_count(b"folded ", self.folded);
-        tell_count(b"ids ", self.ids);
-        io::print_decimal(STDOUT_FILENO, self.agree);
-        io::write_all(STDOUT_FILENO, b" cases agree, ");
-        io::print_decimal(STDOUT_FILENO, self.differ);
-        io::write_all(STDOUT_FILENO, b" differ\n");
+    pub fn report(self, rt: &impl Print) -> io::Result<()> {
+        tell_count(rt, "update", self.update)?;
+        tell_count(rt, "prune", self.prune)?;
+        tell_count(rt, "renumber", self.renumber)?;
+        tell_count(rt, "name", self.name)?;
+        tell_count(rt, "id", self.id)?;
+        tell_count(rt, "parent", self.parent)?;
+        tell_count(rt, "list", self.list)?;
+        tell_count(rt, "folded", self.folded)?;
+        tell_count(rt, "ids", self.ids)?;
+        let agree = self.agree;
+        let differ = self.differ;
+        println!(rt; "{agree} cases agree, {differ} differ")
     }
 }

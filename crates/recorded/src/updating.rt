@@ -87,7 +87,7 @@ fn agrees_over(
 }
 
 // Where the inputs of the request end in the buffer.
-#[derive(Drop)]
+#[derive(Clone, Copy)]
 struct Request {
     deletions: usize,
     additions: usize,

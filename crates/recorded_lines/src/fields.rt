@@ -4,7 +4,7 @@ ghost use Rattle.std.specs.Prelude.{◌+◌, ◌*◌, ◌≤◌, ◌<◌, length
 use record::equal;
 
 // What digits spell, where they spell a number of 32 bits.
-#[derive(Drop)]
+#[derive(Clone, Copy)]
 pub enum Parsed {
     Number(u32),
     Malformed,
@@ -193,7 +193,7 @@ pub fn decode(text: &[u8], buffer: &mut [u8], from: usize) -> usize
 }
 
 // Where the first three inputs end in the buffer: the records, the pool, and the list or the name that follows.
-#[derive(Drop)]
+#[derive(Clone, Copy)]
 pub struct Base {
     pub records: usize,
     pub pool: usize,

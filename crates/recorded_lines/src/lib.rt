@@ -1,4 +1,6 @@
 // A recorded line: its fields, and whether an answer is the one that it tells.
+#![tactic(auto)]
+
 pub mod answers;
 pub mod fields;
 pub mod outputs;

@@ -1,6 +1,6 @@
 -- The part of the entry up to refusal 6.
 use Rattle.std.specs.Prelude.{ℕ, ◌&&◌, List, leb, length}
-use Rattle.paper.specs.Answer.{Answer, ◌>>=◌, ◌>>◌}
+use Rattle.paper.specs.Answer.{Answer, ◌>>◌}
 use Rattle.paper.specs.Refusals.{roomy, limited}
 use Rattle.paper.specs.Forest.{Forest}
 use Rattle.paper.specs.Field.{Field}

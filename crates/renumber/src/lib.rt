@@ -1,4 +1,6 @@
 // Renumbering, whole: from lent bytes to lent bytes.
+#![tactic(auto)]
+
 ghost use Rattle.std.specs.Prelude.{◌≡◌, [], ◌∷◌, length};
 ghost use Rattle.paper.specs.Entries.{renumber_entry};
 ghost use Rattle.paper.specs.Outcome.{for_records, for_names, for_identifiers, Answers};

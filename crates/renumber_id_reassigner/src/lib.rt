@@ -1,5 +1,7 @@
 // id_reassigner.rs: new numbers for the records of a tree. Numbers are counted as in the paper, the signed id plus 2^31, and
 // stored as 32 bits. Member renumbering and type renumbering call each other; levels left and records left fall.
+#![tactic(auto)]
+
 ghost use Rattle.std.specs.Prelude.{◌+◌, ◌<◌, true, false};
 ghost use Rattle.paper.specs.Bytes.{kind_at, kids_at, slots};
 ghost use Rattle.paper.specs.Field.{is_map};
@@ -9,7 +11,7 @@ use record::{kids_at, kind_at, turn};
 use tree_walk::is_map;
 
 // Where the renumbering goes on: at which slot, and with which number.
-#[derive(Drop)]
+#[derive(Clone, Copy)]
 pub struct Reassigned {
     pub next: usize,
     pub next_field_id: u32,

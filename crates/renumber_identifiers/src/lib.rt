@@ -1,4 +1,6 @@
 // id_reassigner.rs, apply_to_identifier_fields: identifier ids mapped to the new ids, in the order given.
+#![tactic(auto)]
+
 ghost use Rattle.plan.specs.Table.{numbers};
 ghost use Rattle.renumber_identifiers.specs.Mapped.{Findable, Located, Applicable, Applied};
 

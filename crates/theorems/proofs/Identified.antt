@@ -87,7 +87,11 @@ side_by_side i (r ∷ rs) (q ∷ qs) e d h =
     go false w one k f =
         let o = f k in
         let other = ne_eqb (id_in q) new (λ z. d.0 (rw z o.there)) in
-        record { there = rw w (inr o.there); found = rw (w, other) o.found }
+        let is : renamed (map id_in (r ∷ rs)) (map id_in (q ∷ qs)) i ≡ new = rw w refl in
+        record {
+          there = subst (λ (x : ℕ). x ∈ map id_in (q ∷ qs)) (sym is) (inr o.there);
+          found = subst (λ (x : ℕ). at_id x (q ∷ qs) ≡ true) (sym is) (rw other o.found);
+        }
 
 -- ---- a renumbering
 

@@ -13,7 +13,7 @@ use borrow.Author.Tests.{eqb-true}
 use Rattle.paper.specs.Answer.{ok, or_else, among, find, same, repeated}
 use Rattle.paper.specs.Forest.{Forest, empty, node}
 use Rattle.paper.specs.Field.{Field}
-use Rattle.paper.specs.Rows.{Row, Start, skipped, dotted, top, row, below, beside, rows, entered, look_name, look_id}
+use Rattle.paper.specs.Rows.{Row, Start, skipped, dotted, top, below, beside, rows, entered, look_name, look_id}
 use Rattle.paper.specs.Sound.{names, sound}
 use Rattle.paper.specs.Edits.{Change, rename, relax, widen, Edited, is_rename, renamed, again, has_dot, with_change}
 use Rattle.paper.specs.Edits.{edit_field, edit_fields}

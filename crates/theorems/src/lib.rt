@@ -1,1 +1,3 @@
+#![tactic(auto)]
+
 // Theorems about the definitions, in proofs/. No code.

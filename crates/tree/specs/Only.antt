@@ -1,6 +1,6 @@
 -- A tree that is only read: refusal 2, then 3 to 6.
 use Rattle.std.specs.Prelude.{ℕ, List}
-use Rattle.paper.specs.Answer.{Answer, ◌>>=◌, ◌>>◌}
+use Rattle.paper.specs.Answer.{Answer, ◌>>◌}
 use Rattle.paper.specs.Refusals.{limited}
 use Rattle.paper.specs.Forest.{Forest}
 use Rattle.paper.specs.Field.{Field}

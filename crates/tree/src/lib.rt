@@ -1,4 +1,6 @@
 // Trees of records: refusals 5 and 6, and 3 to 6 together.
+#![tactic(auto)]
+
 ghost use Rattle.std.specs.Prelude.{◌≡◌, true, false, ◌+◌, ◌*◌, ◌≤◌, length};
 ghost use Rattle.std.proofs.Math.Option.{none};
 ghost use Rattle.paper.specs.declared.Role.TheVariants.{Member};
@@ -19,14 +21,14 @@ use record::{Check, Refusal, check_bounds, check_bytes, equal, kids_at, kind_at,
 use record_limits::sized;
 
 // Where a walk over a row of trees ends, or why it stops.
-#[derive(Drop)]
+#[derive(Clone, Copy)]
 pub enum Walked {
     End(usize),
     Refused(Refusal),
 }
 
 // How many roots a tree has, or why it is turned down.
-#[derive(Drop)]
+#[derive(Clone, Copy)]
 pub enum Shaped {
     Roots(u32),
     Refused(Refusal),

@@ -1,4 +1,6 @@
 // Walks over trees whose shape was tested: what stands there, and the kind that splits them.
+#![tactic(auto)]
+
 ghost use Rattle.std.specs.Prelude.{◌≡◌};
 ghost use Rattle.paper.specs.Field.{is_map};
 

@@ -1,4 +1,6 @@
 // The update, whole: from lent bytes to lent bytes.
+#![tactic(auto)]
+
 ghost use Rattle.std.specs.Prelude.{◌≡◌, [], ◌∷◌, length, ◌<◌};
 ghost use Rattle.paper.specs.Bytes.{turned};
 ghost use Rattle.paper.specs.Entries.{update_entry};

@@ -1,4 +1,6 @@
 // One deletion, one addition: what a look-up's answer decides. Refusals 11 to 18, and 22.
+#![tactic(auto)]
+
 ghost use Rattle.std.specs.Prelude.{◌≡◌, true, ◌+◌, ◌*◌, ◌≤◌, ◌<◌, length};
 ghost use Rattle.update_dropped.specs.Set.{dropped_ids, set_of, Good};
 ghost use Rattle.index_ids.specs.Table.{ups_in};
@@ -19,21 +21,21 @@ use update_gone::is_gone;
 use update_parents::{Target, name_taken, resolve_parent_target};
 
 // The id that a deletion drops, or refusal 11 or 12.
-#[derive(Drop)]
+#[derive(Clone, Copy)]
 pub enum Dropping {
     Id(FieldId),
     Refused(Refusal),
 }
 
 // Where an addition goes: 0 is the root list, 1 + x the struct whose id has the bits x; or refusal 15, 16, 22 or 17.
-#[derive(Drop)]
+#[derive(Clone, Copy)]
 pub enum Going {
     Under(u64),
     Refused(Refusal),
 }
 
 // The bits of an addition's first id, and the last id that it consumes, shifted by 2^31; or refusal 18.
-#[derive(Drop)]
+#[derive(Clone, Copy)]
 pub enum Fresh {
     Ids(u32, u64),
     Refused(Refusal),

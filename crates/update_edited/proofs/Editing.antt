@@ -21,7 +21,6 @@ use Rattle.laws.proofs.Runs.{from_step, from_done, from_all}
 use Rattle.record.specs.declared.Refusal.{Refusal}
 use Rattle.record.specs.declared.Slot.{Slot}
 use Rattle.record.specs.declared.Found.{Found}
-use Rattle.record.specs.declared.Found.TheVariants.{At}
 use Rattle.record.specs.declared.Check.{Check}
 use Rattle.record.specs.declared.Check.TheVariants as check
 use Rattle.record.specs.Says.{found_row}

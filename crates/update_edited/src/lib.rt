@@ -1,4 +1,6 @@
 // The edits, one at a time: refusals 23, 24, 13 and 26, or the marks that they leave on slots of the base.
+#![tactic(auto)]
+
 ghost use Rattle.record.specs.Trees.{trees_in};
 ghost use Rattle.update_dropped.specs.Set.{dropped_ids, set_of, Good};
 ghost use Rattle.update_edited.specs.Editing.{Editable, all_edited, EditsBy, EditsIn};

@@ -25,9 +25,9 @@ use Rattle.laws.proofs.Preorder.{length_preorder, preorder_mapped, counts_mapped
 use Rattle.laws.proofs.Runs.{get_or_sets, sets_front}
 use Rattle.record.specs.Trees.{Trees}
 use Rattle.plan.specs.Draft.{Drawn}
-use Rattle.plan.specs.Plan.{Source, slot_of, bits_of, source_field, planned_field, Sits}
+use Rattle.plan.specs.Plan.{Source, slot_of, bits_of, planned_field, Sits}
 use Rattle.plan.specs.Sources.{own_source}
-use Rattle.plan.specs.Table.{sources, numbers, members, LaidIn}
+use Rattle.plan.specs.Table.{sources, numbers, LaidIn}
 use Rattle.update_edits.specs.Marks.{marked, remarked, remark, Carries, RemarkedIn}
 use Rattle.update_edits.proofs.Marking.{source_stays}
 

@@ -1,5 +1,5 @@
 -- A plan's sources, one after the other, as their marks have them.
-use Prim.Native.Nat.{ℕ, suc, ◌+◌, ◌-◌, ◌<◌, ◌≤◌}
+use Prim.Native.Nat.{ℕ, suc, ◌+◌, ◌<◌, ◌≤◌}
 use mathlib.Core.Path.{◌≡◌, refl, sym, ap, ◌∙◌}
 use mathlib.Core.List.{List, [], ◌∷◌}
 use native.Mathlib.Nat.{zero-add}
@@ -8,7 +8,7 @@ use lib.ListN.{length, get_or, set}
 use lib.Seq.{sets, get_or-set_other}
 use Rattle.paper.specs.Bytes.{from}
 use Rattle.laws.proofs.Runs.{length_from, from_more}
-use Rattle.plan.specs.Table.{sources, numbers, members}
+use Rattle.plan.specs.Table.{sources}
 use Rattle.update_edits.specs.Marks.{remarked, RemarkedIn}
 
 -- What a run leaves behind it.

@@ -1,5 +1,7 @@
 // One edit: what a look-up's answer decides, refusals 23, 24, 13 and 26; the marks that edits leave on slots of the base; and a plan
 // whose sources carry them.
+#![tactic(auto)]
+
 ghost use Rattle.std.specs.Prelude.{◌≡◌, ◌&&◌, ◌||◌, ◌+◌, ◌*◌, ◌≤◌, ◌<◌, length, get_or, set};
 ghost use Rattle.paper.specs.Bytes.{rec_at, kind_at};
 ghost use Rattle.paper.specs.Field.{is_member, is_primitive};
@@ -27,7 +29,7 @@ use update_promotions::is_allowed;
 pub type Marks = [u16; 1024];
 
 // The slot of the column that an edit changes, or refusal 23, 24, 13 or 26.
-#[derive(Drop)]
+#[derive(Clone, Copy)]
 pub enum Editing {
     At(Slot),
     Refused(Refusal),

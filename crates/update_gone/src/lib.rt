@@ -1,4 +1,6 @@
 // Which records of the base go in an update: those dropped as a member, and all beneath them.
+#![tactic(auto)]
+
 ghost use Rattle.std.specs.Prelude.{◌≡◌, ◌*◌, ◌≤◌, ◌<◌, length};
 ghost use Rattle.paper.specs.Answer.{among};
 ghost use Rattle.index_ids.specs.Table.{ups_in};

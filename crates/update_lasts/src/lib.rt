@@ -1,5 +1,7 @@
 // Demand 3 of the function `update` and of its C function, in specs/ and proofs/. The one function here is a lemma: it
 // does nothing, and nobody need call it.
+#![tactic(auto)]
+
 ghost use Rattle.laws.specs.Fit.{Bytes};
 
 // Whatever is lent as a slice of bytes meets `Bytes`: each of its numbers is below 256.

@@ -1,4 +1,6 @@
 // Where an addition goes: the struct that receives it, and whether a member of it has the name.
+#![tactic(auto)]
+
 ghost use Rattle.std.specs.Prelude.{◌≡◌, true, not, ◌&&◌, ◌+◌, ◌*◌, ◌≤◌, ◌<◌, length};
 ghost use Rattle.std.proofs.Math.Option.{none};
 ghost use Rattle.tree.specs.Read.{Standing};
@@ -14,7 +16,7 @@ use tree::tree_end;
 use update_dropped::holds;
 
 // The struct that receives an addition, or nothing: refusal 16.
-#[derive(Drop)]
+#[derive(Clone, Copy)]
 pub enum Target {
     Struct(Slot),
     Nothing,

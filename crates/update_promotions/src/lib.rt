@@ -1,4 +1,6 @@
 // The steps by which a type is widened: a constant table by version and code pair, and the rule for decimals beside it.
+#![tactic(auto)]
+
 ghost use Rattle.std.specs.Prelude.{◌≡◌, ◌<◌, get_or};
 ghost use Rattle.paper.specs.Answer.{any};
 ghost use Rattle.paper.specs.Promotions.{

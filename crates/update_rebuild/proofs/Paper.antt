@@ -1,26 +1,18 @@
 -- What is planned, as fields, is the paper's rebuild: a source stands for its record, and what the rebuild asks of one is the same of the other.
 use Prim.Native.Nat.{ℕ, suc, ◌+◌, ◌-◌, ◌<◌, ◌≤◌}
-use mathlib.Core.Path.{◌≡◌, refl, sym, ap, ◌∙◌}
-use mathlib.Core.Bool.{true}
-use mathlib.Core.List.{List}
-use mathlib.Core.Option.{none}
+use mathlib.Core.Path.{◌≡◌, refl}
 use native.Mathlib.Omega.{arith}
 use borrow.Author.Tests.{lt-ltb, le-ltb}
-use Rattle.paper.specs.Answer.{ok, among}
 use Rattle.paper.specs.Forest.{Forest, empty, node, size, mapped}
-use Rattle.paper.specs.Field.{Field, id_of, kind_of, with_id}
-use Rattle.paper.specs.Bytes.{turned, rec_at, kids_at, kind_at, field_at}
-use Rattle.paper.specs.Layout.{Part, roots}
+use Rattle.paper.specs.Field.{with_id}
+use Rattle.paper.specs.Bytes.{field_at}
 use Rattle.paper.specs.Decode.{fields}
-use Rattle.paper.specs.Rebuild.{Addition, fresh, rebuilt}
+use Rattle.paper.specs.Rebuild.{fresh}
 use Rattle.laws.proofs.Words.{turned_twice}
-use Rattle.laws.proofs.Taken.{roots_take}
-use Rattle.laws.proofs.Natural.{mapped_all, rebuilt_mapped}
-use Rattle.laws.proofs.Preorder.{mapped_mapped}
-use Rattle.laws.proofs.Pointwise.{Each, each_more, each_mapped, each_slot, mapped_same, rebuilt_same}
+use Rattle.laws.proofs.Pointwise.{Each}
 use Rattle.record.specs.Trees.{Trees}
-use Rattle.plan.specs.Plan.{Source, source_field, planned_field}
-use Rattle.update_rebuild.specs.Sources.{base_source, added_source, source_id, source_kind, rebuilt_row, rebuilt_base}
+use Rattle.plan.specs.Plan.{source_field, planned_field}
+use Rattle.update_rebuild.specs.Sources.{added_source}
 
 module _ (l : Trees) where
   -- ---- an added tree

@@ -1,4 +1,6 @@
 // The rebuild of an update, as a plan: dropped members go with their subtrees, additions follow the survivors.
+#![tactic(auto)]
+
 ghost use Rattle.std.specs.Prelude.{◌≡◌, true, not, ◌&&◌, ◌+◌, ◌-◌, ◌*◌, ◌≤◌, ◌<◌, eqb, length};
 ghost use Rattle.update_dropped.specs.Set.{dropped_ids, set_of, Good};
 ghost use Rattle.paper.specs.Bytes.{turned, kids_at, kind_at};
@@ -33,7 +35,7 @@ use update_dropped::dropped_member;
 
 // How much a request has: base records, added records, deletions, additions and edits; the last id, plus 2^31; and the version that
 // it names.
-#[derive(Drop)]
+#[derive(Clone, Copy)]
 pub struct Given {
     pub base: usize,
     pub added: usize,
@@ -58,7 +60,7 @@ pub const STARTS: usize = 3;
 
 // Where a walk stands: the next slot that it reads, the next place of the plan; of these siblings, those planned so far, and the records
 // visited in them.
-#[derive(Drop)]
+#[derive(Clone, Copy)]
 pub struct Place {
     pub next: usize,
     pub at: usize,
@@ -67,21 +69,21 @@ pub struct Place {
 }
 
 // `Full`: record 1,025 or level 17 would be planned (refusal 19).
-#[derive(Drop)]
+#[derive(Clone, Copy)]
 pub enum Step {
     Went(Place),
     Full,
 }
 
 // What siblings stand under: whether they are open to change, and where additions to them go.
-#[derive(Drop)]
+#[derive(Clone, Copy)]
 pub struct Under {
     pub opens: bool,
     pub q: u64,
 }
 
 // What the rebuild asks of a record: its id, how many members it has, and what they stand under.
-#[derive(Drop)]
+#[derive(Clone, Copy)]
 pub struct Head {
     pub id: u32,
     pub members: u32,

@@ -1,4 +1,6 @@
 // All that an update is lent, tested before anything is decided: refusals 1 to 6 and 25.
+#![tactic(auto)]
+
 ghost use Rattle.std.specs.Prelude.{◌≡◌, ◌≤◌, length};
 ghost use Rattle.paper.specs.Promotions.{known_version};
 ghost use Rattle.record.specs.Trees.{trees_in, lists_in};
@@ -13,7 +15,7 @@ use record_limits::{room, sized_update};
 use tree::{Shaped, check_tree};
 
 // How many roots the base has, and how many the additions tree.
-#[derive(Drop)]
+#[derive(Clone, Copy)]
 pub enum Opened {
     Roots(u32, u32),
     Refused(Refusal),

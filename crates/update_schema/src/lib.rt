@@ -1,4 +1,6 @@
 // update_schema.rs: deletions and additions decided one at a time, the rebuilt tree, its tests, and the answer.
+#![tactic(auto)]
+
 ghost use Rattle.std.specs.Prelude.{◌≡◌, ◌<◌};
 ghost use Rattle.paper.specs.Bytes.{name_of};
 ghost use Rattle.paper.specs.Lists.{parent_path};
@@ -36,7 +38,7 @@ use update_dropped::{Dropped, gather};
 use update_rebuild::{DROPS, Decisions, FIRSTS, Given, STARTS, UNDERS};
 
 // An addition that is accepted: where it goes, the bits of its first id, the last id consumed, and the slot behind its column.
-#[derive(Drop)]
+#[derive(Clone, Copy)]
 pub struct Spot {
     pub under: u64,
     pub start: u32,
@@ -45,14 +47,14 @@ pub struct Spot {
 }
 
 // One addition: its spot, or one of the refusals 13 to 16, 22, 17, 18.
-#[derive(Drop)]
+#[derive(Clone, Copy)]
 pub enum Spotted {
     At(Spot),
     Refused(Refusal),
 }
 
 // All additions: the last id consumed, shifted by 2^31, or the first refusal.
-#[derive(Drop)]
+#[derive(Clone, Copy)]
 pub enum Decided {
     Last(u64),
     Refused(Refusal),

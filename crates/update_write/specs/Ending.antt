@@ -1,7 +1,7 @@
 -- The end of an update: the rebuilt tree's limits and its 7 to 9, then the answer and the bytes that are left.
 use Rattle.std.specs.Prelude.{ℕ, ◌+◌, ◌≤◌, ◌≡◌, true, List, [], ◌∷◌, length}
 use Rattle.std.proofs.Math.Option.{none}
-use Rattle.paper.specs.Answer.{Answer, ok, ◌>>=◌, ◌>>◌}
+use Rattle.paper.specs.Answer.{Answer, ok, ◌>>◌}
 use Rattle.paper.specs.Refusals.{rebuilt_within}
 use Rattle.paper.specs.Forest.{Forest, size, siblings}
 use Rattle.paper.specs.Field.{Field, id_of, kind_of}

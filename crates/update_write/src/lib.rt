@@ -1,4 +1,6 @@
 // The end of an update: the rebuilt tree planned, its limits and its own tests, and the answer written.
+#![tactic(auto)]
+
 ghost use Rattle.std.specs.Prelude.{◌≡◌};
 ghost use Rattle.paper.specs.Forest.{mapped};
 ghost use Rattle.record.specs.Trees.{trees_in};

@@ -31,7 +31,7 @@ fn is_built() -> bool {
         if env::split_paths(&path).any(|folder| folder.join("rt").is_file()) {
             Command::new(root().join("tools/lister")).output().expect("tools/lister runs");
         }
-        root().join("target/bin/lister").exists()
+        root().join("crates/lister/out/lister").exists()
     })
 }
 
@@ -40,7 +40,7 @@ impl Room {
     fn new(test: &str) -> Option<Room> {
         if !is_built() {
             let gate = env::var("CI").is_ok_and(|ci| ci == "true");
-            assert!(!gate, "CI=true asks for the lister: rt check lister");
+            assert!(!gate, "CI=true asks for the lister: rt run in crates/lister");
             println!("The lister did not run: it is not built, and there is no toolchain");
             return None;
         }
@@ -241,6 +241,7 @@ fn where_it_is_not_built_the_toolchain_is_asked_to_build_it() {
     let checkout = env::temp_dir().join(format!("lister-unbuilt-{}", std::process::id()));
     let script = checkout.join("tools/lister");
     fs::create_dir_all(checkout.join("tools")).expect("made");
+    fs::create_dir_all(checkout.join("crates/lister")).expect("made");
     fs::copy(root().join("tools/lister"), &script).expect("copied");
     let run = |toolchain: &str| {
         let path = format!("{}:/usr/bin:/bin", checkout.join(toolchain).display());
@@ -255,13 +256,13 @@ fn where_it_is_not_built_the_toolchain_is_asked_to_build_it() {
     let (status, written, said) = run("fails");
     assert_eq!((status, written.as_str()), (Some(3), ""));
     assert!(
-        said.contains("not proved\ntools/lister: rt check lister did not build it\n"),
+        said.contains("not proved\ntools/lister: rt run in crates/lister did not build it\n"),
         "{said}"
     );
     put_script(
         &checkout.join("builds/rt"),
-        "[ \"$*\" = 'check lister' ] && mkdir -p target/bin &&\n\
-         printf '#!/bin/sh\\necho 0 1 - a\\n' >target/bin/lister && chmod +x target/bin/lister",
+        "[ \"$*\" = run ] && mkdir out &&\n\
+         printf '#!/bin/sh\\necho 0 1 - a\\n' >out/lister && chmod +x out/lister",
     );
     if cfg!(target_arch = "x86_64") {
         let (status, written, said) = run("builds");

@@ -1,0 +1,8 @@
+-- The entry leaves what the paper says; its numbers are laid out.
+-- Assumes nothing.
+use Rattle.braidhurdle.proofs.Telling.{left_told}
+use borrow.Author.Rules.{rules}
+use Rattle.braidhurdle.proofs.braidhurdle_prune.Goals as goal
+
+pub returns : goal.returns
+returns c = search (left_told, rules)

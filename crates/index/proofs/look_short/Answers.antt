@@ -1,0 +1,13 @@
+-- The walk over all roots finds what the paper's short names find.
+use Rattle.index.proofs.Looking.{shorts}
+use borrow.Author.Rules.{rules}
+use Rattle.index.proofs.look_short.Goals as goal
+
+pub returns-in_default : goal.returns-in_default
+returns-in_default c = search (shorts, rules)
+
+pub with_id-requires : goal.with_id-requires
+with_id-requires c = search (shorts, rules)
+
+pub returns : goal.returns
+returns c = search (shorts, rules)

@@ -1,0 +1,47 @@
+-- Siblings are a loop whose rest gives the whole; levels left, then records left, fall.
+use native.Mathlib.Omega.{arith}
+use borrow.Author.Rules.{rules}
+use Rattle.renumber_id_reassigner.proofs.Numbering.{numbering, level_left, member_goes}
+use Rattle.renumber_id_reassigner.proofs.+reassign_field_ids_reassign_ids_visit_type_reassign_key_and_value.Goals as goal
+
+pub reassign_field_ids-overflow_sub-levels : goal.reassign_field_ids-overflow_sub-levels
+reassign_field_ids-overflow_sub-levels t c = search (numbering, rules)
+
+pub reassign_field_ids-reassign_ids_visit_type-after-requires : goal.reassign_field_ids-reassign_ids_visit_type-after-requires
+reassign_field_ids-reassign_ids_visit_type-after-requires t c = (omega (arith, level_left _ _ _ _ _ _ _ _ _ _ _ _ c.loop-left.invariant c.loop-left-test.true), search (numbering, rules))
+
+pub reassign_field_ids-overflow_add-inside : goal.reassign_field_ids-overflow_add-inside
+reassign_field_ids-overflow_add-inside t c = search (numbering, rules)
+
+pub reassign_field_ids-loop-left-init : goal.reassign_field_ids-loop-left-init
+reassign_field_ids-loop-left-init t c = search (numbering, rules)
+
+pub reassign_field_ids-bounds-ids-at : goal.reassign_field_ids-bounds-ids-at
+reassign_field_ids-bounds-ids-at t c = search (numbering, rules)
+
+pub reassign_field_ids-loop-left-preserved : goal.reassign_field_ids-loop-left-preserved
+reassign_field_ids-loop-left-preserved t c = member_goes _ _ _ _ _ _ _ _ _ _ _ c.loop-left.invariant c.loop-left-test.true _ _ _ c.turn.ensures c.reassign_ids_visit_type-after.ensures
+
+pub reassign_field_ids-returns : goal.reassign_field_ids-returns
+reassign_field_ids-returns t c = search (numbering, rules)
+
+pub reassign_ids_visit_type-returns-then-members-eq0 : goal.reassign_ids_visit_type-returns-then-members-eq0
+reassign_ids_visit_type-returns-then-members-eq0 t c = search (numbering, rules)
+
+pub reassign_key_and_value-bounds-ids-at : goal.reassign_key_and_value-bounds-ids-at
+reassign_key_and_value-bounds-ids-at t c = search (numbering, rules)
+
+pub reassign_key_and_value-overflow_sub-levels : goal.reassign_key_and_value-overflow_sub-levels
+reassign_key_and_value-overflow_sub-levels t c = search (numbering, rules)
+
+pub reassign_key_and_value-overflow_add-own : goal.reassign_key_and_value-overflow_add-own
+reassign_key_and_value-overflow_add-own t c = search (numbering, rules)
+
+pub reassign_key_and_value-reassign_ids_visit_type-after-requires : goal.reassign_key_and_value-reassign_ids_visit_type-after-requires
+reassign_key_and_value-reassign_ids_visit_type-after-requires t c = (omega (arith, level_left _ _ _ _ _ _ _ _ _ _ _ _ c.loop-left.invariant c.loop-left-test.true), search (numbering, rules))
+
+pub reassign_key_and_value-loop-left-preserved : goal.reassign_key_and_value-loop-left-preserved
+reassign_key_and_value-loop-left-preserved t c = search (numbering, rules)
+
+pub reassign_key_and_value-returns : goal.reassign_key_and_value-returns
+reassign_key_and_value-returns t c = search (numbering, rules)

@@ -1,0 +1,46 @@
+-- Siblings are planned by the loop, whose invariant is that the rest plans the whole; a record that stays is planned after its inside.
+use borrow.Author.Rules.{rules}
+use Rattle.update_rebuild.proofs.Rebuilding.{inside_few, one_wide, one_leaf, one_stops, one_few, one_past, rebuild_ends, seen_few, inside_reads, inside_stands, next_room, next_low, held_past, held_few, rebuild_skips, rebuild_stops, rebuild_goes}
+use Rattle.update_rebuild.proofs.+rebuild_field_rebuild_fields.Goals as goal
+
+pub rebuild_field-returns-then-at-ge1024 : goal.rebuild_field-returns-then-at-ge1024
+rebuild_field-returns-then-at-ge1024 t c = search (one_wide, rules)
+
+pub rebuild_field-returns-then-is_leaf : goal.rebuild_field-returns-then-is_leaf
+rebuild_field-returns-then-is_leaf t c = search (one_leaf, rules)
+
+pub rebuild_field-returns-in_default : goal.rebuild_field-returns-in_default
+rebuild_field-returns-in_default t c = search (one_stops, rules)
+
+pub rebuild_field-past-requires : goal.rebuild_field-past-requires
+rebuild_field-past-requires t c = let few = inside_few c.requires.0 in (search rules, search rules, search (one_few, rules))
+
+pub rebuild_field-returns : goal.rebuild_field-returns
+rebuild_field-returns t c = one_past _ _ _ _ _ _ _ _ _ _ _ c.head_at-head.ensures _ _ c.rebuild_fields-step.ensures _ _ _ c.requires.0.low c.in-Went.is (search rules) c.past.ensures
+
+pub rebuild_fields-dropped_member-requires : goal.rebuild_fields-dropped_member-requires
+rebuild_fields-dropped_member-requires t c = search (next_room, rules)
+
+pub rebuild_fields-overflow_sub-levels : goal.rebuild_fields-overflow_sub-levels
+rebuild_fields-overflow_sub-levels t c = search (next_low, rules)
+
+pub rebuild_fields-tree_end-requires : goal.rebuild_fields-tree_end-requires
+rebuild_fields-tree_end-requires t c = search (inside_stands, inside_reads, rules)
+
+pub rebuild_fields-over-here-requires : goal.rebuild_fields-over-here-requires
+rebuild_fields-over-here-requires t c = search (seen_few, held_past, held_few, rules)
+
+pub rebuild_fields-loop-left-preserved-then-dropped_member : goal.rebuild_fields-loop-left-preserved-then-dropped_member
+rebuild_fields-loop-left-preserved-then-dropped_member t c = search (rebuild_skips, rules)
+
+pub rebuild_fields-rebuild_field-step-requires : goal.rebuild_fields-rebuild_field-step-requires
+rebuild_fields-rebuild_field-step-requires t c = search (inside_reads, rules)
+
+pub rebuild_fields-returns-in_default : goal.rebuild_fields-returns-in_default
+rebuild_fields-returns-in_default t c = rebuild_stops c.loop-left.invariant (search rules) c.dropped_member.ensures (search rules) c.rebuild_field-step.ensures (search rules)
+
+pub rebuild_fields-loop-left-preserved : goal.rebuild_fields-loop-left-preserved
+rebuild_fields-loop-left-preserved t c = search (rebuild_goes, rules)
+
+pub rebuild_fields-returns : goal.rebuild_fields-returns
+rebuild_fields-returns t c = rebuild_ends c.loop-left.invariant (search rules) (search rules)
