@@ -26,7 +26,8 @@ pub update_lasts : (identifiers : List ℕ) (at : ℕ → Stored) (calls : ℕ �
     → Calls of_update at calls → LastingCalls of_update identifiers at calls
 update_lasts = calls_last of_update update_reads
 
--- So has whoever calls the C function; `c_update_says` is the tie.
+-- So has whoever calls the C function: `c_update_says` is the tie to the library's function of its name, `update_is_one`
+-- (crates/braidhurdle_c/proofs/Tied.antt) that of the library's function to the exported one.
 pub c_update_lasts : (identifiers : List ℕ) (at : ℕ → Stored) (calls : ℕ → Call ChangedNumbers)
     → BeginsStored (at 0) identifiers → Calls of_c_update at calls → LastingCalls of_c_update identifiers at calls
 c_update_lasts = calls_last of_c_update c_update_reads

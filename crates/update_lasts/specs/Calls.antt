@@ -55,7 +55,7 @@ sizes_in c =
 abbrev pub of_update : Contract Changed
 of_update = record { says = changes; sizes = sizes_of }
 
--- and `braidhurdle_update`, its C function.
+-- and `braidhurdle_update`, the library's function and, with the same promise, the exported one.
 abbrev pub of_c_update : Contract ChangedNumbers
 of_c_update = record { says = laid; sizes = sizes_in }
 

@@ -1,5 +1,6 @@
-// Demand 3 of the function `update` and of its C function, in specs/ and proofs/. The one function here is a lemma: it
-// does nothing, and nobody need call it.
+// Demand 3 of the function `update` and of `braidhurdle_update`, in specs/ and proofs/. The function that C calls promises what the
+// latter does: `update_is_one`, in crates/braidhurdle_c/proofs/Tied.antt. The one function here is a lemma: it does nothing, and
+// nobody need call it.
 #![tactic(auto)]
 
 ghost use Rattle.laws.specs.Fit.{Bytes};
