@@ -16,7 +16,8 @@
  * nothing at all is promised: the proofs speak of buffers that stand apart. Lists that are only read may share bytes.
  *
  * Machines. The functions follow the C of the machine that the archive was made for, so this header is the same everywhere. The
- * toolchain compiles for x86-64; tools/archive says how the archive of another machine is made. Ids are two's complement.
+ * toolchain compiles for x86-64-v2: a processor with SSE4.2 and POPCNT, for which the functions don't ask. tools/staticlib says
+ * how the archive of another machine is made. Ids are two's complement.
  *
  * A tree is a list of 24-byte records in preorder, and a pool of names (document 01, 'Tree records'). Little-endian:
  *   0-3 id, signed            9  kind: 0 primitive, 1 struct, 2 list, 3 map     12-13 direct children
