@@ -1,9 +1,10 @@
-# The module of a static library, for a machine that is not x86-64: awk -v name=LIBRARY -v crate=CRATE -f
-# tools/results.awk. The crate exports functions whose names begin with the library's.
-# It returns a struct as C on x86-64 does: one of more than 16 bytes through a pointer that the
-# function takes first and gives back. `sret` says that this is what the pointer is for; then it comes
-# by the machine's own way, and one header serves both. The size is that of the struct that the
-# function behind copies there. A smaller struct comes in two registers, here as there.
+# The module of a static library, for a machine that is not x86-64:
+#     awk -v name=LIBRARY -v crate=CRATE -f tools/results.awk
+# The crate exports functions whose names begin with the library's. It returns a struct as C on
+# x86-64 does: one of more than 16 bytes through a pointer that the function takes first and gives
+# back. `sret` says that this is what the pointer is for; then it comes by the machine's own way, and
+# one header serves both. The size is that of the struct that the function behind copies there. A
+# smaller struct comes in two registers, here as there.
 BEGIN { exported = "^define noundef ptr @" name "_[a-z0-9_]+\\(ptr noundef %a0" }
 
 # the function behind an exported one stands before it

@@ -98,8 +98,8 @@ fn fits(folder: &Path) -> Result<(), String> {
     }
 }
 
-/// The functions that an archive offers, by its index: eight bytes, a header of 60 whose bytes 48 to
-/// 57 are the length, then a count, as many places, and the names, each with a zero at its end.
+/// The functions that an archive offers, by its index: eight bytes, a header of 60 whose bytes 48
+/// to 57 are the length, then a count, as many places, and the names, each with a zero at its end.
 fn names(bytes: &[u8]) -> Option<impl Iterator<Item = &[u8]>> {
     let (header, index) = bytes.get(8..)?.split_at_checked(60)?;
     let length = std::str::from_utf8(header.get(48..58)?).ok()?.trim().parse().ok()?;
