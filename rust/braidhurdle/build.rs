@@ -35,7 +35,7 @@ fn folder() -> Result<PathBuf, String> {
     let checkout = checkout.join("../..");
     let maker = checkout.join("tools/archive");
     if maker.exists() {
-        for source in ["tools/archive", "tools/staticlib", "crates.txt"] {
+        for source in ["tools/archive", "tools/below", "tools/staticlib", "crates.txt"] {
             println!("cargo::rerun-if-changed={}", checkout.join(source).display());
         }
         // not a crate's out/: the toolchain's own, it changes with each check
