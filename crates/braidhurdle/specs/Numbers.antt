@@ -6,14 +6,9 @@ use Rattle.paper.specs.Entries.{Result}
 use Rattle.paper.specs.Outcome.{changed, searched}
 use Rattle.paper.specs.Outcome as outcome
 use Rattle.paper.specs.Rows.{Row}
-use Rattle.record.specs.declared.Changed.{Changed}
-use Rattle.record.specs.declared.Changed.TheVariants as changes
-use Rattle.record.specs.declared.Found.{Found}
-use Rattle.record.specs.declared.Found.TheVariants as finds
-use Rattle.record.specs.declared.Sought.{Sought}
-use Rattle.record.specs.declared.Sought.TheVariants as seeks
-use Rattle.index_many.specs.declared.Searched.{Searched}
-use Rattle.index_many.specs.declared.Searched.TheVariants as searches
+use Rattle.record.specs.Answers.{Changed, Found, Sought}
+use Rattle.std.specs.Prelude.{Ok, Err, Some, None}
+use Rattle.index_many.specs.Answers.{Searched}
 use Rattle.braidhurdle.specs.declared.FoundNumbers.{FoundNumbers}
 use Rattle.braidhurdle.specs.declared.ChangedNumbers.{ChangedNumbers}
 use Rattle.braidhurdle.specs.declared.SearchedNumbers.{SearchedNumbers}
@@ -24,12 +19,12 @@ found_in f = record { refusal = f.refusal; list = f.list; place = f.place; found
 
 -- What the code lays out: a slot as 32 bits.
 abbrev pub found_numbers : Found → FoundNumbers
-found_numbers (finds.At i k) = record { refusal = 0; list = 0; place = 0; found = 1; id = i.0; slot = k.0 % 4294967296 }
-found_numbers finds.Nothing = record { refusal = 0; list = 0; place = 0; found = 0; id = 0; slot = 0 }
+found_numbers (Some (i, k)) = record { refusal = 0; list = 0; place = 0; found = 1; id = i.0; slot = k.0 % 4294967296 }
+found_numbers None = record { refusal = 0; list = 0; place = 0; found = 0; id = 0; slot = 0 }
 
 abbrev pub sought_numbers : Sought → FoundNumbers
-sought_numbers (seeks.Looked f) = found_numbers f
-sought_numbers (seeks.Refused r) = record { refusal = r.number; list = r.list; place = r.place; found = 0; id = 0; slot = 0 }
+sought_numbers (Ok f) = found_numbers f
+sought_numbers (Err r) = record { refusal = r.number; list = r.list; place = r.place; found = 0; id = 0; slot = 0 }
 
 -- The same for update, pruning and renumbering.
 abbrev pub changed_in : outcome.Changed → ChangedNumbers
@@ -40,8 +35,8 @@ abbrev pub laid : Answer Result → ChangedNumbers
 laid answer = changed_in (changed answer)
 
 abbrev pub changed_numbers : Changed → ChangedNumbers
-changed_numbers (changes.Done s) = record { refusal = 0; list = 0; place = 0; records = s.records; names = s.names; last_id = s.last_id; visited = s.visited }
-changed_numbers (changes.Refused r) = record { refusal = r.number; list = r.list; place = r.place; records = 0; names = 0; last_id = 0; visited = 0 }
+changed_numbers (Ok s) = record { refusal = 0; list = 0; place = 0; records = s.records; names = s.names; last_id = s.last_id; visited = s.visited }
+changed_numbers (Err r) = record { refusal = r.number; list = r.list; place = r.place; records = 0; names = 0; last_id = 0; visited = 0 }
 
 -- The same for a search for many ids.
 abbrev pub searched_in : outcome.Searched → SearchedNumbers
@@ -51,8 +46,8 @@ abbrev pub laid_search : Answer (List (Option Row)) → SearchedNumbers
 laid_search answer = searched_in (searched answer)
 
 abbrev pub searched_numbers : Searched → SearchedNumbers
-searched_numbers (searches.Done met) = record { refusal = 0; list = 0; place = 0; found = met }
-searched_numbers (searches.Refused r) = record { refusal = r.number; list = r.list; place = r.place; found = 0 }
+searched_numbers (Ok met) = record { refusal = 0; list = 0; place = 0; found = met }
+searched_numbers (Err r) = record { refusal = r.number; list = r.list; place = r.place; found = 0 }
 
 -- A number that is not 0 asks for full mode.
 abbrev pub full_mode : ℕ → Bool

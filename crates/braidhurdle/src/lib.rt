@@ -19,9 +19,9 @@ ghost use Rattle.braidhurdle.specs.Name.{found_name, name_numbers};
 
 use index::{find_id, find_name, find_parent};
 use index_folded::find_folded;
-use index_many::{Searched, find_ids};
+use index_many::{find_ids};
 use prune::prune;
-use record::{Changed, FieldId, Found, Sought, le32, name_ok, wide};
+use record::{FieldId, le32, name_ok, wide};
 use renumber::renumber;
 use update::update;
 
@@ -72,11 +72,11 @@ pub struct NameNumbers {
     pub length: u32,
 }
 
-fn lay_changed(changed: Changed) -> ChangedNumbers
+fn lay_changed(changed: Result<Sizes, Refusal>) -> ChangedNumbers
     ensures { result ≡ changed_numbers changed }
 {
     match changed {
-        Changed::Done(sizes) => ChangedNumbers {
+        Ok(sizes) => ChangedNumbers {
             refusal: 0,
             list: 0,
             place: 0,
@@ -85,7 +85,7 @@ fn lay_changed(changed: Changed) -> ChangedNumbers
             last_id: sizes.last_id,
             visited: sizes.visited,
         },
-        Changed::Refused(refusal) => ChangedNumbers {
+        Err(refusal) => ChangedNumbers {
             refusal: refusal.number,
             list: refusal.list,
             place: refusal.place,
@@ -97,11 +97,11 @@ fn lay_changed(changed: Changed) -> ChangedNumbers
     }
 }
 
-fn lay_found(found: Found) -> FoundNumbers
+fn lay_found(found: Option<(FieldId, Slot)>) -> FoundNumbers
     ensures { result ≡ found_numbers found }
 {
     match found {
-        Found::At(id, slot) => FoundNumbers {
+        Some((id, slot)) => FoundNumbers {
             refusal: 0,
             list: 0,
             place: 0,
@@ -109,7 +109,7 @@ fn lay_found(found: Found) -> FoundNumbers
             id: id.0,
             slot: (slot.0 % 4294967296) as u32,
         },
-        Found::Nothing => FoundNumbers {
+        None => FoundNumbers {
             refusal: 0,
             list: 0,
             place: 0,
@@ -120,12 +120,12 @@ fn lay_found(found: Found) -> FoundNumbers
     }
 }
 
-fn lay_sought(sought: Sought) -> FoundNumbers
+fn lay_sought(sought: Result<Option<(FieldId, Slot)>, Refusal>) -> FoundNumbers
     ensures { result ≡ sought_numbers sought }
 {
     match sought {
-        Sought::Looked(found) => lay_found(found),
-        Sought::Refused(refusal) => FoundNumbers {
+        Ok(found) => lay_found(found),
+        Err(refusal) => FoundNumbers {
             refusal: refusal.number,
             list: refusal.list,
             place: refusal.place,
@@ -136,17 +136,17 @@ fn lay_sought(sought: Sought) -> FoundNumbers
     }
 }
 
-fn lay_searched(searched: Searched) -> SearchedNumbers
+fn lay_searched(searched: Result<u32, Refusal>) -> SearchedNumbers
     ensures { result ≡ searched_numbers searched }
 {
     match searched {
-        Searched::Done(met) => SearchedNumbers {
+        Ok(met) => SearchedNumbers {
             refusal: 0,
             list: 0,
             place: 0,
             found: met,
         },
-        Searched::Refused(refusal) => SearchedNumbers {
+        Err(refusal) => SearchedNumbers {
             refusal: refusal.number,
             list: refusal.list,
             place: refusal.place,

@@ -16,10 +16,8 @@ use Rattle.paper.specs.Forest.{Forest, mapped}
 use Rattle.paper.specs.Field.{Field}
 use Rattle.paper.specs.Rows.{Row, top, rows, entered, look_id, look_name, look_parent, look_some, parent_of}
 use Rattle.record.specs.declared.Slot.{Slot}
-use Rattle.record.specs.declared.FoundSlot.{FoundSlot}
-use Rattle.record.specs.declared.FoundSlot.TheVariants as slots
-use Rattle.record.specs.declared.Found.{Found}
-use Rattle.record.specs.declared.Found.TheVariants.{At, Nothing}
+use Rattle.record.specs.Answers.{FoundSlot, Found}
+use Rattle.std.specs.Prelude.{Some, None}
 use Rattle.record.specs.Says.{found_row, slot_before}
 use Rattle.laws.proofs.Words.{turned_twice}
 use Rattle.record.specs.Trees.{Trees}
@@ -57,20 +55,20 @@ unfolding slot_before
 held_before zero = refl
 held_before (suc k) = refl
 
-pub slot_small : (w : FoundSlot) (s : Slot) → Below w → w ≡ slots.At s → s.0 < 1024
+pub slot_small : (w : FoundSlot) (s : Slot) → Below w → w ≡ Some s → s.0 < 1024
 slot_small w s b e = b.small s e
 
 -- A slot and its id, as an answer.
 module _ (is : List ℕ) (w : FoundSlot) where
-  pub nothing_at : w ≡ slots.Nothing → Nothing ≡ found_slot is (held w)
+  pub nothing_at : w ≡ None → None ≡ found_slot is (held w)
   unfolding found_slot
   nothing_at e = rw e
 
-  pub slot_found : (s : Slot) (r : Found) → w ≡ slots.At s → r ≡ at_slot (turned (get_or is s.0 0)) s.0 → r ≡ found_slot is (held w)
+  pub slot_found : (s : Slot) (r : Found) → w ≡ Some s → r ≡ at_slot (turned (get_or is s.0 0)) s.0 → r ≡ found_slot is (held w)
   unfolding found_slot
   slot_found s r h e = rw h e
 
-pub at_is : (id slot : ℕ) → id < 4294967296 → At (record { 0 = id }) (record { 0 = slot }) ≡ at_slot (turned id) slot
+pub at_is : (id slot : ℕ) → id < 4294967296 → Some ((record { 0 = id }), (record { 0 = slot })) ≡ at_slot (turned id) slot
 at_is id slot l = rw (turned_twice id l)
 
 pub ruleset placing = (slot_small, nothing_at, slot_found, at_is)
@@ -104,11 +102,11 @@ module _ (l : Trees) (xs is ks : List ℕ) (m : ℕ) (p : Plan l xs is ks m) whe
       id_raised : Rel fld us (look_id (plan_fields l xs is ks m) i) (held w)
       id_raised = id_found us (climbs (kids_in ks) m us rs.above)
 
-      no_id : w ≡ slots.Nothing → Nothing ≡ found_row (look_parent (plan_fields l xs is ks m) i)
+      no_id : w ≡ None → None ≡ found_row (look_parent (plan_fields l xs is ks m) i)
       unfolding look_parent found_row
       no_id z = go (look_id (plan_fields l xs is ks m) i) (subst (λ (v : FoundSlot). Rel fld us (look_id (plan_fields l xs is ks m) i) (held v)) z id_raised)
         where
-          go : (O : Option Row) → Rel fld us O none → Nothing ≡ found_row (look_some (plan_fields l xs is ks m) (parent_of O))
+          go : (O : Option Row) → Rel fld us O none → None ≡ found_row (look_some (plan_fields l xs is ks m) (parent_of O))
           go (some _) x'' = elim x'' [ ]
           go none none_found = refl
 
@@ -119,11 +117,11 @@ module _ (l : Trees) (xs is ks : List ℕ) (m : ℕ) (p : Plan l xs is ks m) whe
           go none x' = elim x' [ ]
           go (some r) (found_at h) = line_nearest fld us h.above
 
-      module _ (u : ℕ) (s : Slot) (h : w ≡ slots.At s) (eu : u ≡ get_or us s.0 0) where
+      module _ (u : ℕ) (s : Slot) (h : w ≡ Some s) (eu : u ≡ get_or us s.0 0) where
         parent_at_place : parent_of (look_id (plan_fields l xs is ks m) i) ≡ parent_at fld u
         parent_at_place = parent_is s.0 (ap held h) ∙ ap (parent_at fld) (sym eu)
 
-        no_parent : u ≡ 0 → Nothing ≡ found_row (look_parent (plan_fields l xs is ks m) i)
+        no_parent : u ≡ 0 → None ≡ found_row (look_parent (plan_fields l xs is ks m) i)
         unfolding look_parent found_row
         no_parent z = rw (parent_at_place, z)
 
@@ -166,15 +164,15 @@ module _ (l : Trees) (xs is ks : List ℕ) (m : ℕ) (p : Plan l xs is ks m) whe
         (short_rel fld x places top [] none (all_numbered (kids_in ks) m) short.none_found))
 
     module _ (w : FoundSlot) (e : w ≡ slot_before (lowest_below (is_full l xs us x) 0 m)) where
-      pub by_full : (r : Found) (s : Slot) → w ≡ slots.At s → r ≡ found_slot is (held w) → r ≡ found_row (look_name (plan_fields l xs is ks m) x)
+      pub by_full : (r : Found) (s : Slot) → w ≡ Some s → r ≡ found_slot is (held w) → r ≡ found_row (look_name (plan_fields l xs is ks m) x)
       unfolding look_name
       by_full r s h er =
           er ∙ ap (λ (v : FoundSlot). found_slot is (held v)) h ∙ sym (rel_first s.0 short_row (subst (λ (v : FoundSlot). Rel fld us named_row (held v)) h (full_found w e)))
 
-      no_full : w ≡ slots.Nothing → named_row ≡ none
+      no_full : w ≡ None → named_row ≡ none
       no_full h = rel_none (subst (λ (v : FoundSlot). Rel fld us named_row (held v)) h (full_found w e))
 
-      pub by_short : (r : Found) → w ≡ slots.Nothing → r ≡ found_slot is (short_slot l xs ks m x) → r ≡ found_row (look_name (plan_fields l xs is ks m) x)
+      pub by_short : (r : Found) → w ≡ None → r ≡ found_slot is (short_slot l xs ks m x) → r ≡ found_row (look_name (plan_fields l xs is ks m) x)
       unfolding look_name found_row found_slot
       by_short r h er = er ∙ rw (no_full h) (sym (go short_row (short_slot l xs ks m x) short_found))
         where
@@ -184,11 +182,11 @@ module _ (l : Trees) (xs is ks : List ℕ) (m : ℕ) (p : Plan l xs is ks m) whe
           go none none short.none_found = refl
           go (some r) (some k) (short.found_at f g) = rw (f, g, field_id l xs is k)
 
-      pub by_root : w ≡ slots.Nothing → (b : Bool) → b ≡ among 46 x → not b ≡ true → Nothing ≡ found_row (look_name (plan_fields l xs is ks m) x)
+      pub by_root : w ≡ None → (b : Bool) → b ≡ among 46 x → not b ≡ true → None ≡ found_row (look_name (plan_fields l xs is ks m) x)
       unfolding found_slot
       by_root h b eb t =
           let none_full : find (λ r. same r.full x) (rows top (mapped fld places)) ≡ none = rw (plan_is l xs is ks m p) at (no_full h) in
-          by_short Nothing h (ap (found_slot is) (sym (subst (λ (s : (ℕ → List ℕ) × (ℕ → Kind)). seek_in s.0 s.1 Member (some x) none places ≡ none) parts (dotless fld x places top (sym eb ∙ not-true b t) refl none_full))))
+          by_short None h (ap (found_slot is) (sym (subst (λ (s : (ℕ → List ℕ) × (ℕ → Kind)). seek_in s.0 s.1 Member (some x) none places ≡ none) parts (dotless fld x places top (sym eb ∙ not-true b t) refl none_full))))
 
 pub ruleset named = (found_below_room, by_full, by_short, by_root)
 
@@ -199,11 +197,11 @@ module _ (plan : List (List ℕ)) (m i : ℕ) (w : FoundSlot) (e : w ≡ slot_be
   finds_id r h = record { finds = λ l p. h ∙ sym (by_id l _ _ _ m p (turned i) w e) }
 
   module _ (index : List (List ℕ)) where
-    pub finds_no_id : w ≡ slots.Nothing → ByParent plan index m i Nothing
+    pub finds_no_id : w ≡ None → ByParent plan index m i None
     finds_no_id z = record { finds = λ l p rs. no_id l _ _ _ m p (turned i) w e _ rs z }
 
-    module _ (s : Slot) (h : w ≡ slots.At s) (u : ℕ) (eu : u ≡ get_or (ups_in index) s.0 0) where
-      pub finds_no_parent : u ≡ 0 → ByParent plan index m i Nothing
+    module _ (s : Slot) (h : w ≡ Some s) (u : ℕ) (eu : u ≡ get_or (ups_in index) s.0 0) where
+      pub finds_no_parent : u ≡ 0 → ByParent plan index m i None
       finds_no_parent z = record { finds = λ l p rs. no_parent l _ _ _ m p (turned i) w e _ rs u s h eu z }
 
       module _ (z : u ≡ 0 → ⊥) where
@@ -225,7 +223,7 @@ module _ (l : Trees) (xs : List ℕ) (kids : ℕ → ℕ) (m : ℕ) (x : List �
   unfolding sighting seen
   walked = rw (left_in x 0 (omega arith)) at ew
 
-  pub short_none : (is : List ℕ) (j : Slot) → w ≡ sighted.Past j → Nothing ≡ found_slot is (short_in)
+  pub short_none : (is : List ℕ) (j : Slot) → w ≡ sighted.Past j → None ≡ found_slot is (short_in)
   unfolding found_slot
   short_none is j e = rw (past_is (short_in) _ j (sym e ∙ walked)).0
 
@@ -238,7 +236,7 @@ module _ (l : Trees) (xs : List ℕ) (kids : ℕ → ℕ) (m : ℕ) (x : List �
         found_in (name_in l xs) (kind_in l xs) m k.0 (trees_of kids m) 0 Member (some x) none (all_numbered kids m) (omega (arith, all_there kids m))
         (λ q. absurd (let z : ◌≡◌ {A = ℕ} 0 1 = cc in omega arith)) (found_is (short_in) _ k (sym e ∙ walked))
 
-    pub short_below : m ≤ 1024 → Below (slots.At k)
+    pub short_below : m ≤ 1024 → Below (Some k)
     short_below h = let z = short_room in record { small = λ s q. let y : s.0 ≡ k.0 = ap (λ (x : Slot). x.0) (let v : s ≡ k = cc in v) in omega arith }
 
 pub ruleset shorts = (short_none, short_some, short_below)

@@ -18,17 +18,14 @@ use Rattle.paper.specs.Refusals.{limited}
 use Rattle.paper.specs.Rows.{look_name}
 use Rattle.paper.specs.Sound.{sound}
 use Rattle.record.specs.declared.Refusal.{Refusal}
-use Rattle.record.specs.declared.Check.{Check}
-use Rattle.record.specs.declared.Check.TheVariants as check
-use Rattle.record.specs.declared.Found.{Found}
-use Rattle.record.specs.declared.Sought.TheVariants as sought
+use Rattle.record.specs.Answers.{Check, Found}
+use Rattle.std.specs.Prelude.{Ok, Err}
 use Rattle.record.specs.Says.{found_row, looked}
 use Rattle.record.specs.Trees.{Trees, alone}
 use Rattle.record.proofs.Testing.{refused_as, checked_ok, checked_refused}
 use Rattle.laws.proofs.Basics.{refused≢ok, bind_is, bind_not, bind_assoc}
 use Rattle.laws.proofs.Fitting.{sized_slots}
-use Rattle.tree.specs.declared.Shaped.{Shaped}
-use Rattle.tree.specs.declared.Shaped.TheVariants as shaped
+use Rattle.tree.specs.Answers.{Shaped}
 use Rattle.tree.specs.Read.{fine}
 use Rattle.tree.specs.Says.{decoded}
 use Rattle.tree.specs.Only.{only_read}
@@ -80,10 +77,10 @@ read_is s pool = sym (bind_assoc (limited (sized s pool)) (λ _. decode 0 s pool
 
 -- What 2 to 6 told: a refusal of `read`, or a base that can be read.
 module _ (s pool : List ℕ) (w : Shaped) (ew : w ≡ decoded (only_read s pool)) where
-  pub unread : (x : Refusal) → w ≡ shaped.Refused x → read s pool ≡ refused_as x
+  pub unread : (x : Refusal) → w ≡ Err x → read s pool ≡ refused_as x
   unread x h = read_is s pool ∙ bind_not (only_read s pool) _ _ _ _ (decode_refused (only_read s pool) w x ew h)
 
-  pub readable : (k : ℕ) → w ≡ shaped.Roots k → Readable (alone s pool) (length s / 24)
+  pub readable : (k : ℕ) → w ≡ Ok k → Readable (alone s pool) (length s / 24)
   unfolding only_read ◌>>=◌
   readable k ed = decode_ok _ (only_read s pool) w k ew ed λ t e _. go t (sized s pool) refl e
     where
@@ -95,12 +92,12 @@ module _ (s pool : List ℕ) (w : Shaped) (ew : w ≡ decoded (only_read s pool)
 
 -- The refusal of 2 to 8, or the plan of the tree that lent bytes hold, with its index.
 pub record Opened (records pool : List ℕ) (r : Check) (plan : List (List ℕ)) (m : ℕ) (index : List (List ℕ)) : Type 0 where
-  pub refusal : (x : Refusal) → r ≡ check.Refused x → read records pool ≡ refused_as x
-  pub tree : r ≡ check.Fine → read records pool ≡ ok (fields_in (alone records pool) plan m)
-  pub planned : r ≡ check.Fine → PlanIn (alone records pool) plan m
-  pub indexed : r ≡ check.Fine → Index (alone records pool) plan m index
+  pub refusal : (x : Refusal) → r ≡ Err x → read records pool ≡ refused_as x
+  pub tree : r ≡ (Ok tt) → read records pool ≡ ok (fields_in (alone records pool) plan m)
+  pub planned : r ≡ (Ok tt) → PlanIn (alone records pool) plan m
+  pub indexed : r ≡ (Ok tt) → Index (alone records pool) plan m index
 
-module _ (s pool : List ℕ) (w : Shaped) (ew : w ≡ decoded (only_read s pool)) (k : ℕ) (ed : w ≡ shaped.Roots k) where
+module _ (s pool : List ℕ) (w : Shaped) (ew : w ≡ decoded (only_read s pool)) (k : ℕ) (ed : w ≡ Ok k) where
   was_read : only_read s pool ≡ decode 0 s pool
   unfolding only_read ◌>>=◌
   was_read = rw (readable s pool w ew k ed).limits
@@ -117,7 +114,7 @@ module _ (s pool : List ℕ) (w : Shaped) (ew : w ≡ decoded (only_read s pool)
         indexed = b.indexed;
       }
 
-pub test_refused : (s pool : List ℕ) (plan : List (List ℕ)) (m : ℕ) (index : List (List ℕ)) (r : Check) → Opened s pool r plan m index → (y : Refusal) → r ≡ check.Refused y → read s pool ≡ refused_as y
+pub test_refused : (s pool : List ℕ) (plan : List (List ℕ)) (m : ℕ) (index : List (List ℕ)) (r : Check) → Opened s pool r plan m index → (y : Refusal) → r ≡ Err y → read s pool ≡ refused_as y
 test_refused s pool plan m index r o = o.refusal
 
 pub ruleset reading = (unread, test_refused)
@@ -125,28 +122,28 @@ pub ruleset reading = (unread, test_refused)
 -- ---- the entries
 
 module _ (s pool : List ℕ) (y : Refusal) (e : read s pool ≡ refused_as y) where
-  pub name_refused : (x : List ℕ) → sought.Refused y ≡ looked (find_name s pool x)
+  pub name_refused : (x : List ℕ) → Err y ≡ looked (find_name s pool x)
   unfolding find_name looked ◌>>=◌
   name_refused x = rw e
 
-  pub id_refused : (i : ℕ) → sought.Refused y ≡ looked (find_id s pool i)
+  pub id_refused : (i : ℕ) → Err y ≡ looked (find_id s pool i)
   unfolding find_id looked ◌>>=◌
   id_refused i = rw e
 
-  pub parent_refused : (i : ℕ) → sought.Refused y ≡ looked (find_parent s pool i)
+  pub parent_refused : (i : ℕ) → Err y ≡ looked (find_parent s pool i)
   unfolding find_parent looked ◌>>=◌
   parent_refused i = rw e
 
-module _ (s pool : List ℕ) (plan : List (List ℕ)) (m : ℕ) (index : List (List ℕ)) (r : Check) (o : Opened s pool r plan m index) (q : r ≡ check.Fine) (h : Found) where
-  pub name_looked : (x : List ℕ) → h ≡ found_row (look_name (fields_in (alone s pool) plan m) x) → sought.Looked h ≡ looked (find_name s pool x)
+module _ (s pool : List ℕ) (plan : List (List ℕ)) (m : ℕ) (index : List (List ℕ)) (r : Check) (o : Opened s pool r plan m index) (q : r ≡ (Ok tt)) (h : Found) where
+  pub name_looked : (x : List ℕ) → h ≡ found_row (look_name (fields_in (alone s pool) plan m) x) → Ok h ≡ looked (find_name s pool x)
   unfolding find_name looked ◌>>=◌
   name_looked x e = rw (o.tree q, e)
 
-  pub id_looked : (i : ℕ) → ById plan m i h → sought.Looked h ≡ looked (find_id s pool i)
+  pub id_looked : (i : ℕ) → ById plan m i h → Ok h ≡ looked (find_id s pool i)
   unfolding find_id looked ◌>>=◌
   id_looked i e = rw (o.tree q, e.finds (alone s pool) (o.planned q))
 
-  pub parent_looked : (i : ℕ) → ByParent plan index m i h → sought.Looked h ≡ looked (find_parent s pool i)
+  pub parent_looked : (i : ℕ) → ByParent plan index m i h → Ok h ≡ looked (find_parent s pool i)
   unfolding find_parent looked ◌>>=◌
   parent_looked i e = rw (o.tree q, e.finds (alone s pool) (o.planned q) (o.indexed q).raised)
 

@@ -11,8 +11,8 @@ use Rattle.paper.specs.Lists.{id_list}
 use Rattle.paper.specs.Rows.{look_id}
 use Rattle.paper.specs.Sound.{identifies, sound}
 use Rattle.record.specs.declared.Refusal.{Refusal}
-use Rattle.record.specs.declared.Check.{Check}
-use Rattle.record.specs.declared.Check.TheVariants.{Fine, Refused}
+use Rattle.record.specs.Answers.{Check}
+use Rattle.std.specs.Prelude.{Ok, Err}
 use Rattle.record.specs.Says.{tested, checked}
 use Rattle.record.proofs.Testing.{tested_fault, chain_goes, chain_stops}
 use Rattle.record.specs.Trees.{Trees}
@@ -66,7 +66,7 @@ names_indexed l plan m list r c old mid new S R z w u =
 -- ---- 7 to 9: `search sounding`
 
 -- The test of the names leaves the paths of the ids.
-pub ids_chained : (l : Trees) (plan : List (List ℕ)) (m list : ℕ) (a b : Check) (old mid new : List (List ℕ)) → IndexedIn (numbers plan) m list a old mid → a ≡ Fine → NamesIndexed l plan m list b mid new → IdsChained (numbers plan) new m
+pub ids_chained : (l : Trees) (plan : List (List ℕ)) (m list : ℕ) (a b : Check) (old mid new : List (List ℕ)) → IndexedIn (numbers plan) m list a old mid → a ≡ (Ok tt) → NamesIndexed l plan m list b mid new → IdsChained (numbers plan) new m
 ids_chained l plan m list a b old mid new ea fa eb = rows_kept (numbers plan) mid new m eb.within.below (ea.index fa)
 
 module _ (l : Trees) (plan : List (List ℕ)) (m list : ℕ) (identifiers : List ℕ) (p : PlanIn l plan m) where
@@ -92,7 +92,7 @@ module _ (l : Trees) (plan : List (List ℕ)) (m list : ℕ) (identifiers : List
     pub ids_beside : Cleared (name_heads mid)
     ids_beside = rw (ea.within.beyond 6 (omega arith)) F.names
 
-    pub stop_7 : (x : Refusal) → a ≡ Refused x → Indexing l plan m list identifiers (Refused x) old mid
+    pub stop_7 : (x : Refusal) → a ≡ Err x → Indexing l plan m list identifiers (Err x) old mid
     unfolding rule_7 checked
     stop_7 x d =
         record {
@@ -101,12 +101,12 @@ module _ (l : Trees) (plan : List (List ℕ)) (m list : ℕ) (identifiers : List
           rooms = ids_rooms;
         }
 
-    module _ (fa : a ≡ Fine) (b : Check) (new : List (List ℕ)) (eb : NamesIndexed l plan m list b mid new) where
+    module _ (fa : a ≡ (Ok tt)) (b : Check) (new : List (List ℕ)) (eb : NamesIndexed l plan m list b mid new) where
       past_7 : sound list (fields_in l plan m) (id_list identifiers) ≡ eight
       unfolding rule_7
       past_7 = sound_is ∙ chain_goes 7 list (repeated eqb [] 0 (ids_in (numbers plan) m)) a (λ _. eight) ea.answer fa
 
-      pub stop_8 : (x : Refusal) → b ≡ Refused x → Indexing l plan m list identifiers (Refused x) old new
+      pub stop_8 : (x : Refusal) → b ≡ Err x → Indexing l plan m list identifiers (Err x) old new
       unfolding eight checked
       stop_8 x d =
           record {
@@ -115,7 +115,7 @@ module _ (l : Trees) (plan : List (List ℕ)) (m list : ℕ) (identifiers : List
             rooms = eb.within.rooms ids_rooms;
           }
 
-      pub all_sound : (c : Check) → b ≡ Fine → c ≡ rule_9 identifiers (fields_in l plan m) → Indexing l plan m list identifiers c old new
+      pub all_sound : (c : Check) → b ≡ (Ok tt) → c ≡ rule_9 identifiers (fields_in l plan m) → Indexing l plan m list identifiers c old new
       unfolding eight nine rule_9
       all_sound c fb ec =
           let R' = eb.within.rooms ids_rooms in

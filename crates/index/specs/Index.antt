@@ -9,12 +9,8 @@ use Rattle.paper.specs.Limits.{sized}
 use Rattle.paper.specs.Lists.{id_list}
 use Rattle.paper.specs.Rows.{look_id, look_parent}
 use Rattle.paper.specs.Sound.{sound}
-use Rattle.record.specs.declared.Check.{Check}
-use Rattle.record.specs.declared.Check.TheVariants as check
-use Rattle.record.specs.declared.FoundSlot.{FoundSlot}
-use Rattle.record.specs.declared.FoundSlot.TheVariants as found_slots
-use Rattle.record.specs.declared.Found.{Found}
-use Rattle.record.specs.declared.Found.TheVariants.{At, Nothing}
+use Rattle.record.specs.Answers.{Check, FoundSlot, Found}
+use Rattle.std.specs.Prelude.{Ok, Some, None}
 use Rattle.record.specs.Says.{tested, checked, found_row}
 use Rattle.record.specs.Trees.{Trees}
 use Rattle.tree.specs.Read.{fine}
@@ -52,26 +48,26 @@ pub record NamesIndexed (l : Trees) (plan : List (List ℕ)) (m list : ℕ) (r :
   pub raised : Raised (members plan) m (ups_in new)
   pub spelt : SpeltIn l plan m new
   pub tagged : TaggedIn l plan m new
-  pub filed : r ≡ check.Fine → NamesFiled l plan new m
+  pub filed : r ≡ (Ok tt) → NamesFiled l plan new m
 
 -- The answer to 7, 8 and 9 of a planned tree, and the index that is left where there is no fault. Its rows keep their room.
 pub record Indexing (l : Trees) (plan : List (List ℕ)) (m list : ℕ) (identifiers : List ℕ) (r : Check) (old new : List (List ℕ)) : Type 0 where
   pub answer : r ≡ checked (sound list (fields_in l plan m) (id_list identifiers))
-  pub index : r ≡ check.Fine → Index l plan m new
+  pub index : r ≡ (Ok tt) → Index l plan m new
   pub rooms : Rooms new
 
 -- A slot that was found, with its id.
 abbrev pub at_slot : (id slot : ℕ) → Found
-at_slot id k = At (record { 0 = turned id }) (record { 0 = k })
+at_slot id k = Some ((record { 0 = turned id }), (record { 0 = k }))
 
 unfoldable pub found_slot : List ℕ → Option ℕ → Found
-found_slot is none = Nothing
+found_slot is none = None
 found_slot is (some k) = at_slot (id_in is k) k
 
 -- The slot that was found.
 abbrev pub held : FoundSlot → Option ℕ
-held found_slots.Nothing = none
-held (found_slots.At s) = some s.0
+held None = none
+held (Some s) = some s.0
 
 -- The look-up of an id, and of the record above one: whatever the plan draws on.
 pub record ById (plan : List (List ℕ)) (m id : ℕ) (r : Found) : Type 0 where
@@ -97,6 +93,6 @@ pub record BaseIndexed (l : Trees) (n : ℕ) (identifiers : List ℕ) (r : Check
   pub planned : PlanIn l new n
   pub tree : decode 0 l.records l.pool ≡ ok (fields_in l new n)
   pub answer : r ≡ checked (sound 0 (fields_in l new n) (id_list identifiers))
-  pub indexed : r ≡ check.Fine → Index l new n index
+  pub indexed : r ≡ (Ok tt) → Index l new n index
   pub roomy : Roomy new
   pub rooms : Rooms index

@@ -33,9 +33,9 @@ use index_ids::{IndexRows, UPS, cell, check_ids};
 use index_names::{Prefix, mark_row};
 use index_short_names::{Sighting, seek};
 use paper::Role;
-use plan::{NUMBERS, PlanRows, take_base};
-use record::{Check, FieldId, Found, FoundSlot, RECORDS, Siblings, Slot, Sought, Trees, has_dot};
-use tree::{Shaped, read_tree};
+use plan::{PlanRows, take_base};
+use record::{FieldId, Siblings, Slot, Trees, has_dot};
+use tree::{read_tree};
 
 // Refusal 8, and the index of full names. Ids stand on their paths by then, so of the heads only those of the names are still cleared.
 fn index_names<'a>(
@@ -44,7 +44,7 @@ fn index_names<'a>(
     m: usize,
     list: u32,
     index: &mut IndexRows,
-) -> Check
+) -> Result<(), Refusal>
     requires { SourcesIn (trees_in trees.now) plan.now m
         × (Rooms index.old × Cleared (name_heads index.old)) }
     ensures { NamesIndexed (trees_in trees.now) plan.now m list result
@@ -68,20 +68,14 @@ pub fn index_plan<'a>(
     list: u32,
     identifiers: &[u8],
     index: &mut IndexRows,
-) -> Check
+) -> Result<(), Refusal>
     requires { PlanIn (trees_in trees.now) plan.now m × (Fresh index.old
         × (length identifiers.now ≤ 256)) }
     ensures { Indexing (trees_in trees.now) plan.now m list
         identifiers.now result index.old index.new }
 {
-    let by_id = check_ids(plan, m, list, index);
-    if let Check::Refused(r) = by_id {
-        return Check::Refused(r);
-    }
-    let by_name = index_names(trees, plan, m, list, index);
-    if let Check::Refused(r) = by_name {
-        return Check::Refused(r);
-    }
+    check_ids(plan, m, list, index)?;
+    index_names(trees, plan, m, list, index)?;
     check_identifiers(trees, identifiers, plan, m, index)
 }
 
@@ -92,36 +86,36 @@ pub fn index_base<'a>(
     identifiers: &[u8],
     plan: &mut PlanRows,
     index: &mut IndexRows,
-) -> Check
+) -> Result<(), Refusal>
     requires { Readable (trees_in trees.now) n × ((length identifiers.now ≤ 256)
         × (Roomy plan.old × Fresh index.old)) }
     ensures { BaseIndexed (trees_in trees.now) n identifiers.now result
         plan.old plan.new index.new }
 {
-    take_base(trees[RECORDS], n, plan);
+    take_base(trees.records, n, plan);
     index_plan(trees, plan, n, 0, identifiers, index)
 }
 
-fn found_at(id: u32, slot: usize) -> Found
+fn found_at(id: u32, slot: usize) -> Option<(FieldId, Slot)>
     ensures { result ≡ at_slot (turned id) slot }
 {
-    Found::At(FieldId(id), Slot(slot))
+    Some((FieldId(id), Slot(slot)))
 }
 
 // A slot that was found, with its id.
-pub fn with_id(plan: &PlanRows, found: FoundSlot) -> Found
+pub fn with_id(plan: &PlanRows, found: Option<Slot>) -> Option<(FieldId, Slot)>
     requires { Below found }
     ensures { result ≡ found_slot (numbers plan.now) (held found) }
 {
-    let FoundSlot::At(slot) = found else {
-        return Found::Nothing;
+    let Some(slot) = found else {
+        return None;
     };
     let k = slot.0;
-    found_at(plan[NUMBERS][k], k)
+    found_at(plan.numbers[k], k)
 }
 
 // The record that has the id.
-pub fn look_id(plan: &PlanRows, m: usize, index: &IndexRows, id: FieldId) -> Found
+pub fn look_id(plan: &PlanRows, m: usize, index: &IndexRows, id: FieldId) -> Option<(FieldId, Slot)>
     requires { (m ≤ 1024) × IdsChained (numbers plan.now) index.now m }
     ensures { ById plan.now m id.0 result }
 {
@@ -130,26 +124,26 @@ pub fn look_id(plan: &PlanRows, m: usize, index: &IndexRows, id: FieldId) -> Fou
 }
 
 // The record above the one that has the id.
-pub fn look_parent(plan: &PlanRows, m: usize, index: &IndexRows, id: FieldId) -> Found
+pub fn look_parent(plan: &PlanRows, m: usize, index: &IndexRows, id: FieldId) -> Option<(FieldId, Slot)>
     requires { (m ≤ 1024) × (IdsChained (numbers plan.now) index.now m
         × Falling m (ups_in index.now)) }
     ensures { ByParent plan.now index.now m id.0 result }
 {
     let want = id.0;
     let found = index_ids::find_id(plan, index, m, want);
-    let FoundSlot::At(slot) = found else {
-        return Found::Nothing;
+    let Some(slot) = found else {
+        return None;
     };
     let k = slot.0;
     let up = cell(index, UPS, k);
     if up == 0 {
-        return Found::Nothing;
+        return None;
     }
-    look_id(plan, m, index, FieldId(plan[NUMBERS][up - 1]))
+    look_id(plan, m, index, FieldId(plan.numbers[up - 1]))
 }
 
 // The first entered record that has the short name.
-fn look_short<'a>(trees: &Trees<'a>, plan: &PlanRows, m: usize, name: &[u8]) -> Found
+fn look_short<'a>(trees: &Trees<'a>, plan: &PlanRows, m: usize, name: &[u8]) -> Option<(FieldId, Slot)>
     requires { SourcesIn (trees_in trees.now) plan.now m }
     ensures { result ≡ found_slot (numbers plan.now)
         (short_slot (trees_in trees.now) (sources plan.now)
@@ -162,9 +156,9 @@ fn look_short<'a>(trees: &Trees<'a>, plan: &PlanRows, m: usize, name: &[u8]) -> 
     };
     let short = seek(trees, plan, m, row, Role::Member, name, 0, 0);
     let Sighting::Found(slot) = short else {
-        return Found::Nothing;
+        return None;
     };
-    with_id(plan, FoundSlot::At(slot))
+    with_id(plan, Some(slot))
 }
 
 // The record that has the full name; else the first entered that has the short name, which has a dot where it is no full name.
@@ -174,77 +168,59 @@ pub fn look_name<'a>(
     m: usize,
     index: &IndexRows,
     name: &[u8],
-) -> Found
+) -> Option<(FieldId, Slot)>
     requires { PlanIn (trees_in trees.now) plan.now m
         × Index (trees_in trees.now) plan.now m index.now }
     ensures { result ≡ found_row (look_name
         (fields_in (trees_in trees.now) plan.now m) name.now) }
 {
     let full = find_full(trees, plan, m, index, name);
-    if let FoundSlot::At(_) = full {
+    if let Some(_) = full {
         return with_id(plan, full);
     }
     if !has_dot(name) {
-        return Found::Nothing;
+        return None;
     }
     look_short(trees, plan, m, name)
 }
 
 // 2 to 8, then the look-up by name, in any bytes. The tables are made when 2 to 6 are passed, as in each look-up: to fill them takes
 // longer than to read a small tree.
-pub fn find_name<'a>(records: &'a [u8], pool: &'a [u8], name: &[u8]) -> Sought
+pub fn find_name<'a>(records: &'a [u8], pool: &'a [u8], name: &[u8]) -> Result<Option<(FieldId, Slot)>, Refusal>
     ensures { result ≡ looked (find_name records.now pool.now
         name.now) }
 {
-    let read = read_tree(records, pool);
-    if let Shaped::Refused(r) = read {
-        return Sought::Refused(r);
-    }
-    let trees = [records, pool, records, pool, &pool[0..0]];
+    read_tree(records, pool)?;
+    let trees = Trees::alone(records, pool);
     let n = records.len() / 24;
-    let mut plan = [[0u32; 1024]; 3];
+    let mut plan = PlanRows::empty();
     let mut index = [[0u16; 1024]; 8];
-    let tested = index_base(&trees, n, b"", &mut plan, &mut index);
-    if let Check::Refused(r) = tested {
-        return Sought::Refused(r);
-    }
-    Sought::Looked(look_name(&trees, &plan, n, &index, name))
+    index_base(&trees, n, b"", &mut plan, &mut index)?;
+    Ok(look_name(&trees, &plan, n, &index, name))
 }
 
 // 2 to 8, then the look-up by id, in any bytes.
-pub fn find_id<'a>(records: &'a [u8], pool: &'a [u8], id: FieldId) -> Sought
+pub fn find_id<'a>(records: &'a [u8], pool: &'a [u8], id: FieldId) -> Result<Option<(FieldId, Slot)>, Refusal>
     ensures { result ≡ looked (find_id records.now pool.now id.0) }
 {
-    let read = read_tree(records, pool);
-    if let Shaped::Refused(r) = read {
-        return Sought::Refused(r);
-    }
-    let trees = [records, pool, records, pool, &pool[0..0]];
+    read_tree(records, pool)?;
+    let trees = Trees::alone(records, pool);
     let n = records.len() / 24;
-    let mut plan = [[0u32; 1024]; 3];
+    let mut plan = PlanRows::empty();
     let mut index = [[0u16; 1024]; 8];
-    let tested = index_base(&trees, n, b"", &mut plan, &mut index);
-    if let Check::Refused(r) = tested {
-        return Sought::Refused(r);
-    }
-    Sought::Looked(look_id(&plan, n, &index, id))
+    index_base(&trees, n, b"", &mut plan, &mut index)?;
+    Ok(look_id(&plan, n, &index, id))
 }
 
 // 2 to 8, then the look-up of the record above an id, in any bytes.
-pub fn find_parent<'a>(records: &'a [u8], pool: &'a [u8], id: FieldId) -> Sought
+pub fn find_parent<'a>(records: &'a [u8], pool: &'a [u8], id: FieldId) -> Result<Option<(FieldId, Slot)>, Refusal>
     ensures { result ≡ looked (find_parent records.now pool.now id.0) }
 {
-    let read = read_tree(records, pool);
-    if let Shaped::Refused(r) = read {
-        return Sought::Refused(r);
-    }
-    let trees = [records, pool, records, pool, &pool[0..0]];
+    read_tree(records, pool)?;
+    let trees = Trees::alone(records, pool);
     let n = records.len() / 24;
-    let mut plan = [[0u32; 1024]; 3];
+    let mut plan = PlanRows::empty();
     let mut index = [[0u16; 1024]; 8];
-    let tested = index_base(&trees, n, b"", &mut plan, &mut index);
-    if let Check::Refused(r) = tested {
-        return Sought::Refused(r);
-    }
-    Sought::Looked(look_parent(&plan, n, &index, id))
+    index_base(&trees, n, b"", &mut plan, &mut index)?;
+    Ok(look_parent(&plan, n, &index, id))
 }

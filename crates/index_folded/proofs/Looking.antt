@@ -18,12 +18,8 @@ use Rattle.paper.specs.Rows.{Row, top, rows}
 use Rattle.laws.proofs.Folding.{folded_dots}
 use Rattle.record.specs.declared.Slot.{Slot}
 use Rattle.record.specs.declared.Refusal.{Refusal}
-use Rattle.record.specs.declared.Check.{Check}
-use Rattle.record.specs.declared.Check.TheVariants as check
-use Rattle.record.specs.declared.Found.{Found}
-use Rattle.record.specs.declared.FoundSlot.{FoundSlot}
-use Rattle.record.specs.declared.Sought.{Sought}
-use Rattle.record.specs.declared.Sought.TheVariants as sought
+use Rattle.record.specs.Answers.{Check, Found, FoundSlot, Sought}
+use Rattle.std.specs.Prelude.{Ok, Err}
 use Rattle.record.specs.Says.{found_row, looked, slot_before}
 use Rattle.record.proofs.Testing.{refused_as}
 use Rattle.record.specs.Trees.{Trees, alone}
@@ -68,11 +64,11 @@ unfolding slot_before seen
 held_is zero = refl
 held_is (suc i) = refl
 
-pub tell_second : (ids : List ℕ) (w : Met) (k : Slot) → w ≡ Twice k → sought.Refused (record { number = 21; list = 0; place = k.0 }) ≡ told ids w
+pub tell_second : (ids : List ℕ) (w : Met) (k : Slot) → w ≡ Twice k → Err (record { number = 21; list = 0; place = k.0 }) ≡ told ids w
 unfolding told
 tell_second ids w k e = rw e
 
-pub tell_one : (ids : List ℕ) (w : Met) (j : Slot) (one : ℕ) (s : FoundSlot) (f : Found) → w ≡ Past j one → s ≡ slot_before one → f ≡ found_slot ids (held s) → sought.Looked f ≡ told ids w
+pub tell_one : (ids : List ℕ) (w : Met) (j : Slot) (one : ℕ) (s : FoundSlot) (f : Found) → w ≡ Past j one → s ≡ slot_before one → f ≡ found_slot ids (held s) → Ok f ≡ told ids w
 unfolding told
 tell_one ids w j one s f e q h = rw (e, h, q, held_is one)
 
@@ -186,11 +182,11 @@ pub ruleset looking = (plan_sources, walked_small, full_told, root_told, short_t
 -- ---- the entry
 
 module _ (s pool x : List ℕ) where
-  pub folded_refused : (y : Refusal) → read s pool ≡ refused_as y → sought.Refused y ≡ looked (find_folded s pool x)
+  pub folded_refused : (y : Refusal) → read s pool ≡ refused_as y → Err y ≡ looked (find_folded s pool x)
   unfolding find_folded looked ◌>>=◌
   folded_refused y e = rw e
 
-  pub folded_looked : (plan : List (List ℕ)) (m : ℕ) (index : List (List ℕ)) (r : Check) → Opened s pool r plan m index → (h : Sought) → r ≡ check.Fine → h ≡ looked (look_folded (fields_in (alone s pool) plan m) x) → h ≡ looked (find_folded s pool x)
+  pub folded_looked : (plan : List (List ℕ)) (m : ℕ) (index : List (List ℕ)) (r : Check) → Opened s pool r plan m index → (h : Sought) → r ≡ (Ok tt) → h ≡ looked (look_folded (fields_in (alone s pool) plan m) x) → h ≡ looked (find_folded s pool x)
   unfolding find_folded ◌>>=◌
   folded_looked plan m index r o h q e = e ∙ sym (ap looked (ap (λ t. t >>= λ u. look_folded u x) (o.tree q)))
 

@@ -1,7 +1,7 @@
 -- What the walks met, as an answer.
 use Rattle.std.specs.Prelude.{ℕ, ◌<◌, ◌≤◌, Bool, false, List, eqb}
-use Rattle.record.specs.declared.Sought.{Sought}
-use Rattle.record.specs.declared.Sought.TheVariants.{Looked, Refused}
+use Rattle.record.specs.Answers.{Sought}
+use Rattle.std.specs.Prelude.{Ok, Err}
 use Rattle.record.specs.Says.{refusal_of}
 use Rattle.index_turns.specs.Turn.{seen}
 use Rattle.index_folded_names.specs.declared.Met.{Met}
@@ -19,5 +19,5 @@ Small (Past next one) = one ≤ 1024
 
 -- The answer, with the ids of the slots.
 unfoldable pub told : (ids : List ℕ) → Met → Sought
-told ids (Twice k) = Refused (refusal_of 21 0 k.0)
-told ids (Past next one) = Looked (found_slot ids (seen one))
+told ids (Twice k) = Err (refusal_of 21 0 k.0)
+told ids (Past next one) = Ok (found_slot ids (seen one))

@@ -16,8 +16,8 @@ use index::{index_base, with_id};
 use index_folded_names::{Met, meet_row};
 use paper::Role;
 use plan::PlanRows;
-use record::{Check, Refusal, Siblings, Sought, Trees, has_dot, slot_before};
-use tree::{Shaped, read_tree};
+use record::{Refusal, Siblings, Trees, has_dot, slot_before};
+use tree::{read_tree};
 
 // All rows, by their full names or by their short ones.
 fn meet_all<'a>(trees: &Trees<'a>, plan: &PlanRows, m: usize, short: bool, name: &[u8]) -> Met
@@ -43,23 +43,23 @@ fn none_met(met: Met) -> bool
 }
 
 // The one match with its id, or nothing; or refusal 21, with the slot of the second.
-fn tell(plan: &PlanRows, met: Met) -> Sought
+fn tell(plan: &PlanRows, met: Met) -> Result<Option<(FieldId, Slot)>, Refusal>
     requires { Small met }
     ensures { result ≡ told (numbers plan.now) met }
 {
     match met {
-        Met::Twice(second) => Sought::Refused(Refusal {
+        Met::Twice(second) => Err(Refusal {
             number: 21,
             list: 0,
             place: second.0 as u32,
         }),
-        Met::Past(_, one) => Sought::Looked(with_id(plan, slot_before(one))),
+        Met::Past(_, one) => Ok(with_id(plan, slot_before(one))),
     }
 }
 
 // The only record whose full name folds as the asked name does; where there is none, the only one whose short name does, which has
 // a dot where it is no full name.
-pub fn look_folded<'a>(trees: &Trees<'a>, plan: &PlanRows, m: usize, name: &[u8]) -> Sought
+pub fn look_folded<'a>(trees: &Trees<'a>, plan: &PlanRows, m: usize, name: &[u8]) -> Result<Option<(FieldId, Slot)>, Refusal>
     requires { PlanIn (trees_in trees.now) plan.now m }
     ensures { result ≡ looked (look_folded
         (fields_in (trees_in trees.now) plan.now m) name.now) }
@@ -75,21 +75,15 @@ pub fn look_folded<'a>(trees: &Trees<'a>, plan: &PlanRows, m: usize, name: &[u8]
 }
 
 // 2 to 8, then the look-up that forgets case, in any bytes.
-pub fn find_folded<'a>(records: &'a [u8], pool: &'a [u8], name: &[u8]) -> Sought
+pub fn find_folded<'a>(records: &'a [u8], pool: &'a [u8], name: &[u8]) -> Result<Option<(FieldId, Slot)>, Refusal>
     ensures { result ≡ looked (find_folded records.now pool.now
         name.now) }
 {
-    let read = read_tree(records, pool);
-    if let Shaped::Refused(r) = read {
-        return Sought::Refused(r);
-    }
-    let trees = [records, pool, records, pool, &pool[0..0]];
+    read_tree(records, pool)?;
+    let trees = Trees::alone(records, pool);
     let n = records.len() / 24;
-    let mut plan = [[0u32; 1024]; 3];
+    let mut plan = PlanRows::empty();
     let mut index = [[0u16; 1024]; 8];
-    let tested = index_base(&trees, n, b"", &mut plan, &mut index);
-    if let Check::Refused(r) = tested {
-        return Sought::Refused(r);
-    }
+    index_base(&trees, n, b"", &mut plan, &mut index)?;
     look_folded(&trees, &plan, n, name)
 }

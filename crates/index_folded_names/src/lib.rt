@@ -12,7 +12,7 @@ ghost use Rattle.index_folded_names.specs.Met.{folded_in, meeting};
 
 use index_turns::{either, fit_at, inside_at, own_place, row_next};
 use paper::{Role, next_role};
-use plan::{MEMBERS, PlanRows, name_of};
+use plan::{PlanRows, name_of};
 use record::{Siblings, Slot, Trees};
 
 // Two matches, with the slot of the second; or the slot behind a row, and the place of the one match up to there, 0 for none.
@@ -90,7 +90,7 @@ pub fn meet_row<'a>(
         if m <= at {
             return Met::Past(Slot(at), met);
         }
-        let members = plan[MEMBERS][at];
+        let members = plan.members[at];
         if misses(trees, plan, m, at, members, x, from) {
             at += 1;
             left -= 1;

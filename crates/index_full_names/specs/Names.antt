@@ -2,7 +2,7 @@
 use Rattle.std.specs.Prelude.{ℕ, Bool, List, []}
 use Rattle.paper.specs.Answer.{same, repeated}
 use Rattle.paper.specs.Bytes.{from}
-use Rattle.record.specs.declared.Check.{Check}
+use Rattle.record.specs.Answers.{Check}
 use Rattle.record.specs.Says.{tested}
 use Rattle.record.specs.Trees.{Trees}
 use Rattle.plan.specs.Named.{name_in}

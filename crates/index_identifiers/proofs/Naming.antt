@@ -15,9 +15,8 @@ use Rattle.paper.specs.Lists.{id_at, id_list}
 use Rattle.paper.specs.Rows.{Row, look_id}
 use Rattle.paper.specs.Sound.{identifying, identifies}
 use Rattle.record.specs.declared.Slot.{Slot}
-use Rattle.record.specs.declared.FoundSlot.{FoundSlot}
-use Rattle.record.specs.declared.FoundSlot.TheVariants.{At, Nothing}
-use Rattle.record.specs.declared.Check.TheVariants.{Fine, Refused}
+use Rattle.record.specs.Answers.{FoundSlot}
+use Rattle.std.specs.Prelude.{Ok, Err, Some, None}
 use Rattle.record.specs.Says.{tested, refusal_of, slot_before}
 use Rattle.record.specs.Trees.{Trees}
 use Rattle.record.proofs.Lowest.{look_starts, look_goes, look_stops, look_ends}
@@ -48,11 +47,11 @@ module _ {l : Trees} {xs is ks us : List ℕ} {m : ℕ} (P : Plan l xs is ks m) 
   row_at : Rel (field_in l xs is) us (look_id (plan_fields l xs is ks m) i) (slot_at (lowest_below (is_id is i) 0 m))
   row_at = id_row l xs is ks m P us (plan_climbs P R) i
 
-  pub finds_none : w ≡ Nothing → false ≡ identifies (look_id (plan_fields l xs is ks m) i)
+  pub finds_none : w ≡ None → false ≡ identifies (look_id (plan_fields l xs is ks m) i)
   finds_none q =
       sym (none_identifies l xs is us (subst (λ (at : ℕ). Rel (field_in l xs is) us (look_id (plan_fields l xs is ks m) i) (slot_at at)) (no_slot _ w ew q) row_at))
 
-  module _ (s : Slot) (q : w ≡ At s) where
+  module _ (s : Slot) (q : w ≡ Some s) where
     pub finds_slot : s.0 < m
     finds_slot = found_within (is_id is i) m w ew s q
 
@@ -104,10 +103,10 @@ module _ (s : List ℕ) (tree : Forest Field) (n i : ℕ) (h : Naming s tree n i
     pub nine_goes : not r ≡ false → Naming s tree n (i + 1)
     nine_goes q = record { count = h.count; small = omega arith; whole = look_goes (fits s tree) (lowest (fits s tree) 0 n) i n r h.whole l fits_is q }
 
-    pub nine_stops : not r ≡ true → Refused (refusal_of 9 5 i) ≡ rule_9 s tree
+    pub nine_stops : not r ≡ true → Err (refusal_of 9 5 i) ≡ rule_9 s tree
     nine_stops q = look_stops (fits s tree) 9 5 (lowest (fits s tree) 0 n) i n r h.whole l fits_is q ∙ sym (nine_is s tree ∙ rw (← h.count))
 
-  pub nine_ends : n ≤ i → Fine ≡ rule_9 s tree
+  pub nine_ends : n ≤ i → (Ok tt) ≡ rule_9 s tree
   nine_ends l = look_ends (fits s tree) 9 5 (lowest (fits s tree) 0 n) i n h.whole l ∙ sym (nine_is s tree ∙ rw (← h.count))
 
 pub ruleset nine = (nine_starts, nine_room, nine_goes, nine_stops, nine_ends)

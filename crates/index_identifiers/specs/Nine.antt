@@ -6,7 +6,7 @@ use Rattle.paper.specs.Forest.{Forest}
 use Rattle.paper.specs.Lists.{id_list}
 use Rattle.paper.specs.Rows.{look_id}
 use Rattle.paper.specs.Sound.{holding, identifies}
-use Rattle.record.specs.declared.Check.{Check}
+use Rattle.record.specs.Answers.{Check}
 use Rattle.record.specs.Says.{tested}
 use Rattle.record.specs.Trees.{Trees}
 use Rattle.plan.specs.Plan.{source_field}

@@ -15,8 +15,8 @@ ghost use Rattle.index_identifiers.specs.Nine.{held_up, rule_9};
 
 use index_ids::{IndexRows, UPS, cell, find_id};
 use paper::{is_primitive, is_required, is_struct};
-use plan::{PlanRows, SOURCES, planned_code, planned_flags, planned_kind};
-use record::{Check, FoundSlot, Refusal, Trees};
+use plan::{PlanRows, planned_code, planned_flags, planned_kind};
+use record::{Refusal, Trees};
 use record_entries::id_at;
 
 // Whether a planned record may identify: a primitive, required, neither float nor double.
@@ -50,7 +50,7 @@ fn held<'a>(trees: &Trees<'a>, plan: &PlanRows, m: usize, index: &IndexRows, slo
     while 0 < place {
         let k = place - 1;
         let above = cell(index, UPS, k);
-        if !holding(trees, plan[SOURCES][k]) {
+        if !holding(trees, plan.sources[k]) {
             return false;
         }
         left -= 1;
@@ -68,11 +68,11 @@ fn identifies<'a>(trees: &Trees<'a>, plan: &PlanRows, m: usize, index: &IndexRow
         plan.now m) (turned id)) }
 {
     let found = find_id(plan, index, m, id);
-    let FoundSlot::At(slot) = found else {
+    let Some(slot) = found else {
         return false;
     };
     let k = slot.0;
-    if !identifying(trees, plan[SOURCES][k]) {
+    if !identifying(trees, plan.sources[k]) {
         return false;
     }
     held(trees, plan, m, index, k)
@@ -85,7 +85,7 @@ pub fn check_identifiers<'a>(
     plan: &PlanRows,
     m: usize,
     index: &IndexRows,
-) -> Check
+) -> Result<(), Refusal>
     requires { (length identifiers.now ≤ 256) × PlanIn (trees_in trees.now) plan.now m
         × IdsChained (numbers plan.now) index.now m
         × Raised (members plan.now) m (ups_in index.now) }
@@ -96,7 +96,7 @@ pub fn check_identifiers<'a>(
     let mut i = 0;
     while i < n {
         if !identifies(trees, plan, m, index, id_at(identifiers, i)) {
-            return Check::Refused(Refusal {
+            return Err(Refusal {
                 number: 9,
                 list: 5,
                 place: i as u32,
@@ -104,5 +104,5 @@ pub fn check_identifiers<'a>(
         }
         i += 1;
     }
-    Check::Fine
+    Ok(())
 }

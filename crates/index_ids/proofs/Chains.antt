@@ -11,8 +11,8 @@ use lib.Dec.{eqb}
 use lib.ListN.{length, get_or, set, length-set}
 use lib.Seq.{get_or-set_same, get_or-set_other}
 use Rattle.record.specs.declared.Slot.{Slot}
-use Rattle.record.specs.declared.FoundSlot.{FoundSlot}
-use Rattle.record.specs.declared.FoundSlot.TheVariants.{At}
+use Rattle.record.specs.Answers.{FoundSlot}
+use Rattle.std.specs.Prelude.{Some}
 use Rattle.record.specs.Says.{slot_before}
 use Rattle.record.proofs.Slots.{the_slot}
 use Rattle.index_ids.specs.Chain.{last, pick, lowest_below, Below, Chained, Cleared, Entered}
@@ -105,7 +105,7 @@ below_most p b best (suc k) l q = rw (below_suc p best k) (below_most p b (pick 
     go false = l
 
 module _ (p : ℕ → Bool) (k : ℕ) (w : FoundSlot) (e : w ≡ slot_before (lowest_below p 0 k)) where
-  pub found_within : (s : Slot) → w ≡ At s → s.0 < k
+  pub found_within : (s : Slot) → w ≡ Some s → s.0 < k
   found_within s q = let z = the_slot (lowest_below p 0 k) w s e q in let y = below_most p k 0 k (omega arith) (omega arith) in omega arith
 
   pub found_below_room : k ≤ 1024 → Below w

@@ -13,8 +13,7 @@ use Rattle.paper.specs.Answer.{lowest}
 use Rattle.paper.specs.Bytes.{turned}
 use Rattle.laws.proofs.Words.{turned_twice}
 use Rattle.record.specs.declared.Slot.{Slot}
-use Rattle.record.specs.declared.FoundSlot.TheVariants.{At, Nothing}
-use Rattle.record.specs.declared.Check.TheVariants.{Fine, Refused}
+use Rattle.std.specs.Prelude.{Ok, Err, Some, None}
 use Rattle.record.specs.Says.{tested, refusal_of, slot_before}
 use Rattle.record.proofs.Slots.{no_slot, the_slot}
 use Rattle.record.proofs.Lowest.{look_starts, look_goes, look_stops, look_ends}
@@ -213,11 +212,11 @@ module _ (is : List ℕ) (t : List (List ℕ)) (k id line c bits left at : ℕ) 
 
 -- Where a way leads.
 module _ (is : List ℕ) (t : List (List ℕ)) (k x : ℕ) (w : Way) (h : Followed is t k x w) where
-  pub way_found : (s : Slot) → w ≡ Met s → At s ≡ slot_before (lowest_below (is_id is x) 0 k)
+  pub way_found : (s : Slot) → w ≡ Met s → Some s ≡ slot_before (lowest_below (is_id is x) 0 k)
   way_found s q = sym (ap slot_met q) ∙ h.found
 
   module _ (l c : ℕ) (q : w ≡ Ended l c) where
-    pub way_nothing : Nothing ≡ slot_before (lowest_below (is_id is x) 0 k)
+    pub way_nothing : None ≡ slot_before (lowest_below (is_id is x) 0 k)
     way_nothing = sym (ap slot_met q) ∙ h.found
 
     pub free_low : l < 3
@@ -259,7 +258,7 @@ module _ (is : List ℕ) (m list : ℕ) (old : List (List ℕ)) (n : Rooms old) 
     checking_rooms = h.within.rooms n
 
     module _ (w : Way) (g : Followed is t k (id_in is k) w) (l : k < m) where
-      pub checking_stops : (s : Slot) → w ≡ Met s → IndexedIn is m list (Refused (refusal_of 7 list k)) old t
+      pub checking_stops : (s : Slot) → w ≡ Met s → IndexedIn is m list (Err (refusal_of 7 list k)) old t
       checking_stops s q =
           record {
             answer = look_stops (new_id is) 7 list (lowest (new_id is) 0 m) k m false h.whole l (id_old is k w g s q) refl ∙ sym (all_new list is m);
@@ -278,7 +277,7 @@ module _ (is : List ℕ) (m list : ℕ) (old : List (List ℕ)) (n : Rooms old) 
             within = within_both 0 3 old t (entered_at t r c k) h.within (entered_within t k checking_rooms r c f.low f.small (omega arith));
           }
 
-    pub checking_ends : m ≤ k → IndexedIn is m list Fine old t
+    pub checking_ends : m ≤ k → IndexedIn is m list (Ok tt) old t
     checking_ends l =
         let e : k ≡ m = let y = h.small in omega arith in
         record {

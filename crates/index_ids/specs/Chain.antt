@@ -1,8 +1,8 @@
 -- Slots in chains, one chain for each bucket, each from the largest slot down. A place is one more than a slot, or 0 for none.
 use Rattle.std.specs.Prelude.{ℕ, zero, suc, ◌+◌, ◌<◌, ◌≡◌, Bool, true, false, List, eqb, length, get_or, set}
 use Rattle.record.specs.declared.Slot.{Slot}
-use Rattle.record.specs.declared.FoundSlot.{FoundSlot}
-use Rattle.record.specs.declared.FoundSlot.TheVariants.{At}
+use Rattle.record.specs.Answers.{FoundSlot}
+use Rattle.std.specs.Prelude.{Some}
 
 -- The place of the largest slot below k that falls in the bucket b.
 unfoldable pub last : (ℕ → ℕ) → ℕ → ℕ → ℕ
@@ -24,7 +24,7 @@ new_at same k = eqb (lowest_below (same k) 0 k) 0
 
 -- A slot that was found is one of an array's.
 pub record Below (w : FoundSlot) : Type 0 where
-  pub small : (s : Slot) → w ≡ At s → s.0 < 1024
+  pub small : (s : Slot) → w ≡ Some s → s.0 < 1024
 
 -- The slots below k stand in their chains.
 pub record Chained (bucket : ℕ → ℕ) (heads next : List ℕ) (k : ℕ) : Type 0 where

@@ -2,7 +2,7 @@
 use Rattle.std.specs.Prelude.{ℕ, ◌%◌, Bool, List, [], eqb, get_or}
 use Rattle.paper.specs.Answer.{repeated}
 use Rattle.paper.specs.Bytes.{turned, from}
-use Rattle.record.specs.declared.Check.{Check}
+use Rattle.record.specs.Answers.{Check}
 use Rattle.record.specs.Says.{tested}
 use Rattle.index_ids.specs.Chain.{new_at}
 

@@ -2,10 +2,8 @@
 -- slot's two links: to a later slot, or to none. An id has 32 bits, so a path has at most 23 slots, whatever the ids.
 use Rattle.std.specs.Prelude.{ℕ, zero, suc, ◌+◌, ◌/◌, ◌%◌, ◌<◌, ◌≤◌, ◌≡◌, List, get_or, set}
 use Rattle.paper.specs.Bytes.{turned}
-use Rattle.record.specs.declared.Check.{Check}
-use Rattle.record.specs.declared.Check.TheVariants.{Fine}
-use Rattle.record.specs.declared.FoundSlot.{FoundSlot}
-use Rattle.record.specs.declared.FoundSlot.TheVariants as found_slot
+use Rattle.record.specs.Answers.{Check, FoundSlot}
+use Rattle.std.specs.Prelude.{Ok, Some, None}
 use Rattle.record.specs.Says.{slot_before}
 use Rattle.index_ids.specs.declared.Way.{Way}
 use Rattle.index_ids.specs.declared.Way.TheVariants.{Met, Ended}
@@ -64,8 +62,8 @@ pub record EndsAt (index : List (List ℕ)) (id l c : ℕ) : Type 0 where
 
 -- The slot that a way comes to.
 abbrev pub slot_met : Way → FoundSlot
-slot_met (Met slot) = found_slot.At slot
-slot_met (Ended l c) = found_slot.Nothing
+slot_met (Met slot) = Some slot
+slot_met (Ended l c) = None
 
 -- The way to an id among k slots: it comes to the lowest slot that has the id; where none has it, to the end of its path.
 pub record Followed (ids : List ℕ) (index : List (List ℕ)) (k id : ℕ) (way : Way) : Type 0 where
@@ -84,5 +82,5 @@ entered_at index l c k = set (unlinked index k) l (set (row (unlinked index k) l
 -- The answer to 7, and the index that is left where there is no fault.
 pub record IndexedIn (ids : List ℕ) (m list : ℕ) (r : Check) (old new : List (List ℕ)) : Type 0 where
   pub answer : r ≡ rule_7 list ids m
-  pub index : r ≡ Fine → IdsChained ids new m
+  pub index : r ≡ (Ok tt) → IdsChained ids new m
   pub within : Within 0 3 old new

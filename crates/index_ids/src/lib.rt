@@ -10,8 +10,8 @@ ghost use Rattle.index_ids.specs.Ids.{bucket_of, is_id};
 ghost use Rattle.index_ids.specs.Table.{row, id_heads, Rooms, Fresh, EnteredIn};
 ghost use Rattle.index_ids.specs.Path.{IdsChained, Followed, entered_at, IndexedIn};
 
-use plan::{NUMBERS, PlanRows};
-use record::{Check, FoundSlot, Refusal, Slot};
+use plan::{PlanRows};
+use record::{Refusal, Slot};
 
 // An index's rows. A place is one more than a slot, or 0 for none: the heads of the paths of ids and, in a row for each bit, their
 // links; of each slot the place above it, and the length and the tag of its full name; the heads of the chains of full names and their
@@ -110,7 +110,7 @@ fn follow(plan: &PlanRows, index: &IndexRows, k: usize, id: u32) -> Way
     let mut at = cell(index, line, c);
     while 0 < at {
         c = at - 1;
-        if same_id(id, plan[NUMBERS][c]) {
+        if same_id(id, plan.numbers[c]) {
             return Way::Met(Slot(c));
         }
         line = ID_NEXT + (bits % 2) as usize;
@@ -122,14 +122,14 @@ fn follow(plan: &PlanRows, index: &IndexRows, k: usize, id: u32) -> Way
 }
 
 // The lowest slot below k that has the id.
-pub fn find_id(plan: &PlanRows, index: &IndexRows, k: usize, id: u32) -> FoundSlot
+pub fn find_id(plan: &PlanRows, index: &IndexRows, k: usize, id: u32) -> Option<Slot>
     requires { (k ≤ 1024) × IdsChained (numbers plan.now) index.now k }
     ensures { result ≡ slot_before (lowest_below
         (is_id (numbers plan.now) (turned id)) 0 k) }
 {
     match follow(plan, index, k, id) {
-        Way::Met(slot) => FoundSlot::At(slot),
-        Way::Ended(_, _) => FoundSlot::Nothing,
+        Way::Met(slot) => Some(slot),
+        Way::Ended(_, _) => None,
     }
 }
 
@@ -144,16 +144,16 @@ fn enter_id(index: &mut IndexRows, line: usize, c: usize, k: usize)
 }
 
 // Refusal 7 over m slots, where no id stands on a path yet. Where there is none, the index of the ids is left; its other rows stay.
-pub fn check_ids(plan: &PlanRows, m: usize, list: u32, index: &mut IndexRows) -> Check
+pub fn check_ids(plan: &PlanRows, m: usize, list: u32, index: &mut IndexRows) -> Result<(), Refusal>
     requires { (m ≤ 1024) × (Rooms index.old × Cleared (id_heads index.old)) }
     ensures { IndexedIn (numbers plan.now) m list result index.old
         index.new }
 {
     let mut k = 0;
     while k < m {
-        match follow(plan, index, k, plan[NUMBERS][k]) {
+        match follow(plan, index, k, plan.numbers[k]) {
             Way::Met(_) => {
-                return Check::Refused(Refusal {
+                return Err(Refusal {
                     number: 7,
                     list,
                     place: k as u32,
@@ -163,5 +163,5 @@ pub fn check_ids(plan: &PlanRows, m: usize, list: u32, index: &mut IndexRows) ->
         }
         k += 1;
     }
-    Check::Fine
+    Ok(())
 }

@@ -20,11 +20,9 @@ use Rattle.paper.specs.Rows.{Row, look_id}
 use Rattle.laws.proofs.Basics.{bind_is, bind_not}
 use Rattle.laws.proofs.Runs.{sets_append, sets_front, map_from, from_step, from_done, from_all}
 use Rattle.record.specs.declared.Slot.{Slot}
-use Rattle.record.specs.declared.FoundSlot.{FoundSlot}
-use Rattle.record.specs.declared.FoundSlot.TheVariants.{At, Nothing}
+use Rattle.record.specs.Answers.{FoundSlot, Check}
+use Rattle.std.specs.Prelude.{Ok, Err, Some, None}
 use Rattle.record.specs.declared.Refusal.{Refusal}
-use Rattle.record.specs.declared.Check.{Check}
-use Rattle.record.specs.declared.Check.TheVariants as check
 use Rattle.record.specs.Says.{refusal_of, found_row, slot_before}
 use Rattle.record.specs.Trees.{Trees, alone}
 use Rattle.record.proofs.Testing.{refused_as}
@@ -36,24 +34,23 @@ use Rattle.index_ids.proofs.Chains.{found_below_room}
 use Rattle.index.specs.Index.{found_slot, held}
 use Rattle.index.proofs.Opening.{Opened, reading}
 use Rattle.index.proofs.Looking.{finds_id}
-use Rattle.index_many.specs.declared.Searched.{Searched}
-use Rattle.index_many.specs.declared.Searched.TheVariants.{Done, Refused}
+use Rattle.index_many.specs.Answers.{Searched}
 use Rattle.index_many.specs.Many.{searches, slot_word, met_one, Searchable, rows_of, ByIds}
 
 -- ---- rows
 
 one_most : (w : FoundSlot) → met_one w ≤ 1
-one_most Nothing = omega arith
-one_most (At s) = omega arith
+one_most None = omega arith
+one_most (Some s) = omega arith
 
 -- What the index found is the row: the number that is written, and what it adds to the count.
 row_is : (is : List ℕ) (o : Option Row) (w : FoundSlot) → found_slot is (held w) ≡ found_row o
     → (slot_word w ≡ slot_number o) × ((rows : List (Option Row)) → how_many (o ∷ rows) ≡ met_one w + how_many rows)
 unfolding found_slot found_row
-row_is is none Nothing e = (refl, λ rows. omega arith)
-row_is is none (At s) e = absurd (let z : ◌≡◌ {A = ℕ} 0 1 = cc in omega arith)
-row_is is (some row) Nothing e = absurd (let z : ◌≡◌ {A = ℕ} 0 1 = cc in omega arith)
-row_is is (some row) (At s) e = (ap (λ (t : Slot). t.0) (let z : s ≡ record { 0 = row.slot } = cc in z), λ rows. omega arith)
+row_is is none None e = (refl, λ rows. omega arith)
+row_is is none (Some s) e = absurd (let z : ◌≡◌ {A = ℕ} 0 1 = cc in omega arith)
+row_is is (some row) None e = absurd (let z : ◌≡◌ {A = ℕ} 0 1 = cc in omega arith)
+row_is is (some row) (Some s) e = (ap (λ (t : Slot). t.0) (let z : s ≡ record { 0 = row.slot } = cc in z), λ rows. omega arith)
 
 slots_length : (g : ℕ → Option Row) (k m : ℕ) → length (out_slots (from g k m)) ≡ m * 4
 unfolding out_slots from
@@ -142,16 +139,16 @@ module _ (s pool ids out : List ℕ) where
   Ends r out' = Answers searches asked (for_slots out ∷ []) r (out' ∷ [])
 
   -- A refusal changes no byte.
-  stops : (y : Refusal) → asked ≡ refused_as y → Ends (Refused y) out
+  stops : (y : Refusal) → asked ≡ refused_as y → Ends (Err y) out
   unfolding searches leaves
   stops y e = rw e (record { told = refl; left = refl })
 
-  pub room_short : length out < length ids → Ends (Refused (refusal_of 1 0 0)) out
+  pub room_short : length out < length ids → Ends (Err (refusal_of 1 0 0)) out
   unfolding find_ids ◌>>=◌
   room_short l = stops (refusal_of 1 0 0) (rw (lt-leb (length ids) (length out) l))
 
   module _ (room : length ids ≤ length out) (b : Bool) (eb : b ≡ whole 4 1024 ids) where
-    pub not_whole : not b ≡ true → Ends (Refused (refusal_of 2 0 0)) out
+    pub not_whole : not b ≡ true → Ends (Err (refusal_of 2 0 0)) out
     unfolding find_ids ◌>>=◌
     not_whole t = stops (refusal_of 2 0 0) (rw (le-leb (length ids) (length out) room, ← eb, not-true b t))
 
@@ -160,18 +157,18 @@ module _ (s pool ids out : List ℕ) where
       unfolding find_ids ◌>>=◌
       reads = rw (le-leb (length ids) (length out) room, ← eb, not-false b t)
 
-      pub base_refused : (y : Refusal) → read s pool ≡ refused_as y → Ends (Refused y) out
+      pub base_refused : (y : Refusal) → read s pool ≡ refused_as y → Ends (Err y) out
       base_refused y e = stops y (reads ∙ bind_not (read s pool) _ _ _ _ e)
 
-      module _ (plan : List (List ℕ)) (m : ℕ) (index : List (List ℕ)) (r : Check) (o : Opened s pool r plan m index) (q : r ≡ check.Fine) where
+      module _ (plan : List (List ℕ)) (m : ℕ) (index : List (List ℕ)) (r : Check) (o : Opened s pool r plan m index) (q : r ≡ (Ok tt)) where
         pub searchable : Searchable plan m index ids out
         searchable =
             record { few = (o.planned q).few; chained = (o.indexed q).by_id; asked = whole_most 4 1024 ids (sym eb ∙ not-false b t); room = room }
 
-        pub all_looked : (x : ℕ) (out' : List ℕ) → ByIds plan m ids x out out' → Ends (Done x) out'
+        pub all_looked : (x : ℕ) (out' : List ℕ) → ByIds plan m ids x out out' → Ends (Ok x) out'
         unfolding searches
         all_looked x out' h =
             let e : asked ≡ ok (rows_of (alone s pool) plan m ids) = reads ∙ bind_is (read s pool) _ _ (o.tree q) in
-            rw e (record { told = ap Done (h.counts (alone s pool) (o.planned q)); left = ap (λ (x : List ℕ). x ∷ []) (h.bytes (alone s pool) (o.planned q)) })
+            rw e (record { told = ap Ok (h.counts (alone s pool) (o.planned q)); left = ap (λ (x : List ℕ). x ∷ []) (h.bytes (alone s pool) (o.planned q)) })
 
 pub ruleset finding = (reading, room_short, not_whole, base_refused, searchable, all_looked)

@@ -5,27 +5,26 @@ use Rattle.paper.specs.Answer.{Answer, ok, refused}
 use Rattle.paper.specs.Lists.{id_list}
 use Rattle.paper.specs.Outcome.{how_many, out_slots, leaves}
 use Rattle.paper.specs.Rows.{Row, look_id}
-use Rattle.record.specs.declared.FoundSlot.{FoundSlot}
-use Rattle.record.specs.declared.FoundSlot.TheVariants as found
+use Rattle.record.specs.Answers.{FoundSlot}
+use Rattle.std.specs.Prelude.{Ok, Err, Some, None}
 use Rattle.record.specs.Says.{refusal_of}
 use Rattle.record.specs.Trees.{Trees}
 use Rattle.plan.specs.Table.{numbers, PlanIn, fields_in}
 use Rattle.index_ids.specs.Path.{IdsChained}
-use Rattle.index_many.specs.declared.Searched.{Searched}
-use Rattle.index_many.specs.declared.Searched.TheVariants.{Done, Refused}
+use Rattle.index_many.specs.Answers.{Searched}
 
 unfoldable pub searches : Answer (List (Option Row)) → Searched
-searches (ok rows) = Done (how_many rows)
-searches (refused n l p) = Refused (refusal_of n l p)
+searches (ok rows) = Ok (how_many rows)
+searches (refused n l p) = Err (refusal_of n l p)
 
 -- A found slot as the number that is written, and what it adds to the count.
 abbrev pub slot_word : FoundSlot → ℕ
-slot_word found.Nothing = 4294967295
-slot_word (found.At s) = s.0
+slot_word None = 4294967295
+slot_word (Some s) = s.0
 
 abbrev pub met_one : FoundSlot → ℕ
-met_one found.Nothing = 0
-met_one (found.At s) = 1
+met_one None = 0
+met_one (Some s) = 1
 
 -- The ids are indexed, 2 was tested, and there is room.
 pub record Searchable (plan : List (List ℕ)) (m : ℕ) (index : List (List ℕ)) (ids out : List ℕ) : Type 0 where

@@ -10,10 +10,10 @@ ghost use Rattle.index_many.specs.Many.{searches, slot_word, met_one, Searchable
 use index::index_base;
 use index_ids::{IndexRows, find_id};
 use plan::{PlanRows, put_bytes};
-use record::{Check, FoundSlot, Refusal, word_bytes};
+use record::{Refusal, word_bytes};
 use record_entries::id_at;
 use record_limits::whole_list;
-use tree::{Shaped, read_tree};
+use tree::{read_tree};
 
 // How many of the ids were found, or a refusal.
 #[derive(Clone, Copy)]
@@ -23,23 +23,23 @@ pub enum Searched {
 }
 
 // A found slot as 32 bits; 4,294,967,295 for none.
-fn slot_word(found: FoundSlot) -> u32
+fn slot_word(found: Option<Slot>) -> u32
     requires { Below found }
     ensures { result ≡ slot_word found }
 {
     match found {
-        FoundSlot::Nothing => 4294967295,
-        FoundSlot::At(slot) => slot.0 as u32,
+        None => 4294967295,
+        Some(slot) => slot.0 as u32,
     }
 }
 
 // 1 for a slot that was found.
-fn met_one(found: FoundSlot) -> u32
+fn met_one(found: Option<Slot>) -> u32
     ensures { result ≡ met_one found }
 {
     match found {
-        FoundSlot::Nothing => 0,
-        FoundSlot::At(_) => 1,
+        None => 0,
+        Some(_) => 1,
     }
 }
 
@@ -63,37 +63,31 @@ fn look_ids(plan: &PlanRows, m: usize, index: &IndexRows, ids: &[u8], out: &mut 
 }
 
 // The slot of each id in any bytes, 4,294,967,295 where there is none. The tree is tested once, for all ids.
-pub fn find_ids<'a>(records: &'a [u8], pool: &'a [u8], ids: &[u8], out_slots: &mut [u8]) -> Searched
+pub fn find_ids<'a>(records: &'a [u8], pool: &'a [u8], ids: &[u8], out_slots: &mut [u8]) -> Result<u32, Refusal>
     ensures { Answers searches
         (find_ids records.now pool.now ids.now
         (length out_slots.old)) (for_slots out_slots.old ∷ []) result
         (out_slots.new ∷ []) }
 {
     if out_slots.len() < ids.len() {
-        return Searched::Refused(Refusal {
+        return Err(Refusal {
             number: 1, // refusal 1
             list: 0,
             place: 0,
         });
     }
     if !whole_list(ids, 4, 1024) {
-        return Searched::Refused(Refusal {
+        return Err(Refusal {
             number: 2, // refusal 2
             list: 0,
             place: 0,
         });
     }
-    let read = read_tree(records, pool);
-    if let Shaped::Refused(r) = read {
-        return Searched::Refused(r);
-    }
-    let trees = [records, pool, records, pool, &pool[0..0]];
+    read_tree(records, pool)?;
+    let trees = Trees::alone(records, pool);
     let n = records.len() / 24;
-    let mut plan = [[0u32; 1024]; 3];
+    let mut plan = PlanRows::empty();
     let mut index = [[0u16; 1024]; 8];
-    let tested = index_base(&trees, n, b"", &mut plan, &mut index);
-    if let Check::Refused(r) = tested {
-        return Searched::Refused(r);
-    }
-    Searched::Done(look_ids(&plan, n, &index, ids, out_slots))
+    index_base(&trees, n, b"", &mut plan, &mut index)?;
+    Ok(look_ids(&plan, n, &index, ids, out_slots))
 }

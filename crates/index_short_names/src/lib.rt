@@ -12,7 +12,7 @@ ghost use Rattle.index_short_names.specs.Seek.{Turned, outcome, sighting};
 
 use index_turns::{either, fit_at, inside_at, own_place, row_next};
 use paper::{Role, next_role};
-use plan::{MEMBERS, PlanRows};
+use plan::{PlanRows};
 use record::{Siblings, Slot, Trees};
 
 // A slot that was found, or the slot behind a row in which there is none.
@@ -131,7 +131,7 @@ pub fn seek<'a>(
             return ended(first, at);
         }
         inner.slot = at + 1;
-        inner.count = plan[MEMBERS][at];
+        inner.count = plan.members[at];
         let turn = turn_at(trees, plan, m, at, part, x, pos);
         let inside = turn.role;
         let me = turn.me;

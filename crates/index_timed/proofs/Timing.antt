@@ -10,11 +10,9 @@ use Rattle.paper.specs.Bytes.{turned}
 use Rattle.paper.specs.Limits.{whole}
 use Rattle.paper.specs.Lists.{id_at}
 use Rattle.record.specs.declared.Slot.{Slot}
-use Rattle.record.specs.declared.FoundSlot.{FoundSlot}
-use Rattle.record.specs.declared.FoundSlot.TheVariants.{At, Nothing}
+use Rattle.record.specs.Answers.{FoundSlot, Check}
+use Rattle.std.specs.Prelude.{Ok, Err, Some, None}
 use Rattle.record.specs.declared.Refusal.{Refusal}
-use Rattle.record.specs.declared.Check.{Check}
-use Rattle.record.specs.declared.Check.TheVariants.{Fine, Refused}
 use Rattle.record.specs.Says.{slot_before}
 use Rattle.record_limits.proofs.Within.{whole_most}
 use Rattle.plan.specs.Table.{numbers, TakenIn}
@@ -25,10 +23,10 @@ use Rattle.index_ids.specs.Path.{IndexedIn}
 use Rattle.index_timed.specs.Timed.{counts, each_round, all_rounds, id_row, timed}
 
 module _ (w : FoundSlot) (c : ℕ) where
-  pub count_same : w ≡ Nothing → c ≡ counts w c
+  pub count_same : w ≡ None → c ≡ counts w c
   count_same e = rw e
 
-  pub count_more : (s : Slot) → w ≡ At s → (c + 1) % 4294967296 ≡ counts w c
+  pub count_more : (s : Slot) → w ≡ Some s → (c + 1) % 4294967296 ≡ counts w c
   count_more s e = rw e
 
 pub ruleset counting = (count_same, count_more)
@@ -81,11 +79,11 @@ module _ (s ids : List ℕ) (rounds : ℕ) (b : Bool) (eb : b ≡ whole 24 1024 
       same_row : numbers plan ≡ id_row s
       same_row = t.numbers_set ∙ rw en
 
-      pub timed_refused : (y : Refusal) → r ≡ Refused y → 0 ≡ timed s ids rounds
+      pub timed_refused : (y : Refusal) → r ≡ Err y → 0 ≡ timed s ids rounds
       unfolding timed
       timed_refused y e = rw (← eb, not-false b q, ← same_row, ← en, ← x.answer, e)
 
-      pub timed_done : (z : ℕ) → r ≡ Fine → z ≡ all_rounds (numbers plan) n ids rounds → z ≡ timed s ids rounds
+      pub timed_done : (z : ℕ) → r ≡ (Ok tt) → z ≡ all_rounds (numbers plan) n ids rounds → z ≡ timed s ids rounds
       unfolding timed
       timed_done z e h = rw (← eb, not-false b q, ← same_row, ← en, ← x.answer, e) h
 

@@ -4,10 +4,8 @@ use Rattle.std.proofs.lemmas.List.Edits.{sets}
 use Rattle.paper.specs.Bytes.{from}
 use Rattle.paper.specs.Limits.{whole}
 use Rattle.paper.specs.Lists.{id_at}
-use Rattle.record.specs.declared.FoundSlot.{FoundSlot}
-use Rattle.record.specs.declared.FoundSlot.TheVariants.{At, Nothing}
-use Rattle.record.specs.declared.Check.{Check}
-use Rattle.record.specs.declared.Check.TheVariants as check
+use Rattle.record.specs.Answers.{FoundSlot, Check}
+use Rattle.std.specs.Prelude.{Ok, Err, Some, None}
 use Rattle.record.specs.Says.{slot_before}
 use Rattle.plan.specs.Sources.{id_bits}
 use Rattle.index_ids.specs.Chain.{lowest_below}
@@ -15,8 +13,8 @@ use Rattle.index_ids.specs.Ids.{is_id, rule_7}
 
 -- The count behind one search.
 abbrev pub counts : FoundSlot → ℕ → ℕ
-counts Nothing c = c
-counts (At s) c = (c + 1) % 4294967296
+counts None c = c
+counts (Some s) c = (c + 1) % 4294967296
 
 -- The slot that the search for the i-th id finds among m slots.
 abbrev pub sought : (is : List ℕ) (m : ℕ) (ids : List ℕ) (i : ℕ) → FoundSlot
@@ -37,8 +35,8 @@ abbrev pub id_row : (records : List ℕ) → List ℕ
 id_row records = sets (replicate 1024 0) 0 (from (id_bits records) 0 (length records / 24))
 
 abbrev pub where_fine : Check → ℕ → ℕ
-where_fine check.Fine n = n
-where_fine (check.Refused r) n = 0
+where_fine (Ok tt) n = n
+where_fine (Err r) n = 0
 
 abbrev pub where_whole : Bool → ℕ → ℕ
 where_whole true n = n

@@ -8,15 +8,15 @@ ghost use Rattle.index_timed.specs.Timed.{counts, each_round, all_rounds, timed}
 
 use index_ids::{IndexRows, check_ids, find_id};
 use plan::{PlanRows, take_base};
-use record::{Check, FoundSlot};
+use record::{FoundSlot};
 use record_entries::id_at;
 use record_limits::whole_list;
 
 // The count behind one search.
-fn counted(found: FoundSlot, count: u32) -> u32
+fn counted(found: Option<Slot>, count: u32) -> u32
     ensures { result ≡ counts found count }
 {
-    let FoundSlot::At(_) = found else {
+    let Some(_) = found else {
         return count;
     };
     ((count as u64 + 1) % 4294967296) as u32
@@ -61,11 +61,11 @@ pub fn braidhurdle_timed_search(records: &[u8], ids: &[u8], rounds: u32) -> u32
         return 0;
     }
     let n = records.len() / 24;
-    let mut plan = [[0u32; 1024]; 3];
+    let mut plan = PlanRows::empty();
     let mut index = [[0u16; 1024]; 8];
     take_base(records, n, &mut plan);
     let checked = check_ids(&plan, n, 0, &mut index);
-    if let Check::Refused(_) = checked {
+    if let Err(_) = checked {
         return 0;
     }
     search_rounds(&plan, &index, n, ids, rounds)

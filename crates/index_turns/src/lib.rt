@@ -13,7 +13,7 @@ ghost use Rattle.plan.specs.Walk.{walk_in};
 ghost use Rattle.index_turns.specs.Turn.{spelt, fits, deeper, Entered, seen};
 
 use paper::{Kind, Role, first_role, is_struct};
-use plan::{MEMBERS, PlanRows, SOURCES, name_of, planned_kind};
+use plan::{PlanRows, name_of, planned_kind};
 use record::{Siblings, Trees, equal};
 
 // What is inside a record for a search: its first member's role, and where to look on.
@@ -41,7 +41,7 @@ pub fn row_next(plan: &PlanRows, m: usize, row: Siblings) -> usize
         }
         let inside = Siblings {
             slot: at + 1,
-            count: plan[MEMBERS][at],
+            count: plan.members[at],
             levels: levels - 1,
         };
         at = row_next(plan, m, inside);
@@ -122,7 +122,7 @@ fn kind_of<'a>(trees: &Trees<'a>, plan: &PlanRows, m: usize, k: usize) -> Kind
     requires { (k < m) × SourcesIn (trees_in trees.now) plan.now m }
     ensures { result ≡ kinds_in (trees_in trees.now) plan.now k }
 {
-    planned_kind(trees, plan[SOURCES][k])
+    planned_kind(trees, plan.sources[k])
 }
 
 // A name against x from `pos` on: 1 it is that, 2 it and a dot begin it, 0 neither. What stands behind it in x is looked at first,

@@ -14,8 +14,8 @@ use Rattle.paper.specs.Lister.{decimal, signed, parent_text, line, lines, listin
 use Rattle.paper.specs.Rows.{Row, Start, top, row, below, beside, rows, dotted, nearest}
 use Rattle.laws.proofs.Preorder.{size_mapped}
 use Rattle.record.specs.declared.Refusal.{Refusal}
-use Rattle.record.specs.declared.Check.{Check}
-use Rattle.record.specs.declared.Check.TheVariants as check
+use Rattle.record.specs.Answers.{Check}
+use Rattle.std.specs.Prelude.{Ok}
 use Rattle.record.specs.Trees.{Trees, alone}
 use Rattle.record.proofs.Testing.{refused_as}
 use Rattle.plan.specs.Plan.{kids_in}
@@ -141,7 +141,7 @@ module _ (records pool : List ℕ) (at : ℕ) (out : List ℕ) (n : ℕ) (out' :
   unfolding lister
   refusal_listed x e h = rw e h
 
-  pub tree_listed : (r : Check) (plan : List (List ℕ)) (m : ℕ) (index : List (List ℕ)) → Opened records pool r plan m index → r ≡ check.Fine → Shown (joined (line_at (alone records pool) plan index) m) at out n out' → Shown (lister records pool) at out n out'
+  pub tree_listed : (r : Check) (plan : List (List ℕ)) (m : ℕ) (index : List (List ℕ)) → Opened records pool r plan m index → r ≡ (Ok tt) → Shown (joined (line_at (alone records pool) plan index) m) at out n out' → Shown (lister records pool) at out n out'
   unfolding lister listing
   tree_listed r plan m index o q h = rw (o.tree q, plan_listed (alone records pool) plan m index (o.planned q) (o.indexed q).raised) h
 

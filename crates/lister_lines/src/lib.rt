@@ -13,9 +13,9 @@ ghost use Rattle.lister_lines.specs.Text.{above, line_start, line_at, joined, re
 
 use index::index_base;
 use index_ids::{IndexRows, LENS, UPS, cell};
-use plan::{NUMBERS, PlanRows, name_of, put_bytes};
-use record::{Check, Refusal, Trees};
-use tree::{Shaped, read_tree};
+use plan::{PlanRows, name_of, put_bytes};
+use record::{Refusal, Trees};
+use tree::{read_tree};
 
 // Decimal digits, at the end of ten bytes.
 #[derive(Clone, Copy)]
@@ -111,7 +111,7 @@ fn put_parent(out: &mut [u8], at: usize, plan: &PlanRows, up: usize) -> usize
         out[at] = 45;
         return at + 1;
     }
-    put_signed(out, at, plan[NUMBERS][up - 1])
+    put_signed(out, at, plan.numbers[up - 1])
 }
 
 // Slot, id and the id above, each before a blank.
@@ -122,7 +122,7 @@ fn put_numbers(out: &mut [u8], plan: &PlanRows, slot: usize, up: usize) -> usize
 {
     let a = put_decimal(out, 0, slot as u32);
     out[a] = 32;
-    let b = put_signed(out, a + 1, plan[NUMBERS][slot]);
+    let b = put_signed(out, a + 1, plan.numbers[slot]);
     out[b] = 32;
     let c = put_parent(out, b + 1, plan, up);
     out[c] = 32;
@@ -235,15 +235,15 @@ pub fn listing<'a>(records: &'a [u8], pool: &'a [u8], from: usize, out: &mut [u8
         out.old result out.new }
 {
     let read = read_tree(records, pool);
-    if let Shaped::Refused(refusal) = read {
+    if let Err(refusal) = read {
         return list_refusal(refusal, from, out);
     }
-    let trees = [records, pool, records, pool, &pool[0..0]];
+    let trees = Trees::alone(records, pool);
     let n = records.len() / 24;
-    let mut plan = [[0u32; 1024]; 3];
+    let mut plan = PlanRows::empty();
     let mut index = [[0u16; 1024]; 8];
     let tested = index_base(&trees, n, b"", &mut plan, &mut index);
-    if let Check::Refused(refusal) = tested {
+    if let Err(refusal) = tested {
         return list_refusal(refusal, from, out);
     }
     let mut line = [0u8; 65571];

@@ -12,10 +12,7 @@ ghost use Rattle.plan.specs.Named.{names_in, SourcesIn};
 ghost use Rattle.plan.specs.Table.{sources, InsideIn, planned_at, CopiedIn, TakenIn};
 
 use paper::{Kind, is_required};
-use record::{
-    ADDED_RECORDS, EDITS, POOL, RECORDS, REQUEST_POOL, Trees, code_at, flags_at, id_bits_at,
-    kids_at, kind_at, name_at, name_len_at,
-};
+use record::{Trees, code_at, flags_at, id_bits_at, kids_at, kind_at, name_at, name_len_at};
 use record_entries::{new_code_at, new_name_at, new_name_len};
 
 // A plan's rows: where each planned record comes from, its id as 32 bits, how many members it has. A source below 1,024 is a slot of
@@ -35,9 +32,9 @@ pub fn put_planned(plan: &mut PlanRows, at: usize, source: u32, id: u32, members
     requires { (at < 1024) × (length plan.old ≡ 3) }
     ensures { plan.new ≡ planned_at plan.old at source id members }
 {
-    plan[SOURCES][at] = source;
-    plan[NUMBERS][at] = id;
-    plan[MEMBERS][at] = members;
+    plan.sources[at] = source;
+    plan.numbers[at] = id;
+    plan.members[at] = members;
 }
 
 // So many records of a list from a slot on, planned as they stand from place `at` on; the rest of the rows stays.
@@ -111,9 +108,9 @@ pub fn edited_name_len<'a>(trees: &Trees<'a>, k: usize) -> usize
 {
     let low = low_part(k);
     if low < 2 {
-        return name_len_at(trees[RECORDS], edited_slot(k));
+        return name_len_at(trees.records, edited_slot(k));
     }
-    new_name_len(trees[EDITS], low / 2 - 1)
+    new_name_len(trees.edits, low / 2 - 1)
 }
 
 // Its flags: no longer required, if it is relaxed.
@@ -123,7 +120,7 @@ pub fn edited_flags<'a>(trees: &Trees<'a>, k: usize) -> u8
     ensures { result ≡ marked_flags (trees_in trees.now).records (mark_of k)
         (edited_slot k) }
 {
-    let flags = flags_at(trees[RECORDS], edited_slot(k));
+    let flags = flags_at(trees.records, edited_slot(k));
     if mark_of(k) % 2 == 1 {
         return relaxed_flags(flags);
     }
@@ -139,9 +136,9 @@ pub fn edited_code<'a>(trees: &Trees<'a>, k: usize) -> u32
 {
     let mark = mark_of(k);
     if mark < 256 {
-        return code_at(trees[RECORDS], edited_slot(k));
+        return code_at(trees.records, edited_slot(k));
     }
-    new_code_at(trees[EDITS], mark / 256 - 1)
+    new_code_at(trees.edits, mark / 256 - 1)
 }
 
 // Its name: a part of the request pool, if it is renamed, else of the base's.
@@ -151,9 +148,9 @@ fn edited_name<'a>(trees: &Trees<'a>, k: usize) -> &'a [u8]
 {
     let low = low_part(k);
     if 2 <= low {
-        return new_name_at(trees[REQUEST_POOL], trees[EDITS], low / 2 - 1);
+        return new_name_at(trees.request_pool, trees.edits, low / 2 - 1);
     }
-    name_at(trees[POOL], trees[RECORDS], edited_slot(k))
+    name_at(trees.pool, trees.records, edited_slot(k))
 }
 
 // A planned record's kind.
@@ -163,8 +160,8 @@ pub fn planned_kind<'a>(trees: &Trees<'a>, source: u32) -> Kind
     ensures { result ≡ source_kind (trees_in trees.now).records
         (trees_in trees.now).added_records source }
 {
-    let records = trees[RECORDS];
-    let added = trees[ADDED_RECORDS];
+    let records = trees.records;
+    let added = trees.added_records;
     let k = source as usize;
     if k < 1024 {
         return kind_at(records, k);
@@ -184,10 +181,10 @@ pub fn planned_flags<'a>(trees: &Trees<'a>, source: u32) -> u8
 {
     let k = source as usize;
     if k < 1024 {
-        return flags_at(trees[RECORDS], k);
+        return flags_at(trees.records, k);
     }
     if k < 2048 {
-        return flags_at(trees[ADDED_RECORDS], k - 1024);
+        return flags_at(trees.added_records, k - 1024);
     }
     edited_flags(trees, k)
 }
@@ -202,10 +199,10 @@ pub fn planned_code<'a>(trees: &Trees<'a>, source: u32) -> u32
 {
     let k = source as usize;
     if k < 1024 {
-        return code_at(trees[RECORDS], k);
+        return code_at(trees.records, k);
     }
     if k < 2048 {
-        return code_at(trees[ADDED_RECORDS], k - 1024);
+        return code_at(trees.added_records, k - 1024);
     }
     edited_code(trees, k)
 }
@@ -219,8 +216,8 @@ pub fn planned_name_len<'a>(trees: &Trees<'a>, source: u32) -> usize
         source) × (result ≤ 255) }
 {
     // both are read before the choice, so that a loop need not read them each time
-    let records = trees[RECORDS];
-    let added = trees[ADDED_RECORDS];
+    let records = trees.records;
+    let added = trees.added_records;
     let k = source as usize;
     if k < 1024 {
         return name_len_at(records, k);
@@ -236,10 +233,10 @@ pub fn planned_name<'a>(trees: &Trees<'a>, source: u32) -> &'a [u8]
     requires { Sits (trees_in trees.now) source }
     ensures { NameAt trees.now source result }
 {
-    let records = trees[RECORDS];
-    let pool = trees[POOL];
-    let added = trees[ADDED_RECORDS];
-    let request_pool = trees[REQUEST_POOL];
+    let records = trees.records;
+    let pool = trees.pool;
+    let added = trees.added_records;
+    let request_pool = trees.request_pool;
     let k = source as usize;
     if k < 1024 {
         return name_at(pool, records, k);
@@ -255,7 +252,7 @@ pub fn name_of<'a>(trees: &Trees<'a>, plan: &PlanRows, m: usize, k: usize) -> &'
     requires { (k < m) × SourcesIn (trees_in trees.now) plan.now m }
     ensures { result.now ≡ names_in (trees_in trees.now) plan.now k }
 {
-    planned_name(trees, plan[SOURCES][k])
+    planned_name(trees, plan.sources[k])
 }
 
 // Whether the names of the m planned records are within the limit, one of the three that refusal 19 reports.
@@ -268,7 +265,7 @@ pub fn names_fit<'a>(trees: &Trees<'a>, plan: &PlanRows, m: usize) -> bool
     let mut i = 0;
     let mut sum = 0;
     while i < m {
-        sum += planned_name_len(trees, plan[SOURCES][i]);
+        sum += planned_name_len(trees, plan.sources[i]);
         i += 1;
     }
     sum <= 32768

@@ -12,14 +12,8 @@ ghost use Rattle.plan_write.specs.Written.{row_of, kept_row, source_row, planned
 ghost use Rattle.plan_write.specs.Run.{joined, Starts, Ran};
 
 use paper::Kind;
-use plan::{
-    MEMBERS, NUMBERS, PlanRows, SOURCES, edited_code, edited_flags, edited_name_len, edited_slot,
-    planned_name, put_bytes,
-};
-use record::{
-    ADDED_RECORDS, POOL, RECORDS, Trees, attribute_at, code_at, flags_at, kind_at, length_of,
-    name_from, name_len_at, word_bytes,
-};
+use plan::{PlanRows, edited_code, edited_flags, edited_name_len, edited_slot, planned_name, put_bytes};
+use record::{Trees, attribute_at, code_at, flags_at, kind_at, length_of, name_from, name_len_at, word_bytes};
 
 // The byte that stands for a kind.
 fn kind_byte(k: Kind) -> u8
@@ -109,16 +103,16 @@ fn planned_bytes<'a>(trees: &Trees<'a>, source: u32, id: u32, kids: u32, at: u32
 {
     let k = source as usize;
     if k < 1024 {
-        return kept_bytes(trees[RECORDS], k, id, kids, at);
+        return kept_bytes(trees.records, k, id, kids, at);
     }
     if k < 2048 {
-        return kept_bytes(trees[ADDED_RECORDS], k - 1024, id, kids, at);
+        return kept_bytes(trees.added_records, k - 1024, id, kids, at);
     }
     let len = edited_name_len(trees, k);
     let flags = edited_flags(trees, k);
     let code = edited_code(trees, k);
     changed_bytes(
-        trees[RECORDS],
+        trees.records,
         edited_slot(k),
         id,
         kids,
@@ -140,9 +134,9 @@ fn put_record<'a>(trees: &Trees<'a>, plan: &PlanRows, i: usize, at: u32, out: &m
 {
     let row = planned_bytes(
         trees,
-        plan[SOURCES][i],
-        plan[NUMBERS][i],
-        plan[MEMBERS][i],
+        plan.sources[i],
+        plan.numbers[i],
+        plan.members[i],
         at,
     );
     put_bytes(out, i * 24, &row);
@@ -168,7 +162,7 @@ fn source_at(plan: &PlanRows, i: usize) -> u32
     requires { i < 1024 }
     ensures { result ≡ get_or (sources plan.now) i 0 }
 {
-    plan[SOURCES][i]
+    plan.sources[i]
 }
 
 // Names that stand one behind the other in the base's pool: where they end there, and the place behind the last of them.
@@ -195,7 +189,7 @@ fn run_from<'a>(trees: &Trees<'a>, plan: &PlanRows, m: usize, i: usize, from: us
     ensures { Ran (trees_in trees.now) plan.now m i from result.end
         result.next }
 {
-    let records = trees[RECORDS];
+    let records = trees.records;
     let mut next = i;
     let mut end = from;
     while next < m {
@@ -216,8 +210,8 @@ fn put_names<'a>(trees: &Trees<'a>, plan: &PlanRows, m: usize, out: &mut [u8]) -
         plan.now m)) out.old out.new × (result ≡ length (pool_bytes
         (fields_in (trees_in trees.now) plan.now m))) }
 {
-    let records = trees[RECORDS];
-    let pool = trees[POOL];
+    let records = trees.records;
+    let pool = trees.pool;
     let mut i = 0;
     let mut to = 0;
     while i < m {

@@ -11,10 +11,8 @@ use lib.Dec.{eqb}
 use lib.ListN.{length, get_or, replicate, length-replicate, get_or-replicate}
 use lib.Seq.{sets, length-sets}
 use Rattle.record.specs.declared.Refusal.{Refusal}
-use Rattle.record.specs.declared.Check.{Check}
-use Rattle.record.specs.declared.Check.TheVariants as check
-use Rattle.record.specs.declared.Changed.{Changed}
-use Rattle.record.specs.declared.Changed.TheVariants as changed
+use Rattle.record.specs.Answers.{Check, Changed}
+use Rattle.std.specs.Prelude.{Ok, Err}
 use Rattle.record.specs.Says.{refusal_of, tested, checked, changes}
 use Rattle.record.specs.Trees.{alone}
 use Rattle.record.proofs.Testing.{chain_goes, chain_stops, checked_ok, checked_refused, refuses}
@@ -36,10 +34,7 @@ use Rattle.laws.proofs.Basics.{unbind, fault_ok, ok_is, bind_assoc, bind_is, bin
 use Rattle.laws.proofs.Fitting.{ids_sized, rooms_of}
 use Rattle.laws.proofs.RoundTrip.{length_pool}
 use Rattle.laws.proofs.Runs.{get_or_sets, length_from}
-use Rattle.tree.specs.declared.Walked.{Walked}
-use Rattle.tree.specs.declared.Walked.TheVariants as walked
-use Rattle.tree.specs.declared.Shaped.{Shaped}
-use Rattle.tree.specs.declared.Shaped.TheVariants as shaped
+use Rattle.tree.specs.Answers.{Walked, Shaped}
 use Rattle.tree.specs.Says.{walked_to, decoded}
 use Rattle.tree.proofs.Deciding.{decode_ok, decode_refused}
 use Rattle.tree_walk.specs.There.{row_of}
@@ -63,12 +58,12 @@ use Rattle.prune.proofs.Keeping.{kept_trees, Keeps, keeps}
 
 module _ (s p sel : List ℕ) (lr ln : ℕ) where
   module _ (b : Bool) (eb : b ≡ room lr ln) where
-    pub stop_1 : not b ≡ true → shaped.Refused (refusal_of 1 0 0) ≡ decoded (opened s p sel lr ln)
+    pub stop_1 : not b ≡ true → Err (refusal_of 1 0 0) ≡ decoded (opened s p sel lr ln)
     unfolding opened decoded ◌>>=◌
     stop_1 t = rw (← eb, not-true b t)
 
     module _ (f : not b ≡ false) (z : Bool) (ez : z ≡ sized_ids 1024 s p sel) where
-      pub stop_2 : not z ≡ true → shaped.Refused (refusal_of 2 0 0) ≡ decoded (opened s p sel lr ln)
+      pub stop_2 : not z ≡ true → Err (refusal_of 2 0 0) ≡ decoded (opened s p sel lr ln)
       unfolding opened decoded ◌>>=◌
       stop_2 t = rw (← eb, not-false b f, ← ez, not-true z t)
 
@@ -81,12 +76,12 @@ pub ruleset opening = (stop_1, stop_2, go_on)
 -- ---- decide: the marks and 20
 
 module _ (next : ℕ) where
-  refused_20 : (o : Option ℕ) (w : Walked) (t : Refusal) → w ≡ walked_to 20 0 next o → w ≡ walked.Refused t → check.Refused t ≡ tested 20 0 o
+  refused_20 : (o : Option ℕ) (w : Walked) (t : Refusal) → w ≡ walked_to 20 0 next o → w ≡ Err t → Err t ≡ tested 20 0 o
   unfolding walked_to tested
   refused_20 none w t e d = let z : ◌≡◌ {A = ℕ} 0 1 = cc in absurd (omega arith)
   refused_20 (some k) w t e d = cc
 
-  fine_20 : (o : Option ℕ) (w : Walked) (j : ℕ) → w ≡ walked_to 20 0 next o → w ≡ walked.End j → check.Fine ≡ tested 20 0 o
+  fine_20 : (o : Option ℕ) (w : Walked) (j : ℕ) → w ≡ walked_to 20 0 next o → w ≡ Ok j → (Ok tt) ≡ tested 20 0 o
   unfolding walked_to tested
   fine_20 none w j e d = refl
   fine_20 (some k) w j e d = let z : ◌≡◌ {A = ℕ} 0 1 = cc in absurd (omega arith)
@@ -95,11 +90,11 @@ module _ (s : List ℕ) (c : ℕ) (plan index : List (List ℕ)) (h : Tested s c
   decides : (r : Check) → r ≡ tested 20 0 (first_direct (marked marks) (kind_at s) full Member 0 (row_of s 16 c 0).trees) → Decides s sel full c r marks
   decides r d = record { chosen = λ k l. m.exactly k l ∙ rw (h.own_ids k l); answer = d }
 
-  pub decide_stops : (t : Refusal) → w ≡ walked.Refused t → Decides s sel full c (check.Refused t) marks
-  decide_stops t d = decides (check.Refused t) (refused_20 _ _ w t e.says d)
+  pub decide_stops : (t : Refusal) → w ≡ Err t → Decides s sel full c (Err t) marks
+  decide_stops t d = decides (Err t) (refused_20 _ _ w t e.says d)
 
-  pub decide_goes : (j : ℕ) → w ≡ walked.End j → Decides s sel full c check.Fine marks
-  decide_goes j d = decides check.Fine (fine_20 _ _ w j e.says d)
+  pub decide_goes : (j : ℕ) → w ≡ Ok j → Decides s sel full c (Ok tt) marks
+  decide_goes j d = decides (Ok tt) (fine_20 _ _ w j e.says d)
 
 -- No slot is marked yet.
 pub unmarked : Unmarked (replicate {A = ℕ} 1024 0)
@@ -132,7 +127,7 @@ abbrev Answering : Answer Result → (out names : List ℕ) → Changed → (out
 Answering x out names r out' names' = Answers changes x (for_records out ∷ for_names names ∷ []) r (out' ∷ names' ∷ [])
 
 accepts : (x : Answer Result) (out names : List ℕ) (t : Forest Field) (m n : ℕ) (out' names' : List ℕ) → x ≡ ok (the_result t) → size t ≡ m → Written t out names n out' names'
-    → Answering x out names (changed.Done (record { records = m; names = n; last_id = 0; visited = 0 })) out' names'
+    → Answering x out names (Ok (record { records = m; names = n; last_id = 0; visited = 0 })) out' names'
 unfolding changes leaves the_result
 accepts x out names t m n out' names' e em w = rw (e, ← em, w.bytes) (record { told = refl; left = rw (w.rows, w.pool) refl })
 
@@ -157,10 +152,10 @@ pub record Passed (s p sel : List ℕ) (lr ln c : ℕ) : Type 0 where
   pub whole : (full : Bool) → prune_entry s p sel full lr ln ≡ after_6 sel full (base s p c)
 
 module _ (s p sel : List ℕ) (lr ln : ℕ) (w : Shaped) (e : w ≡ decoded (opened s p sel lr ln)) where
-  pub stop_6 : (full : Bool) (out names : List ℕ) (y : Refusal) → w ≡ shaped.Refused y → Answering (prune_entry s p sel full lr ln) out names (changed.Refused y) out names
+  pub stop_6 : (full : Bool) (out names : List ℕ) (y : Refusal) → w ≡ Err y → Answering (prune_entry s p sel full lr ln) out names (Err y) out names
   stop_6 full out names y d = refuses _ y (for_records out ∷ for_names names ∷ []) (entry_is s p sel full lr ln ∙ bind_not _ (after_6 sel full) _ _ _ (decode_refused (opened s p sel lr ln) w y e d))
 
-  pub passed : (c : ℕ) → w ≡ shaped.Roots c → Passed s p sel lr ln c
+  pub passed : (c : ℕ) → w ≡ Ok c → Passed s p sel lr ln c
   unfolding opened decoded
   passed c d =
       decode_ok _ (opened s p sel lr ln) w c e d λ t a q. unbind _ _ a λ _ e₁ a₁. unbind _ _ a₁ λ _ e₂ a₂.
@@ -188,7 +183,7 @@ module _ {s p sel : List ℕ} {lr ln c : ℕ} (h : Passed s p sel lr ln c) where
     unfolding id_list from
     sound_is = b.answer ∙ rw base_is
 
-    pub stop_8 : (full : Bool) (out names : List ℕ) (y : Refusal) → r ≡ check.Refused y → Answering (prune_entry s p sel full lr ln) out names (changed.Refused y) out names
+    pub stop_8 : (full : Bool) (out names : List ℕ) (y : Refusal) → r ≡ Err y → Answering (prune_entry s p sel full lr ln) out names (Err y) out names
     unfolding after_6 prune ◌>>=◌
     stop_8 full out names y f = refuses _ y (for_records out ∷ for_names names ∷ []) (h.whole full ∙ rw (checked_refused (sound 0 (base s p c) []) r y sound_is f))
 
@@ -205,7 +200,7 @@ module _ {s p sel : List ℕ} {lr ln c : ℕ} (h : Passed s p sel lr ln c) where
       pub names_small : {m : ℕ} {out names out' names' : List ℕ} → Written (fields_in (alone s p) plan' a.at) out names m out' names' → m < 4294967296
       names_small v = let q = v.bytes in let n = length_pool (fields_in (alone s p) plan' a.at) in let g = kept.planned.sum in omega arith
 
-    module _ (f : r ≡ check.Fine) where
+    module _ (f : r ≡ (Ok tt)) where
       was_sound : sound 0 (base s p c) [] ≡ ok tt
       was_sound = checked_ok (sound 0 (base s p c) []) r sound_is f
 
@@ -235,11 +230,11 @@ module _ {s p sel : List ℕ} {lr ln c : ℕ} (h : Passed s p sel lr ln c) where
             ∙ rw (was_sound, pruned_fields p s (is_chosen (id_list sel)) (marked marks) full (kids_at s) (slots s) (row_of s 16 c 0).trees h.tree.laid (λ k l. sym (g.chosen k l)))
             (bind_assoc (fault 20 0 (first_direct (marked marks) (kind_at s) full Member 0 (row_of s 16 c 0).trees)) (λ _. ok (fields p s (kept_trees s marks full c))) (λ u. ok (the_result u)))
 
-        pub stop_20 : (out names : List ℕ) (y : Refusal) → x ≡ check.Refused y → Answering (prune_entry s p sel full lr ln) out names (changed.Refused y) out names
+        pub stop_20 : (out names : List ℕ) (y : Refusal) → x ≡ Err y → Answering (prune_entry s p sel full lr ln) out names (Err y) out names
         stop_20 out names y i = refuses _ y (for_records out ∷ for_names names ∷ []) (whole_is ∙ chain_stops 20 0 _ x _ y g.answer i)
 
-        pub all_written : {a : Step} {plan' : List (List ℕ)} {m : ℕ} {out names out' names' : List ℕ} → x ≡ check.Fine → Kept s marks full Member 16 c 0 plan 0 a plan' → Written (fields_in (alone s p) plan' a.at) out names m out' names'
-            → Answering (prune_entry s p sel full lr ln) out names (changed.Done (record { records = a.at; names = m; last_id = 0; visited = 0 })) out' names'
+        pub all_written : {a : Step} {plan' : List (List ℕ)} {m : ℕ} {out names out' names' : List ℕ} → x ≡ (Ok tt) → Kept s marks full Member 16 c 0 plan 0 a plan' → Written (fields_in (alone s p) plan' a.at) out names m out' names'
+            → Answering (prune_entry s p sel full lr ln) out names (Ok (record { records = a.at; names = m; last_id = 0; visited = 0 })) out' names'
         all_written {a} {plan'} {m} {out} {names} {out'} {names'} i k v =
             let q = kept marks full k in
             accepts _ out names (fields_in (alone s p) plan' a.at) a.at m out' names'

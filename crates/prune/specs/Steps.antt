@@ -9,7 +9,7 @@ use Rattle.paper.specs.Bytes.{turned, rec_at, kind_at, slots}
 use Rattle.paper.specs.Lists.{id_list}
 use Rattle.paper.specs.Decode.{decode}
 use Rattle.paper.specs.Limits.{room, sized_ids}
-use Rattle.record.specs.declared.Check.{Check}
+use Rattle.record.specs.Answers.{Check}
 use Rattle.record.specs.Says.{tested}
 use Rattle.tree_walk.specs.There.{row_of, There}
 use Rattle.plan.specs.Table.{numbers}

@@ -16,9 +16,9 @@ use plan::PlanRows;
 use plan_write::write_plan;
 use prune_columns::{check_direct, project_fields};
 use prune_marks::mark_chosen;
-use record::{Changed, Check, Refusal, Sizes};
+use record::{Refusal, Sizes};
 use record_limits::{room, sized_selected};
-use tree::{Shaped, Walked, check_tree};
+use tree::{check_tree};
 
 // Refusals 1 to 6, or the number of roots.
 fn open(
@@ -27,19 +27,19 @@ fn open(
     selected: &[u8],
     room_records: usize,
     room_names: usize,
-) -> Shaped
+) -> Result<u32, Refusal>
     ensures { result ≡ decoded (opened records.now pool.now
         selected.now room_records room_names) }
 {
     if !room(room_records, room_names) {
-        return Shaped::Refused(Refusal {
+        return Err(Refusal {
             number: 1, // refusal 1
             list: 0,
             place: 0,
         });
     }
     if !sized_selected(records, pool, selected) {
-        return Shaped::Refused(Refusal {
+        return Err(Refusal {
             number: 2, // refusal 2
             list: 0,
             place: 0,
@@ -57,15 +57,15 @@ fn decide(
     plan: &PlanRows,
     index: &IndexRows,
     marks: &mut [u8; 1024],
-) -> Check
+) -> Result<(), Refusal>
     requires { Tested records.now count plan.now index.now × Unmarked marks.old }
     ensures { Decides records.now selected.now full count result
         marks.new }
 {
     mark_chosen(selected, plan, index, records.len() / 24, marks);
     match check_direct(records, marks, full, 0, count, 16, Role::Member) {
-        Walked::Refused(r) => Check::Refused(r),
-        Walked::End(_) => Check::Fine,
+        Err(r) => Err(r),
+        Ok(_) => Ok(()),
     }
 }
 
@@ -77,7 +77,7 @@ pub fn prune<'a>(
     full: bool,
     out_records: &mut [u8],
     out_names: &mut [u8],
-) -> Changed
+) -> Result<Sizes, Refusal>
     ensures { Answers changes
         (prune_entry records.now pool.now selected.now full
         (length out_records.old) (length out_names.old))
@@ -86,27 +86,21 @@ pub fn prune<'a>(
 {
     // open: 1 to 6
     match open(records, pool, selected, out_records.len(), out_names.len()) {
-        Shaped::Refused(r) => Changed::Refused(r),
-        Shaped::Roots(count) => {
-            let trees = [records, pool, records, pool, &pool[0..0]];
-            let mut plan = [[0u32; 1024]; 3];
+        Err(r) => Err(r),
+        Ok(count) => {
+            let trees = Trees::alone(records, pool);
+            let mut plan = PlanRows::empty();
             let mut index = [[0u16; 1024]; 8];
             // test: 7 and 8, with the base as its own plan
-            let tested = index_base(&trees, records.len() / 24, b"", &mut plan, &mut index);
-            if let Check::Refused(r) = tested {
-                return Changed::Refused(r);
-            }
+            index_base(&trees, records.len() / 24, b"", &mut plan, &mut index)?;
             // decide: what is chosen, and 20
             let mut marks = [0u8; 1024];
-            let decided = decide(records, selected, full, count, &plan, &index, &mut marks);
-            if let Check::Refused(r) = decided {
-                return Changed::Refused(r);
-            }
+            decide(records, selected, full, count, &plan, &index, &mut marks)?;
             // plan: what is kept, over the base's plan
             let kept = project_fields(records, &marks, full, 0, count, 16, &mut plan, 0);
             // write
             let names = write_plan(&trees, &plan, kept.at, out_records, out_names);
-            Changed::Done(Sizes {
+            Ok(Sizes {
                 records: kept.at as u32,
                 names: names as u32,
                 last_id: 0,

@@ -16,8 +16,8 @@ use Rattle.paper.specs.Forest.{size}
 use Rattle.paper.specs.Field.{first, after, is_key}
 use Rattle.paper.specs.Bytes.{kind_at, kids_at}
 use Rattle.paper.specs.Layout.{Part}
-use Rattle.tree.specs.declared.Walked.{Walked}
-use Rattle.tree.specs.declared.Walked.TheVariants.{End, Refused}
+use Rattle.tree.specs.Answers.{Walked}
+use Rattle.std.specs.Prelude.{Ok, Err}
 use Rattle.tree.specs.Says.{walked_to}
 use Rattle.tree.proofs.Labels.{walked_goes, walked_stops, walked_end}
 use Rattle.tree_walk.specs.There.{row_of, There}
@@ -58,7 +58,7 @@ module _ (s marks : List ℕ) (full : Bool) (lv c k : ℕ) (r : Role) where
   left_starts h = record { there = h; same = refl }
 
   module _ (left at : ℕ) (own : Role) (h : Left s marks full lv c k r left at own) where
-    pub left_done : left ≤ 0 → Checked s marks full lv c k r (End at)
+    pub left_done : left ≤ 0 → Checked s marks full lv c k r (Ok at)
     unfolding first_direct walked_to
     left_done l = record { says = sym (ap (λ (p : Part). walked_to 20 0 p.next (first_direct (marked marks) (kind_at s) full own at p.trees)) (none_there s lv left at l)) ∙ h.same }
 
@@ -82,11 +82,11 @@ module _ (s marks : List ℕ) (full : Bool) (lv c k : ℕ) (r : Role) where
           = rw (split s lv left at h.there l m em, eq, e, add-one at) in
           rw (← g, rest_next s lv left at h.there l m em inside.next refl) h.same
 
-      pub left_stops : (t : Refusal) → w ≡ Refused t → Checked s marks full lv c k r (Refused t)
+      pub left_stops : (t : Refusal) → w ≡ Err t → Checked s marks full lv c k r (Err t)
       unfolding inside
       left_stops t d = record { says = walked_stops 20 0 _ _ t _ later w ew.says d ∙ whole }
 
-      module _ (j : ℕ) (d : w ≡ End j) (x : Bool) (ex : x ≡ marked marks at) (kd : Kind) (ek : kd ≡ kind_at s at) (b : Bool) (eb : b ≡ direct full own x kd) where
+      module _ (j : ℕ) (d : w ≡ Ok j) (x : Bool) (ex : x ≡ marked marks at) (kd : Kind) (ek : kd ≡ kind_at s at) (b : Bool) (eb : b ≡ direct full own x kd) where
         decided : b ≡ direct full own (marked marks at) (kind_at s at)
         decided = eb ∙ rw (ex, ek)
 
@@ -102,7 +102,7 @@ module _ (s marks : List ℕ) (full : Bool) (lv c k : ℕ) (r : Role) where
         unfolding inside
         onward = sym (walked_goes 20 0 _ rest.next j _ later w ew.says d) ∙ whole
 
-        pub left_direct : b ≡ true → Checked s marks full lv c k r (Refused (refusal_of 20 0 at))
+        pub left_direct : b ≡ true → Checked s marks full lv c k r (Err (refusal_of 20 0 at))
         unfolding walked_to
         left_direct t = record { says = sym (ap (walked_to 20 0 rest.next) (later_direct t)) ∙ onward }
 

@@ -5,7 +5,7 @@ use Rattle.paper.specs.Forest.{Forest, empty, node, size, siblings, mapped}
 use Rattle.paper.specs.Field.{first}
 use Rattle.paper.specs.Bytes.{kind_at, kids_at, slots}
 use Rattle.paper.specs.declared.Role.TheVariants.{Member}
-use Rattle.tree.specs.declared.Walked.{Walked}
+use Rattle.tree.specs.Answers.{Walked}
 use Rattle.tree_walk.specs.There.{row_of, There}
 use Rattle.tree.specs.Says.{walked_to}
 use Rattle.plan.specs.Sources.{id_bits, own_source}

@@ -25,7 +25,7 @@ ghost use Rattle.prune_columns.specs.Projected.{
 use paper::{Kind, Role, is_key, is_struct, next_role};
 use plan::{PlanRows, copy_records, put_planned};
 use record::{Refusal, id_bits_at, kids_at, kind_at};
-use tree::{Walked, inside_role, row_past};
+use tree::{inside_role, row_past};
 use tree_walk::is_map;
 
 // What was planned: the slot after the trees, the place after their plan, and how many of the siblings are kept.
@@ -74,7 +74,7 @@ pub fn check_direct(
     count: u32,
     levels: usize,
     role: Role,
-) -> Walked
+) -> Result<usize, Refusal>
     requires { There records.now levels count slot }
     ensures { Checked records.now marks.now full levels count slot
         role result }
@@ -93,9 +93,9 @@ pub fn check_direct(
             levels - 1,
             inside,
         ) {
-            Walked::End(next) => {
+            Ok(next) => {
                 if is_direct(full, own, is_chosen(marks, at), kind_at(records, at)) {
-                    return Walked::Refused(Refusal {
+                    return Err(Refusal {
                         number: 20, // refusal 20
                         list: 0,
                         place: at as u32,
@@ -103,14 +103,14 @@ pub fn check_direct(
                 }
                 at = next;
             }
-            Walked::Refused(r) => {
-                return Walked::Refused(r);
+            Err(r) => {
+                return Err(r);
             }
         }
         own = next_role(own);
         left -= 1;
     }
-    Walked::End(at)
+    Ok(at)
 }
 
 // The records from `slot` to `past`, which are `count` trees, planned as they stand from place `at` on.

@@ -14,8 +14,8 @@ use Rattle.paper.specs.Bytes.{turned, from}
 use Rattle.paper.specs.Lists.{id_at, id_list}
 use Rattle.laws.proofs.Finding.{place_none, place_some, any_more, one_place, eqb_flip}
 use Rattle.record.specs.declared.Slot.{Slot}
-use Rattle.record.specs.declared.FoundSlot.{FoundSlot}
-use Rattle.record.specs.declared.FoundSlot.TheVariants.{At, Nothing}
+use Rattle.record.specs.Answers.{FoundSlot}
+use Rattle.std.specs.Prelude.{Some, None}
 use Rattle.record.specs.Says.{slot_before}
 use Rattle.index_ids.specs.Chain.{Below, lowest_below}
 use Rattle.index_ids.proofs.Chains.{found_below_room}
@@ -25,10 +25,10 @@ use Rattle.prune_columns.specs.Projected.{marked}
 use Rattle.prune_marks.specs.Marks.{mark_at, Unmarked, DistinctIds, Marks}
 
 module _ (w : FoundSlot) (l : List ℕ) where
-  pub mark_none : w ≡ Nothing → l ≡ mark_at w l
+  pub mark_none : w ≡ None → l ≡ mark_at w l
   mark_none e = rw e
 
-  pub mark_some : (s : Slot) → w ≡ At s → set l s.0 1 ≡ mark_at w l
+  pub mark_some : (s : Slot) → w ≡ Some s → set l s.0 1 ≡ mark_at w l
   mark_some s e = rw e
 
 -- The first i chosen ids are marked.
@@ -76,8 +76,8 @@ module _ (sel is : List ℕ) (m : ℕ) (marks : List ℕ) (i : ℕ) (h : Marking
       }
     where
       kept : (w : FoundSlot) → length (mark_at w marks) ≡ length marks
-      kept Nothing = refl
-      kept (At s) = length-set marks s.0 1
+      kept None = refl
+      kept (Some s) = length-set marks s.0 1
 
   pub marking_fits : Below w
   marking_fits = found_below_room (is_id is (turned v)) m w ew few

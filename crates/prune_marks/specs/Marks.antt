@@ -3,15 +3,15 @@ use Rattle.std.specs.Prelude.{ℕ, ◌<◌, ◌≡◌, List, [], eqb, length, ge
 use Rattle.std.proofs.Math.Option.{none}
 use Rattle.paper.specs.Answer.{among, repeated}
 use Rattle.paper.specs.Lists.{id_list}
-use Rattle.record.specs.declared.FoundSlot.{FoundSlot}
-use Rattle.record.specs.declared.FoundSlot.TheVariants.{At, Nothing}
+use Rattle.record.specs.Answers.{FoundSlot}
+use Rattle.std.specs.Prelude.{Some, None}
 use Rattle.index_ids.specs.Ids.{id_in, ids_in}
 use Rattle.prune_columns.specs.Projected.{marked}
 
 -- A slot that was found is marked.
 abbrev pub mark_at : FoundSlot → List ℕ → List ℕ
-mark_at Nothing l = l
-mark_at (At s) l = set l s.0 1
+mark_at None l = l
+mark_at (Some s) l = set l s.0 1
 
 -- No slot is marked yet.
 pub record Unmarked (marks : List ℕ) : Type 0 where

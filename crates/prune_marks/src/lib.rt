@@ -13,11 +13,11 @@ use record::FoundSlot;
 use record_entries::id_at;
 
 // Marks a slot that was found.
-fn mark(marks: &mut [u8; 1024], found: FoundSlot)
+fn mark(marks: &mut [u8; 1024], found: Option<Slot>)
     requires { Below found }
     ensures { marks.new ≡ mark_at found marks.old }
 {
-    let FoundSlot::At(slot) = found else {
+    let Some(slot) = found else {
         return;
     };
     let k = slot.0;

@@ -3,7 +3,7 @@ use Rattle.std.proofs.Common.{◌≡◌, ℕ, zero, suc, ◌+◌, ◌-◌, ◌<�
 use mathlib.Core.Option.{Option, none, some}
 use borrow.Author.Tests.{not-true, not-false}
 use Rattle.paper.specs.Answer.{lowest, or_else}
-use Rattle.record.specs.declared.Check.TheVariants.{Fine, Refused}
+use Rattle.std.specs.Prelude.{Ok, Err}
 use Rattle.record.specs.Says.{tested, refusal_of}
 
 module _ (t : ℕ → Bool) where
@@ -44,11 +44,11 @@ module _ (t : ℕ → Bool) where
   pub look_goes : (W : Option ℕ) (i n : ℕ) (r : Bool) → W ≡ lowest t i (n - i) → i < n → r ≡ t i → not r ≡ false → W ≡ lowest t (i + 1) (n - (i + 1))
   look_goes W i n r e l q b = let d : n - i ≡ suc (n - (i + 1)) = omega arith in e ∙ rw (d, go_on i (n - (i + 1)) (sym q ∙ not-false r b), add-one i)
 
-  pub look_stops : (number li : ℕ) (W : Option ℕ) (i n : ℕ) (r : Bool) → W ≡ lowest t i (n - i) → i < n → r ≡ t i → not r ≡ true → Refused (refusal_of number li i) ≡ tested number li W
+  pub look_stops : (number li : ℕ) (W : Option ℕ) (i n : ℕ) (r : Bool) → W ≡ lowest t i (n - i) → i < n → r ≡ t i → not r ≡ true → Err (refusal_of number li i) ≡ tested number li W
   unfolding tested
   look_stops number li W i n r e l q b = let d : n - i ≡ suc (n - (i + 1)) = omega arith in rw (e, d, stop i (n - (i + 1)) (sym q ∙ not-true r b))
 
-  pub look_ends : (number li : ℕ) (W : Option ℕ) (i n : ℕ) → W ≡ lowest t i (n - i) → n ≤ i → Fine ≡ tested number li W
+  pub look_ends : (number li : ℕ) (W : Option ℕ) (i n : ℕ) → W ≡ lowest t i (n - i) → n ≤ i → (Ok tt) ≡ tested number li W
   unfolding lowest tested
   look_ends number li W i n e l = let d : n - i ≡ 0 = omega arith in rw (e, d)
 

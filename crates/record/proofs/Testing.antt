@@ -5,9 +5,8 @@ use Rattle.paper.specs.Answer.{Answer, ok, refused, ◌>>=◌, fault}
 use Rattle.paper.specs.Entries.{Result}
 use Rattle.paper.specs.Outcome.{leaves, Buffer, Answers}
 use Rattle.record.specs.declared.Refusal.{Refusal}
-use Rattle.record.specs.declared.Check.{Check}
-use Rattle.record.specs.declared.Check.TheVariants.{Fine, Refused}
-use Rattle.record.specs.declared.Changed.TheVariants as changed
+use Rattle.record.specs.Answers.{Check}
+use Rattle.std.specs.Prelude.{Ok, Err}
 use Rattle.record.specs.Says.{tested, checked, changes}
 
 abbrev pub refused_as : {A : Type 0} → Refusal → Answer A
@@ -18,32 +17,32 @@ unfolding tested checked
 tested_fault number li none = refl
 tested_fault number li (some p) = refl
 
-pub was_fine : (number li : ℕ) (o : Option ℕ) (a : Check) → a ≡ tested number li o → a ≡ Fine → o ≡ none
+pub was_fine : (number li : ℕ) (o : Option ℕ) (a : Check) → a ≡ tested number li o → a ≡ (Ok tt) → o ≡ none
 unfolding tested
 was_fine number li none a e d = refl
 was_fine number li (some p) a e d = let z : ◌≡◌ {A = ℕ} 0 1 = cc in absurd (omega arith)
 
-pub chain_goes : {A : Type 0} (number li : ℕ) (o : Option ℕ) (a : Check) (f : Unit {0} → Answer A) → a ≡ tested number li o → a ≡ Fine → (fault number li o >>= f) ≡ f tt
+pub chain_goes : {A : Type 0} (number li : ℕ) (o : Option ℕ) (a : Check) (f : Unit {0} → Answer A) → a ≡ tested number li o → a ≡ (Ok tt) → (fault number li o >>= f) ≡ f tt
 unfolding ◌>>=◌
 chain_goes number li o a f e d = rw (was_fine number li o a e d)
 
-pub chain_stops : {A : Type 0} (number li : ℕ) (o : Option ℕ) (a : Check) (f : Unit {0} → Answer A) (r : Refusal) → a ≡ tested number li o → a ≡ Refused r → (fault number li o >>= f) ≡ refused_as r
+pub chain_stops : {A : Type 0} (number li : ℕ) (o : Option ℕ) (a : Check) (f : Unit {0} → Answer A) (r : Refusal) → a ≡ tested number li o → a ≡ Err r → (fault number li o >>= f) ≡ refused_as r
 unfolding tested ◌>>=◌
 chain_stops number li none a f r e d = let z : ◌≡◌ {A = ℕ} 0 1 = cc in absurd (omega arith)
 chain_stops number li (some p) a f r e d = cc
 
-pub checked_ok : (x : Answer (Unit {0})) (a : Check) → a ≡ checked x → a ≡ Fine → x ≡ ok tt
+pub checked_ok : (x : Answer (Unit {0})) (a : Check) → a ≡ checked x → a ≡ (Ok tt) → x ≡ ok tt
 unfolding checked
 checked_ok (ok tt) a e d = refl
 checked_ok (refused n l p) a e d = let z : ◌≡◌ {A = ℕ} 0 1 = cc in absurd (omega arith)
 
-pub checked_refused : (x : Answer (Unit {0})) (a : Check) (r : Refusal) → a ≡ checked x → a ≡ Refused r → x ≡ refused_as r
+pub checked_refused : (x : Answer (Unit {0})) (a : Check) (r : Refusal) → a ≡ checked x → a ≡ Err r → x ≡ refused_as r
 unfolding checked
 checked_refused (ok u) a r e d = let z : ◌≡◌ {A = ℕ} 0 1 = cc in absurd (omega arith)
 checked_refused (refused n l p) a r e d = cc
 
 -- A refusal changes no byte of any buffer.
 pub refuses : (x : Answer Result) (y : Refusal) (buffers : List (Buffer Result)) → x ≡ refused_as y
-    → Answers changes x buffers (changed.Refused y) (map (λ (buffer : Buffer Result). buffer.old) buffers)
+    → Answers changes x buffers (Err y) (map (λ (buffer : Buffer Result). buffer.old) buffers)
 unfolding changes leaves
 refuses x y buffers e = rw e (record { told = refl; left = refl })

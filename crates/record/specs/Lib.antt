@@ -1,3 +1,4 @@
+pub mod Answers
 pub mod Says
 pub mod Trees
 pub mod Sifts

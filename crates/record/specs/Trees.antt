@@ -1,6 +1,7 @@
--- What is lent as one array of slices: the two trees of an update, each with its pool, and the edits; and the lists of its request.
-use Rattle.std.specs.Prelude.{ℕ, List, [], slice_index_or}
-use Rattle.std.specs.Borrow.{Bor}
+-- What the lent slices hold: the two trees of an update, each with its pool, and the edits; and the lists of its request.
+use Rattle.std.specs.Prelude.{ℕ, List, []}
+use Rattle.record.specs.declared.Trees.{Trees as LentTrees}
+use Rattle.record.specs.declared.Lists.{Lists as LentLists}
 use Rattle.paper.specs.Lent.{Stored, Lent}
 
 pub record Trees : Type 0 where
@@ -15,25 +16,22 @@ pub record Lists : Type 0 where
   pub deletions : List ℕ
   pub additions : List ℕ
 
-abbrev pub slice_at : List (Bor (List ℕ)) → ℕ → Bor (List ℕ)
-slice_at slices i = slice_index_or slices i (record { ref_ptr = (0, 0); now = [] })
-
-abbrev pub trees_in : List (Bor (List ℕ)) → Trees
-trees_in slices =
+abbrev pub trees_in : LentTrees → Trees
+trees_in lent =
     record {
-      records = (slice_at slices 0).now;
-      pool = (slice_at slices 1).now;
-      added_records = (slice_at slices 2).now;
-      request_pool = (slice_at slices 3).now;
-      edits = (slice_at slices 4).now;
+      records = lent.records.now;
+      pool = lent.pool.now;
+      added_records = lent.added_records.now;
+      request_pool = lent.request_pool.now;
+      edits = lent.edits.now;
     }
 
-abbrev pub lists_in : List (Bor (List ℕ)) → Lists
-lists_in slices =
+abbrev pub lists_in : LentLists → Lists
+lists_in lent =
     record {
-      identifiers = (slice_at slices 0).now;
-      deletions = (slice_at slices 1).now;
-      additions = (slice_at slices 2).now;
+      identifiers = lent.identifiers.now;
+      deletions = lent.deletions.now;
+      additions = lent.additions.now;
     }
 
 abbrev pub lent_trees : (records pool added_records request_pool edits : List ℕ) → Trees

@@ -8,6 +8,7 @@ ghost use Rattle.paper.specs.Bytes.{word16, word32, turned, ok_bytes, in_pool, n
 ghost use Rattle.paper.specs.Encode.{bytes32};
 ghost use Rattle.record.specs.Says.{tested, slot_before};
 ghost use Rattle.record.specs.Sifts.{kept, Sifts};
+ghost use Rattle.record.specs.Trees.{trees_in, alone};
 
 use paper::Kind;
 
@@ -20,27 +21,38 @@ pub struct FieldId(pub u32);
 pub struct Slot(pub usize);
 
 // What is lent as trees: the base's records and their pool, the added records and the request's pool, and the edits, whose new names
-// are parts of that pool. Who has one tree lends it twice, with no edits.
-pub type Trees<'a> = [&'a [u8]; 5];
+// are parts of that pool.
+#[derive(Clone, Copy)]
+pub struct Trees<'a> {
+    pub records: &'a [u8],
+    pub pool: &'a [u8],
+    pub added_records: &'a [u8],
+    pub request_pool: &'a [u8],
+    pub edits: &'a [u8],
+}
 
-pub const RECORDS: usize = 0;
-
-pub const POOL: usize = 1;
-
-pub const ADDED_RECORDS: usize = 2;
-
-pub const REQUEST_POOL: usize = 3;
-
-pub const EDITS: usize = 4;
+impl<'a> Trees<'a> {
+    // One tree, lent as both, with no edits.
+    pub fn alone(records: &'a [u8], pool: &'a [u8]) -> Trees<'a>
+        ensures { trees_in result ≡ alone records.now pool.now }
+    {
+        Trees {
+            records,
+            pool,
+            added_records: records,
+            request_pool: pool,
+            edits: b"",
+        }
+    }
+}
 
 // The lists of an update's request.
-pub type Lists<'a> = [&'a [u8]; 3];
-
-pub const IDENTIFIERS: usize = 0;
-
-pub const DELETIONS: usize = 1;
-
-pub const ADDITIONS: usize = 2;
+#[derive(Clone, Copy)]
+pub struct Lists<'a> {
+    pub identifiers: &'a [u8],
+    pub deletions: &'a [u8],
+    pub additions: &'a [u8],
+}
 
 // So many trees from a slot on, with so many levels left for them.
 #[derive(Clone, Copy)]
@@ -58,39 +70,11 @@ pub struct Refusal {
     pub place: u32,
 }
 
-// A test over a list.
-#[derive(Clone, Copy)]
-pub enum Check {
-    Fine,
-    Refused(Refusal),
-}
-
 // What one pass tells of records: the first `fine` keep 3 and 4, and where `nested` is false none of all is a list or a map.
 #[derive(Clone, Copy)]
 pub struct Sifted {
     pub fine: usize,
     pub nested: bool,
-}
-
-// What a look-up in a tree finds.
-#[derive(Clone, Copy)]
-pub enum Found {
-    At(FieldId, Slot),
-    Nothing,
-}
-
-// What a look-up over the slots of an index finds.
-#[derive(Clone, Copy)]
-pub enum FoundSlot {
-    At(Slot),
-    Nothing,
-}
-
-// What a look-up in lent bytes answers.
-#[derive(Clone, Copy)]
-pub enum Sought {
-    Looked(Found),
-    Refused(Refusal),
 }
 
 // How much an accepted answer holds: records, name bytes; and for an update the last id consumed and the records visited.
@@ -100,13 +84,6 @@ pub struct Sizes {
     pub names: u32,
     pub last_id: u32,
     pub visited: u32,
-}
-
-// What update, pruning and renumbering answer; the bytes stand in the lent buffers.
-#[derive(Clone, Copy)]
-pub enum Changed {
-    Done(Sizes),
-    Refused(Refusal),
 }
 
 // A byte as a number of 32 bits.
@@ -148,7 +125,7 @@ pub fn low_32(x: u64) -> u32
 pub fn turn(x: u32) -> u32
     ensures { result ≡ turned x }
 {
-    std::num::wrapping_add_u32(x, 2147483648)
+    x.wrapping_add(2147483648)
 }
 
 // The bits of an id that is counted on in 64 bits, plus 2^31.
@@ -169,22 +146,17 @@ pub fn under_of(id: u32) -> u64
 pub fn word_bytes(x: u32) -> [u8; 4]
     ensures { (result ≡ bytes32 x []) × (x < 4294967296) }
 {
-    [
-        (x % 256) as u8,
-        (x / 256 % 256) as u8,
-        (x / 65536 % 256) as u8,
-        (x / 16777216 % 256) as u8,
-    ]
+    x.to_le_bytes()
 }
 
 // The slot before a place.
-pub fn slot_before(at: usize) -> FoundSlot
+pub fn slot_before(at: usize) -> Option<Slot>
     ensures { result ≡ slot_before at }
 {
     if at == 0 {
-        return FoundSlot::Nothing;
+        return None;
     }
-    FoundSlot::At(Slot(at - 1))
+    Some(Slot(at - 1))
 }
 
 // The little-endian word of 16 bits at a place.
@@ -305,23 +277,21 @@ pub fn bytes_ok(recs: &[u8], slot: usize) -> bool
 }
 
 // The lowest of n records that breaks a byte rule, where none before `from` does: refusal 3.
-pub fn check_bytes(recs: &[u8], from: usize, n: usize, list: u32) -> Check
+pub fn check_bytes(recs: &[u8], from: usize, n: usize, list: u32) -> Result<(), Refusal>
     requires { (n * 24 ≤ length recs.now) × (n ≤ 1024) × (from ≤ n)
         × (lowest (ok_bytes recs.now) 0 from ≡ none) }
     ensures { result ≡ tested 3 list (lowest (ok_bytes recs.now) 0 n) }
 {
-    let mut i = from;
-    while i < n {
+    for i in from..n {
         if !bytes_ok(recs, i) {
-            return Check::Refused(Refusal {
+            return Err(Refusal {
                 number: 3,
                 list,
                 place: i as u32,
             });
         }
-        i += 1;
     }
-    Check::Fine
+    Ok(())
 }
 
 // Whether a record's name lies in a pool of a length. The sum is of 64 bits, so it can't wrap.
@@ -335,23 +305,27 @@ pub fn name_ok(recs: &[u8], pool: usize, slot: usize) -> bool
 }
 
 // The lowest of n records whose name passes the end of its pool, where none before `from` does: refusal 4.
-pub fn check_bounds(recs: &[u8], from: usize, n: usize, pool: usize, list: u32) -> Check
+pub fn check_bounds(
+    recs: &[u8],
+    from: usize,
+    n: usize,
+    pool: usize,
+    list: u32,
+) -> Result<(), Refusal>
     requires { (n * 24 ≤ length recs.now) × (n ≤ 1024) × (from ≤ n)
         × (lowest (in_pool pool recs.now) 0 from ≡ none) }
     ensures { result ≡ tested 4 list (lowest (in_pool pool recs.now) 0 n) }
 {
-    let mut i = from;
-    while i < n {
+    for i in from..n {
         if !name_ok(recs, pool, i) {
-            return Check::Refused(Refusal {
+            return Err(Refusal {
                 number: 4,
                 list,
                 place: i as u32,
             });
         }
-        i += 1;
     }
-    Check::Fine
+    Ok(())
 }
 
 // Whether a record keeps its byte rules and has its name in a pool of a length.
@@ -370,9 +344,8 @@ pub fn sift(recs: &[u8], n: usize, pool: usize) -> Sifted
     requires { (n * 24 ≤ length recs.now) × (n ≤ 1024) }
     ensures { Sifts pool recs.now n result }
 {
-    let mut i = 0;
     let mut nested = false;
-    while i < n {
+    for i in 0..n {
         if !record_ok(recs, pool, i) {
             return Sifted {
                 fine: i,
@@ -380,7 +353,6 @@ pub fn sift(recs: &[u8], n: usize, pool: usize) -> Sifted
             };
         }
         nested = nested | (2 <= recs[i * 24 + 9]);
-        i += 1;
     }
     Sifted { fine: n, nested }
 }
@@ -402,14 +374,7 @@ pub fn name_at<'a>(pool: &'a [u8], recs: &[u8], slot: usize) -> &'a [u8]
 pub fn has_dot(name: &[u8]) -> bool
     ensures { result ≡ among 46 name.now }
 {
-    let mut i = 0;
-    while i < name.len() {
-        if name[i] == 46 {
-            return true;
-        }
-        i += 1;
-    }
-    false
+    name.contains(&b'.')
 }
 
 // Whether two parts have the same bytes.
@@ -426,12 +391,5 @@ pub fn equal(a: &[u8], b: &[u8]) -> bool
             return false;
         }
     }
-    let mut i = 0;
-    while i < n {
-        if a[i] != b[i] {
-            return false;
-        }
-        i += 1;
-    }
-    true
+    a == b
 }

@@ -12,8 +12,8 @@ use Rattle.paper.specs.Answer.{lowest}
 use Rattle.paper.specs.Lists.{entry_at, path_in, path_of, edit_at, edit_in, edit_path, new_name, entries_ok}
 use Rattle.laws.proofs.RoundTrip.{both}
 use Rattle.record.specs.declared.Refusal.{Refusal}
-use Rattle.record.specs.declared.Check.{Check}
-use Rattle.record.specs.declared.Check.TheVariants.{Fine, Refused}
+use Rattle.record.specs.Answers.{Check}
+use Rattle.std.specs.Prelude.{Ok, Err}
 use Rattle.record.specs.Says.{tested, checked}
 use Rattle.record.proofs.Testing.{tested_fault, chain_goes, chain_stops}
 use Rattle.record_entries.specs.declared.What.TheVariants.{Rename, Relax, Widen}
@@ -24,11 +24,11 @@ use Rattle.record_entries.specs.Rule.{width_of, what_of}
 module _ (list width : ℕ) (rule : List ℕ → ℕ → Bool) (inside : ℕ → List ℕ → ℕ → Bool) (s pool : List ℕ) (number w n : ℕ) (en : number ≡ list) (ew : w ≡ width) (e : n ≡ length s / w) where
   -- 3, then 4
   module _ (a : Check) (ea : a ≡ tested 3 number (lowest (rule s) 0 n)) where
-    pub rule_stops : (x : Refusal) → a ≡ Refused x → Refused x ≡ checked (entries_ok list width rule inside s pool)
+    pub rule_stops : (x : Refusal) → a ≡ Err x → Err x ≡ checked (entries_ok list width rule inside s pool)
     unfolding checked entries_ok
     rule_stops x d = rw (← en, ← ew, ← e) (sym (ap checked (chain_stops 3 number (lowest (rule s) 0 n) a _ x ea d)))
 
-    pub rule_goes : (b : Check) → a ≡ Fine → b ≡ tested 4 number (lowest (inside (length pool) s) 0 n) → b ≡ checked (entries_ok list width rule inside s pool)
+    pub rule_goes : (b : Check) → a ≡ (Ok tt) → b ≡ tested 4 number (lowest (inside (length pool) s) 0 n) → b ≡ checked (entries_ok list width rule inside s pool)
     unfolding entries_ok
     rule_goes b d eb =
         rw (← en, ← ew, ← e) (eb ∙ tested_fault 4 number (lowest (inside (length pool) s) 0 n) ∙ sym (ap checked (chain_goes 3 number (lowest (rule s) 0 n) a _ ea d)))

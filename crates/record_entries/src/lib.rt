@@ -9,7 +9,7 @@ ghost use Rattle.paper.specs.Lists.{edit_at, ok_edit, edit_in, edit_path, new_na
 ghost use Rattle.record.specs.Says.{tested, checked};
 ghost use Rattle.record_entries.specs.Rule.{number_of, width_of, rule_of, inside_of, what_of};
 
-use record::{Check, Refusal, le16, le32, length_of};
+use record::{Refusal, le16, le32, length_of};
 
 // The lists whose entries have paths. They differ in their number, the width of an entry, and what 3 and 4 ask of it.
 #[derive(Clone, Copy)]
@@ -248,14 +248,14 @@ fn is_inside(entries: &[u8], pool: usize, k: usize, list: PathList) -> bool
 }
 
 // The lowest of n entries that breaks its byte rule: refusal 3.
-fn check_rules(entries: &[u8], n: usize, number: u32, list: PathList) -> Check
+fn check_rules(entries: &[u8], n: usize, number: u32, list: PathList) -> Result<(), Refusal>
     requires { (n * width_of list ≤ length entries.now) × (n ≤ 64) }
     ensures { result ≡ tested 3 number (lowest (rule_of list entries.now) 0 n) }
 {
     let mut i = 0;
     while i < n {
         if !entry_ok(entries, i, list) {
-            return Check::Refused(Refusal {
+            return Err(Refusal {
                 number: 3,
                 list: number,
                 place: i as u32,
@@ -263,11 +263,11 @@ fn check_rules(entries: &[u8], n: usize, number: u32, list: PathList) -> Check
         }
         i += 1;
     }
-    Check::Fine
+    Ok(())
 }
 
 // The lowest of n entries that points past the end of the request pool: refusal 4.
-fn check_paths(entries: &[u8], n: usize, number: u32, pool: usize, list: PathList) -> Check
+fn check_paths(entries: &[u8], n: usize, number: u32, pool: usize, list: PathList) -> Result<(), Refusal>
     requires { (n * width_of list ≤ length entries.now) × (n ≤ 64) }
     ensures { result ≡ tested 4 number
         (lowest (inside_of list pool entries.now) 0 n) }
@@ -275,7 +275,7 @@ fn check_paths(entries: &[u8], n: usize, number: u32, pool: usize, list: PathLis
     let mut k = 0;
     while k < n {
         if !is_inside(entries, pool, k, list) {
-            return Check::Refused(Refusal {
+            return Err(Refusal {
                 number: 4,
                 list: number,
                 place: k as u32,
@@ -283,19 +283,17 @@ fn check_paths(entries: &[u8], n: usize, number: u32, pool: usize, list: PathLis
         }
         k += 1;
     }
-    Check::Fine
+    Ok(())
 }
 
 // Refusal 3 over a whole list of entries, then refusal 4. Refusal 2 was tested before, hence the length.
-pub fn check_entries(entries: &[u8], request_pool: &[u8], list: PathList) -> Check
+pub fn check_entries(entries: &[u8], request_pool: &[u8], list: PathList) -> Result<(), Refusal>
     requires { length entries.now ≤ 64 * width_of list }
     ensures { result ≡ checked (entries_ok (number_of list) (width_of list) (rule_of list)
         (inside_of list) entries.now request_pool.now) }
 {
     let n = entries.len() / width_of(list);
     let number = number_of(list);
-    if let Check::Refused(r) = check_rules(entries, n, number, list) {
-        return Check::Refused(r);
-    }
+    check_rules(entries, n, number, list)?;
     check_paths(entries, n, number, request_pool.len(), list)
 }

@@ -6,10 +6,7 @@ ghost use Rattle.paper.specs.Limits.{room, whole, sum_from, name_lens, tree_size
 ghost use Rattle.record.specs.Trees.{trees_in, lists_in};
 ghost use Rattle.record_limits.specs.Update.{SizedUpdate};
 
-use record::{
-    ADDED_RECORDS, ADDITIONS, DELETIONS, EDITS, IDENTIFIERS, Lists, POOL, RECORDS, REQUEST_POOL,
-    Trees, name_len_at,
-};
+use record::{Lists, Trees, name_len_at};
 
 // Output buffers of these lengths hold any answer; where they do not, refusal 1.
 pub fn room(records: usize, names: usize) -> bool
@@ -92,7 +89,7 @@ fn sized_entries(deletions: &[u8], additions: &[u8], edits: &[u8]) -> bool
 pub fn sized_update<'a>(trees: &Trees<'a>, lists: &Lists<'a>) -> bool
     ensures { SizedUpdate (trees_in trees.now) (lists_in lists.now) result }
 {
-    sized_identifiers(trees[RECORDS], trees[POOL], lists[IDENTIFIERS])
-        & (sized_entries(lists[DELETIONS], lists[ADDITIONS], trees[EDITS])
-            & sized(trees[ADDED_RECORDS], trees[REQUEST_POOL]))
+    sized_identifiers(trees.records, trees.pool, lists.identifiers)
+        & (sized_entries(lists.deletions, lists.additions, trees.edits)
+            & sized(trees.added_records, trees.request_pool))
 }

@@ -2,12 +2,12 @@
 use crate::tally::{Verdict, verdict_on};
 use index::{find_id, find_name, find_parent};
 use index_folded::find_folded;
-use record::{FieldId, Sought};
+use record::{FieldId};
 use recorded_lines::answers::is_sought;
-use recorded_lines::fields::{Parsed, answer, decode, decode_base, field, number, part, readable};
+use recorded_lines::fields::{answer, decode, decode_base, field, number, part, readable};
 
 // What a name finds; `folds` where case is forgotten.
-fn sought<'a>(records: &'a [u8], pool: &'a [u8], name: &[u8], folds: bool) -> Sought {
+fn sought<'a>(records: &'a [u8], pool: &'a [u8], name: &[u8], folds: bool) -> Result<Option<(FieldId, Slot)>, Refusal> {
     if folds {
         return find_folded(records, pool, name);
     }
@@ -34,7 +34,7 @@ pub fn replay_id(line: &[u8], inputs: &mut [u8]) -> Verdict {
     if !readable(line, b"wwbbw=") {
         return Verdict::Unreadable;
     }
-    let Parsed::Number(id) = number(field(line, 4)) else {
+    let Some(id) = number(field(line, 4)) else {
         return Verdict::Unreadable;
     };
     let a = decode(field(line, 2), inputs, 0);
@@ -48,7 +48,7 @@ pub fn replay_parent(line: &[u8], inputs: &mut [u8]) -> Verdict {
     if !readable(line, b"wwbbw=") {
         return Verdict::Unreadable;
     }
-    let Parsed::Number(id) = number(field(line, 4)) else {
+    let Some(id) = number(field(line, 4)) else {
         return Verdict::Unreadable;
     };
     let a = decode(field(line, 2), inputs, 0);

@@ -3,7 +3,7 @@ use crate::tally::{Verdict, verdict_on};
 use prune::prune;
 use record::Changed;
 use recorded_lines::answers::ends;
-use recorded_lines::fields::{Parsed, answer, decode_base, field, number, part, readable, size};
+use recorded_lines::fields::{answer, decode_base, field, number, part, readable, size};
 use recorded_lines::outputs::{fill, is_changed};
 
 // prune JUDGE RECORDS POOL SELECTED FULL OUT_RECORDS OUT_NAMES = answer
@@ -11,7 +11,7 @@ pub fn replay(line: &[u8], inputs: &mut [u8], records: &mut [u8], names: &mut [u
     if !readable(line, b"wwbbbwww=") {
         return Verdict::Unreadable;
     }
-    let Parsed::Number(full) = number(field(line, 5)) else {
+    let Some(full) = number(field(line, 5)) else {
         return Verdict::Unreadable;
     };
     let r = size(field(line, 6));
@@ -59,7 +59,7 @@ fn call(
     full: bool,
     records: &mut [u8],
     names: &mut [u8],
-) -> Changed {
+) -> Result<Sizes, Refusal> {
     let base = decode_base(line, inputs);
     prune(
         part(inputs, 0, base.records),
@@ -72,9 +72,9 @@ fn call(
 }
 
 // Whether an accepted answer ends after its names.
-fn closes(answer: &[u8], changed: Changed) -> bool {
+fn closes(answer: &[u8], changed: Result<Sizes, Refusal>) -> bool {
     match changed {
-        Changed::Done(_) => ends(answer, 3),
-        Changed::Refused(_) => true,
+        Ok(_) => ends(answer, 3),
+        Err(_) => true,
     }
 }

@@ -2,7 +2,7 @@
 use crate::tally::{Verdict, verdict_on};
 use record::Changed;
 use recorded_lines::answers::ends;
-use recorded_lines::fields::{Parsed, answer, decode_base, field, number, part, readable, size};
+use recorded_lines::fields::{answer, decode_base, field, number, part, readable, size};
 use recorded_lines::outputs::{fill, holds, is_changed, untouched};
 use renumber::renumber;
 
@@ -17,7 +17,7 @@ pub fn replay(
     if !readable(line, b"wwbbbwwww=") {
         return Verdict::Unreadable;
     }
-    let Parsed::Number(start) = number(field(line, 5)) else {
+    let Some(start) = number(field(line, 5)) else {
         return Verdict::Unreadable;
     };
     let r = size(field(line, 6));
@@ -81,7 +81,7 @@ fn call(
     records: &mut [u8],
     names: &mut [u8],
     identifiers: &mut [u8],
-) -> Changed {
+) -> Result<Sizes, Refusal> {
     let base = decode_base(line, inputs);
     renumber(
         part(inputs, 0, base.records),
@@ -95,9 +95,9 @@ fn call(
 }
 
 // Whether the identifiers are the recorded ones; a refusal leaves them as they were.
-fn is_mapped(answer: &[u8], changed: Changed, identifiers: &[u8], pattern: u8) -> bool {
+fn is_mapped(answer: &[u8], changed: Result<Sizes, Refusal>, identifiers: &[u8], pattern: u8) -> bool {
     match changed {
-        Changed::Done(_) => holds(identifiers, field(answer, 3), pattern) & ends(answer, 4),
-        Changed::Refused(_) => untouched(identifiers, 0, pattern),
+        Ok(_) => holds(identifiers, field(answer, 3), pattern) & ends(answer, 4),
+        Err(_) => untouched(identifiers, 0, pattern),
     }
 }

@@ -1,6 +1,6 @@
 // Replays the look-up of many ids.
 use crate::tally::{Verdict, verdict_on};
-use index_many::{Searched, find_ids};
+use index_many::{find_ids};
 use record::equal;
 use recorded_lines::answers::{ends, is_number, is_refusal};
 use recorded_lines::fields::{answer, decode_base, field, part, readable, size};
@@ -31,7 +31,7 @@ fn agrees_over(pattern: u8, line: &[u8], inputs: &mut [u8], slots: &mut [u8]) ->
 }
 
 // The call, on the inputs of the line.
-fn call(line: &[u8], inputs: &mut [u8], slots: &mut [u8]) -> Searched {
+fn call(line: &[u8], inputs: &mut [u8], slots: &mut [u8]) -> Result<u32, Refusal> {
     let base = decode_base(line, inputs);
     find_ids(
         part(inputs, 0, base.records),
@@ -42,14 +42,14 @@ fn call(line: &[u8], inputs: &mut [u8], slots: &mut [u8]) -> Searched {
 }
 
 // Whether the slots and their count are the recorded ones; a refusal leaves the buffer as it was.
-fn is_searched(answer: &[u8], searched: Searched, slots: &[u8], pattern: u8) -> bool {
+fn is_searched(answer: &[u8], searched: Result<u32, Refusal>, slots: &[u8], pattern: u8) -> bool {
     match searched {
-        Searched::Done(found) => {
+        Ok(found) => {
             equal(field(answer, 0), b"ok")
                 & holds(slots, field(answer, 1), pattern)
                 & is_number(field(answer, 2), found)
                 & ends(answer, 3)
         }
-        Searched::Refused(refusal) => is_refusal(answer, refusal) & untouched(slots, 0, pattern),
+        Err(refusal) => is_refusal(answer, refusal) & untouched(slots, 0, pattern),
     }
 }

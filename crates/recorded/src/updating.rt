@@ -5,7 +5,7 @@ use crate::tally::{Verdict, verdict_on};
 use record::Changed;
 use recorded_lines::answers::{ends, is_number};
 use recorded_lines::fields::{
-    Base, Parsed, answer, decode, decode_base, field, number, part, readable, size,
+    Base, answer, decode, decode_base, field, number, part, readable, size,
 };
 use recorded_lines::outputs::{fill, is_changed};
 use update::update;
@@ -20,11 +20,11 @@ fn names_version(line: &[u8]) -> bool {
 }
 
 // The format version that a line names, or 2.
-fn version_in(line: &[u8]) -> Parsed {
+fn version_in(line: &[u8]) -> Option<u32> {
     if names_version(line) {
         return number(field(line, 13));
     }
-    Parsed::Number(2)
+    Some(2)
 }
 
 // update JUDGE RECORDS POOL IDENTIFIERS LAST_ID DELETIONS ADDITIONS ADDED_RECORDS REQUEST_POOL OUT_RECORDS OUT_NAMES = answer
@@ -33,10 +33,10 @@ pub fn replay(line: &[u8], inputs: &mut [u8], records: &mut [u8], names: &mut [u
     if !is_update(line) {
         return Verdict::Unreadable;
     }
-    let Parsed::Number(last_id) = number(field(line, 5)) else {
+    let Some(last_id) = number(field(line, 5)) else {
         return Verdict::Unreadable;
     };
-    let Parsed::Number(version) = version_in(line) else {
+    let Some(version) = version_in(line) else {
         return Verdict::Unreadable;
     };
     let r = size(field(line, 10));
@@ -126,7 +126,7 @@ fn changed_by(
     version: u32,
     records: &mut [u8],
     names: &mut [u8],
-) -> Changed {
+) -> Result<Sizes, Refusal> {
     let base = decode_base(line, inputs);
     let request = decode_request(line, inputs, base.third);
     call(inputs, base, request, last_id, version, records, names)
@@ -141,7 +141,7 @@ fn call(
     version: u32,
     records: &mut [u8],
     names: &mut [u8],
-) -> Changed
+) -> Result<Sizes, Refusal>
     requires { (base.records ≤ base.pool) × (base.pool ≤ base.third)
         × (base.third ≤ request.deletions) × (request.deletions ≤ request.additions)
         × (request.additions ≤ request.added) × (request.added ≤ request.pool)
@@ -163,13 +163,13 @@ fn call(
 }
 
 // Whether the last id consumed and the number of records visited are the recorded ones.
-fn is_counted(answer: &[u8], changed: Changed) -> bool {
+fn is_counted(answer: &[u8], changed: Result<Sizes, Refusal>) -> bool {
     match changed {
-        Changed::Done(sizes) => {
+        Ok(sizes) => {
             is_number(field(answer, 3), sizes.last_id)
                 & is_number(field(answer, 4), sizes.visited)
                 & ends(answer, 5)
         }
-        Changed::Refused(_) => true,
+        Err(_) => true,
     }
 }

@@ -1,20 +1,20 @@
 // The recorded answer of a case beside what the call gave: refusals, and what look-ups find.
-use crate::fields::{Parsed, field, number};
-use record::{Found, Refusal, Sought, equal};
+use crate::fields::{field, number};
+use record::{Refusal, equal};
 
 // Whether a field spells the number.
 pub fn is_number(text: &[u8], x: u32) -> bool {
     match number(text) {
-        Parsed::Number(y) => x == y,
-        Parsed::Malformed => false,
+        Some(y) => x == y,
+        None => false,
     }
 }
 
 // Whether a field spells the slot.
 fn is_slot(text: &[u8], slot: usize) -> bool {
     match number(text) {
-        Parsed::Number(y) => slot == y as usize,
-        Parsed::Malformed => false,
+        Some(y) => slot == y as usize,
+        None => false,
     }
 }
 
@@ -41,8 +41,8 @@ pub fn is_refusal(answer: &[u8], refusal: Refusal) -> bool {
 }
 
 // Whether the answer is what a look-up found: id and slot, or nothing.
-fn is_found(answer: &[u8], found: Found) -> bool {
-    let Found::At(id, slot) = found else {
+fn is_found(answer: &[u8], found: Option<(FieldId, Slot)>) -> bool {
+    let Some((id, slot)) = found else {
         return equal(answer, b"nothing");
     };
     if !equal(field(answer, 0), b"found") {
@@ -58,9 +58,9 @@ fn is_found(answer: &[u8], found: Found) -> bool {
 }
 
 // Whether the answer is a look-up's.
-pub fn is_sought(answer: &[u8], sought: Sought) -> bool {
+pub fn is_sought(answer: &[u8], sought: Result<Option<(FieldId, Slot)>, Refusal>) -> bool {
     match sought {
-        Sought::Looked(found) => is_found(answer, found),
-        Sought::Refused(refusal) => is_refusal(answer, refusal),
+        Ok(found) => is_found(answer, found),
+        Err(refusal) => is_refusal(answer, refusal),
     }
 }

@@ -116,34 +116,34 @@ fn wide(b: u8) -> u64
 }
 
 // The number that a field spells. The test in the loop keeps the sum within 32 bits.
-pub fn number(text: &[u8]) -> Parsed {
+pub fn number(text: &[u8]) -> Option<u32> {
     if text.len() == 0 {
-        return Parsed::Malformed;
+        return None;
     }
     let mut sum: u64 = 0;
     let mut i = 0;
     while i < text.len() {
         let b = text[i];
         if b < 48 {
-            return Parsed::Malformed;
+            return None;
         }
         if 57 < b {
-            return Parsed::Malformed;
+            return None;
         }
         sum = sum * 10 + wide(b - 48);
         if 4294967295 < sum {
-            return Parsed::Malformed;
+            return None;
         }
         i += 1;
     }
-    Parsed::Number(sum as u32)
+    Some(sum as u32)
 }
 
 // The size of a buffer that a field asks for; where it spells none, one that no buffer has.
 pub fn size(text: &[u8]) -> usize {
     match number(text) {
-        Parsed::Number(n) => n as usize,
-        Parsed::Malformed => usize::MAX,
+        Some(n) => n as usize,
+        None => usize::MAX,
     }
 }
 

@@ -4,7 +4,7 @@ ghost use Rattle.std.specs.Prelude.{◌*◌, ◌≤◌, length};
 
 use crate::answers::is_refusal;
 use crate::fields::{byte_at, field, is_hex};
-use record::{Changed, Sizes, equal};
+use record::{Sizes, equal};
 
 // Fills an output buffer.
 pub fn fill(buffer: &mut [u8], pattern: u8) {
@@ -86,14 +86,14 @@ fn is_done(answer: &[u8], sizes: Sizes, records: &[u8], names: &[u8], pattern: u
 // Whether the answer is what an operation gave and left in its output buffers. What stands from field 3 on is the operation's own.
 pub fn is_changed(
     answer: &[u8],
-    changed: Changed,
+    changed: Result<Sizes, Refusal>,
     records: &[u8],
     names: &[u8],
     pattern: u8,
 ) -> bool {
     match changed {
-        Changed::Done(sizes) => is_done(answer, sizes, records, names, pattern),
-        Changed::Refused(refusal) => {
+        Ok(sizes) => is_done(answer, sizes, records, names, pattern),
+        Err(refusal) => {
             is_refusal(answer, refusal)
                 & untouched(records, 0, pattern)
                 & untouched(names, 0, pattern)

@@ -25,15 +25,13 @@ use Rattle.laws.proofs.Identified.{sound_known}
 use Rattle.laws.proofs.RoundTrip.{both, length_pool}
 use Rattle.laws.proofs.Fitting.{sized_slots, ids_sized, rooms_of}
 use Rattle.record.specs.declared.Refusal.{Refusal}
-use Rattle.record.specs.declared.Check.{Check}
-use Rattle.record.specs.declared.Check.TheVariants as check
-use Rattle.record.specs.declared.Changed.TheVariants as changed
+use Rattle.record.specs.Answers.{Check}
+use Rattle.std.specs.Prelude.{Ok, Err}
 use Rattle.record.specs.Says.{refusal_of, changes}
 use Rattle.record.specs.Trees.{alone}
 use Rattle.record.proofs.Testing.{checked_ok, checked_refused, refuses}
 use Rattle.record_limits.proofs.Within.{ids_most}
-use Rattle.tree.specs.declared.Shaped.{Shaped}
-use Rattle.tree.specs.declared.Shaped.TheVariants as shaped
+use Rattle.tree.specs.Answers.{Shaped}
 use Rattle.tree.specs.Says.{decoded}
 use Rattle.tree.proofs.Deciding.{decode_ok, decode_refused}
 use Rattle.tree_walk.specs.There.{row_of}
@@ -56,12 +54,12 @@ use Rattle.renumber.proofs.NewIds.{new_plan, new_fields}
 
 module _ (records pool identifiers : List ℕ) (lr ln li : ℕ) where
   module _ (b : Bool) (eb : b ≡ (room lr ln && leb (length identifiers) li)) where
-    pub stop_1 : not b ≡ true → shaped.Refused (refusal_of 1 0 0) ≡ decoded (opened records pool identifiers lr ln li)
+    pub stop_1 : not b ≡ true → Err (refusal_of 1 0 0) ≡ decoded (opened records pool identifiers lr ln li)
     unfolding opened decoded ◌>>=◌
     stop_1 t = rw (← eb, not-true b t)
 
     module _ (f : not b ≡ false) (z : Bool) (ez : z ≡ sized_ids 64 records pool identifiers) where
-      pub stop_2 : not z ≡ true → shaped.Refused (refusal_of 2 0 0) ≡ decoded (opened records pool identifiers lr ln li)
+      pub stop_2 : not z ≡ true → Err (refusal_of 2 0 0) ≡ decoded (opened records pool identifiers lr ln li)
       unfolding opened decoded ◌>>=◌
       stop_2 t = rw (← eb, not-false b f, ← ez, not-true z t)
 
@@ -75,19 +73,19 @@ pub ruleset opening = (stop_1, stop_2, go_on)
 record Passed (records pool identifiers : List ℕ) (lr ln li c : ℕ) : Type 0 where
   pub rooms : (room lr ln && leb (length identifiers) li) ≡ true
   pub limits : sized_ids 64 records pool identifiers ≡ true
-  pub roots : shaped.Roots c ≡ decoded (decode 0 records pool)
+  pub roots : Ok c ≡ decoded (decode 0 records pool)
 
-passes : (records pool identifiers : List ℕ) (lr ln li c : ℕ) (w : Shaped) → w ≡ decoded (opened records pool identifiers lr ln li) → w ≡ shaped.Roots c → Passed records pool identifiers lr ln li c
+passes : (records pool identifiers : List ℕ) (lr ln li c : ℕ) (w : Shaped) → w ≡ decoded (opened records pool identifiers lr ln li) → w ≡ Ok c → Passed records pool identifiers lr ln li c
 unfolding opened decoded
 passes records pool identifiers lr ln li c w e d =
     decode_ok _ (opened records pool identifiers lr ln li) w c e d λ t o q. unbind _ _ o λ _ e₁ a₁. unbind _ _ a₁ λ _ e₂ a₂.
-    record { rooms = passed 1 0 0 _ e₁; limits = passed 2 0 0 _ e₂; roots = ap shaped.Roots q ∙ sym (ap decoded a₂) }
+    record { rooms = passed 1 0 0 _ e₁; limits = passed 2 0 0 _ e₂; roots = ap Ok q ∙ sym (ap decoded a₂) }
 
 -- ---- 7 on
 
 -- A refusal leaves the buffers alone.
 abbrev Stops : Answer Result → Refusal → (out_records out_names out_identifiers : List ℕ) → Type 0
-Stops x y a b c = Answers changes x (for_records a ∷ for_names b ∷ for_identifiers c ∷ []) (changed.Refused y) (a ∷ b ∷ c ∷ [])
+Stops x y a b c = Answers changes x (for_records a ∷ for_names b ∷ for_identifiers c ∷ []) (Err y) (a ∷ b ∷ c ∷ [])
 
 -- 1 to 6 come first.
 opens_first : (a b : Bool) (x : Answer (Forest Field)) (f : Forest Field → Answer Result) → (roomy a >>= λ _. limited b >>= λ _. x >>= f) ≡ ((roomy a >>= λ _. limited b >>= λ _. x) >>= f)
@@ -111,13 +109,13 @@ module _ (records pool identifiers : List ℕ) (lr ln li : ℕ) where
   after_6 start t = renumber t (id_list identifiers) (turned start) >>= λ u. ok (record { tree = u.tree; identifiers = u.identifiers; last = 0; visited = 0 })
 
   module _ (w : Shaped) (ew : w ≡ decoded opens) where
-    pub stop_6 : (start : ℕ) (y : Refusal) (out_r out_n out_i : List ℕ) → w ≡ shaped.Refused y → Stops (entry start) y out_r out_n out_i
+    pub stop_6 : (start : ℕ) (y : Refusal) (out_r out_n out_i : List ℕ) → w ≡ Err y → Stops (entry start) y out_r out_n out_i
     unfolding renumber_entry opened after_6
     stop_6 start y out_r out_n out_i d =
         let e : entry start ≡ (opens >>= after_6 start) = opens_first (room lr ln && leb (length identifiers) li) (sized_ids 64 records pool identifiers) (decode 0 records pool) (after_6 start) in
         refuses (entry start) y (for_records out_r ∷ for_names out_n ∷ for_identifiers out_i ∷ []) (e ∙ bind_not opens (after_6 start) _ _ _ (decode_refused opens w y ew d))
 
-    module _ (c : ℕ) (dw : w ≡ shaped.Roots c) where
+    module _ (c : ℕ) (dw : w ≡ Ok c) where
       p : Passed records pool identifiers lr ln li c
       p = passes records pool identifiers lr ln li c w ew dw
 
@@ -150,11 +148,11 @@ module _ (records pool identifiers : List ℕ) (lr ln li : ℕ) where
         tree_size : size tree ≡ slots records
         tree_size = fields_size plan (slots records) b.planned.shaped (alone records pool)
 
-        pub stop_9 : (start : ℕ) (y : Refusal) (out_r out_n out_i : List ℕ) → r ≡ check.Refused y → Stops (entry start) y out_r out_n out_i
+        pub stop_9 : (start : ℕ) (y : Refusal) (out_r out_n out_i : List ℕ) → r ≡ Err y → Stops (entry start) y out_r out_n out_i
         unfolding after_6 renumber ◌>>=◌
         stop_9 start y out_r out_n out_i d = refuses (entry start) y (for_records out_r ∷ for_names out_n ∷ for_identifiers out_i ∷ []) (entry_is start ∙ rw (checked_refused (sound 0 tree (id_list identifiers)) r y b.answer d))
 
-        module _ (d : r ≡ check.Fine) where
+        module _ (d : r ≡ (Ok tt)) where
           is_sound : sound 0 tree (id_list identifiers) ≡ ok tt
           is_sound = checked_ok (sound 0 tree (id_list identifiers)) r b.answer d
 
@@ -212,7 +210,7 @@ module _ (records pool identifiers : List ℕ) (lr ln li : ℕ) where
 
                 pub done : (start : ℕ) (found out_identifiers identifiers' : List ℕ) → first ≡ turned start → Located identifiers (numbers plan) (slots records) found
                     → Applied (length identifiers / 4) found (numbers (set plan 1 new)) out_identifiers identifiers'
-                    → Answers changes (entry start) (for_records out_records ∷ for_names out_names ∷ for_identifiers out_identifiers ∷ []) (changed.Done (record { records = slots records; names = names; last_id = 0; visited = 0 })) (records' ∷ names' ∷ identifiers' ∷ [])
+                    → Answers changes (entry start) (for_records out_records ∷ for_names out_names ∷ for_identifiers out_identifiers ∷ []) (Ok (record { records = slots records; names = names; last_id = 0; visited = 0 })) (records' ∷ names' ∷ identifiers' ∷ [])
                 unfolding after_6 renumber ◌>>=◌ changes leaves
                 done start found out_identifiers identifiers' ef h m =
                     let a = few in

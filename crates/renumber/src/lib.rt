@@ -11,11 +11,11 @@ ghost use Rattle.renumber.specs.Opening.{opened};
 use index::index_base;
 use plan::NUMBERS;
 use plan_write::write_plan;
-use record::{Changed, Check, Refusal, Sizes, turn};
+use record::{Refusal, Sizes, turn};
 use record_limits::{room_with_identifiers, sized_identifiers};
 use renumber_id_reassigner::reassign_field_ids;
 use renumber_identifiers::{apply_to_identifier_fields, find_identifiers};
-use tree::{Shaped, check_tree};
+use tree::{check_tree};
 
 // Refusals 1 to 6, or the number of roots.
 fn open(
@@ -25,7 +25,7 @@ fn open(
     room_records: usize,
     room_names: usize,
     room_identifiers: usize,
-) -> Shaped
+) -> Result<u32, Refusal>
     ensures { result ≡ decoded (opened records.now pool.now
         identifiers.now room_records room_names room_identifiers) }
 {
@@ -35,14 +35,14 @@ fn open(
         identifiers.len(),
         room_identifiers,
     ) {
-        return Shaped::Refused(Refusal {
+        return Err(Refusal {
             number: 1, // refusal 1
             list: 0,
             place: 0,
         });
     }
     if !sized_identifiers(records, pool, identifiers) {
-        return Shaped::Refused(Refusal {
+        return Err(Refusal {
             number: 2, // refusal 2
             list: 0,
             place: 0,
@@ -60,7 +60,7 @@ pub fn renumber<'a>(
     out_records: &mut [u8],
     out_names: &mut [u8],
     out_identifiers: &mut [u8],
-) -> Changed
+) -> Result<Sizes, Refusal>
     ensures { Answers changes
         (renumber_entry records.now pool.now identifiers.now start
         (length out_records.old) (length out_names.old)
@@ -77,21 +77,18 @@ pub fn renumber<'a>(
         out_names.len(),
         out_identifiers.len(),
     ) {
-        Shaped::Refused(r) => Changed::Refused(r),
-        Shaped::Roots(count) => {
+        Err(r) => Err(r),
+        Ok(count) => {
             // test: 7 to 9
-            let trees = [records, pool, records, pool, &pool[0..0]];
+            let trees = Trees::alone(records, pool);
             let n = records.len() / 24;
-            let mut plan = [[0u32; 1024]; 3];
+            let mut plan = PlanRows::empty();
             let mut index = [[0u16; 1024]; 8];
-            let tested = index_base(&trees, n, identifiers, &mut plan, &mut index);
-            if let Check::Refused(r) = tested {
-                return Changed::Refused(r);
-            }
+            index_base(&trees, n, identifiers, &mut plan, &mut index)?;
             // decide: 18
             let first = turn(start);
             if 4294967295 - n < first as usize {
-                return Changed::Refused(Refusal {
+                return Err(Refusal {
                     number: 18, // refusal 18
                     list: 0,
                     place: 0,
@@ -100,11 +97,11 @@ pub fn renumber<'a>(
             // plan: the new ids. The index finds a record by its old id, so the identifiers' slots are looked up before
             let mut slots = [0u16; 64];
             find_identifiers(identifiers, &plan, &index, n, &mut slots);
-            reassign_field_ids(records, 0, count, 16, &mut plan[NUMBERS], first);
+            reassign_field_ids(records, 0, count, 16, &mut plan.numbers, first);
             apply_to_identifier_fields(identifiers.len() / 4, &slots, &plan, out_identifiers);
             // write
             let names = write_plan(&trees, &plan, n, out_records, out_names);
-            Changed::Done(Sizes {
+            Ok(Sizes {
                 records: n as u32,
                 names: names as u32,
                 last_id: 0,

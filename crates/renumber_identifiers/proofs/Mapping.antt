@@ -20,8 +20,8 @@ use Rattle.laws.proofs.Runs.{sets_append, sets_front, map_from, from_same, from_
 use Rattle.laws.proofs.Words.{turned_twice}
 use Rattle.laws.proofs.Finding.{place_none, place_some, renamed_at}
 use Rattle.record.specs.declared.Slot.{Slot}
-use Rattle.record.specs.declared.FoundSlot.{FoundSlot}
-use Rattle.record.specs.declared.FoundSlot.TheVariants.{At, Nothing}
+use Rattle.record.specs.Answers.{FoundSlot}
+use Rattle.std.specs.Prelude.{Some, None}
 use Rattle.record.specs.Says.{slot_before}
 use Rattle.record.proofs.Slots.{no_slot, the_slot}
 use Rattle.index_ids.specs.Chain.{lowest_below}
@@ -54,7 +54,7 @@ module _ (s is : List ℕ) (m : ℕ) where
           not_false_of true e = refl
           not_false_of false e = sym e
 
-      pub never_missing : (slots' : List ℕ) → w ≡ Nothing → Located s is m slots'
+      pub never_missing : (slots' : List ℕ) → w ≡ None → Located s is m slots'
       never_missing slots' q = absurd (let z : ◌≡◌ {A = ℕ} 0 1 = bad in omega arith)
         where
           bad : ◌≡◌ {A = ℕ} 0 1
@@ -64,7 +64,7 @@ module _ (s is : List ℕ) (m : ℕ) where
               let b = known_one in
               cc
 
-      module _ (j : Slot) (q : w ≡ At j) where
+      module _ (j : Slot) (q : w ≡ Some j) where
         pub slot_fits : j.0 < 65536
         slot_fits = let a = found_within (is_id is (turned v)) m w ew j q in let d = h.few in omega arith
 

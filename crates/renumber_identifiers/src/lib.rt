@@ -5,8 +5,8 @@ ghost use Rattle.plan.specs.Table.{numbers};
 ghost use Rattle.renumber_identifiers.specs.Mapped.{Findable, Located, Applicable, Applied};
 
 use index_ids::{IndexRows, find_id, place};
-use plan::{NUMBERS, PlanRows, put_bytes};
-use record::{FoundSlot, word_bytes};
+use plan::{PlanRows, put_bytes};
+use record::{word_bytes};
 use record_entries::id_at;
 
 // The slot of each identifier's record, found by its id among the m planned records.
@@ -26,7 +26,7 @@ pub fn find_identifiers(
     while i < n {
         let id = id_at(identifiers, i);
         let found = find_id(plan, index, m, id);
-        let FoundSlot::At(slot) = found else {
+        let Some(slot) = found else {
             return;
         };
         slots[i] = slot.0 as u16;
@@ -43,7 +43,7 @@ pub fn apply_to_identifier_fields(n: usize, slots: &[u16; 64], plan: &PlanRows, 
     let mut i = 0;
     while i < n {
         let k = place(slots[i]);
-        let four = word_bytes(plan[NUMBERS][k]);
+        let four = word_bytes(plan.numbers[k]);
         put_bytes(out, i * 4, &four);
         i += 1;
     }

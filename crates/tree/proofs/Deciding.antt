@@ -19,15 +19,12 @@ use Rattle.paper.specs.Limits.{sized}
 use Rattle.paper.specs.Decode.{fields, decode}
 use Rattle.laws.proofs.Fitting.{siblings_mapped}
 use Rattle.record.specs.declared.Refusal.{Refusal}
-use Rattle.record.specs.declared.Check.{Check}
-use Rattle.record.specs.declared.Check.TheVariants as check
+use Rattle.record.specs.Answers.{Check}
+use Rattle.std.specs.Prelude.{Ok, Err}
 use Rattle.record.specs.Says.{tested, refusal_of}
 use Rattle.record.proofs.Testing.{refused_as, was_fine, chain_goes, chain_stops}
 use Rattle.record_limits.proofs.Within.{tree_most}
-use Rattle.tree.specs.declared.Walked.{Walked}
-use Rattle.tree.specs.declared.Walked.TheVariants as walked
-use Rattle.tree.specs.declared.Shaped.{Shaped}
-use Rattle.tree.specs.declared.Shaped.TheVariants as shaped
+use Rattle.tree.specs.Answers.{Walked, Shaped}
 use Rattle.tree.specs.Read.{got, part}
 use Rattle.tree.specs.Says.{rooted, decoded, walked_to, Labelled}
 use Rattle.tree.specs.Fits.{Planted}
@@ -38,29 +35,29 @@ use Rattle.tree.proofs.Labels.{walked_end}
 
 -- ---- what an answer of the code tells of the paper's
 
-pub decode_refused : (x : Answer (Forest Field)) (w : Shaped) (f : Refusal) → w ≡ decoded x → w ≡ shaped.Refused f → x ≡ refused_as f
+pub decode_refused : (x : Answer (Forest Field)) (w : Shaped) (f : Refusal) → w ≡ decoded x → w ≡ Err f → x ≡ refused_as f
 unfolding decoded
 decode_refused (ok t) w f e q = let z : ◌≡◌ {A = ℕ} 0 1 = cc in absurd (omega arith)
 decode_refused (refused n l p) w f e q = cc
 
-pub decode_ok : (P : Type 0) (x : Answer (Forest Field)) (w : Shaped) (c : ℕ) → w ≡ decoded x → w ≡ shaped.Roots c → ((t : Forest Field) → x ≡ ok t → c ≡ siblings t → P) → P
+pub decode_ok : (P : Type 0) (x : Answer (Forest Field)) (w : Shaped) (c : ℕ) → w ≡ decoded x → w ≡ Ok c → ((t : Forest Field) → x ≡ ok t → c ≡ siblings t → P) → P
 unfolding decoded
 decode_ok P (ok t) w c e q f = f t refl (let z : c ≡ siblings t = cc in z)
 decode_ok P (refused n l p) w c e q f = let z : ◌≡◌ {A = ℕ} 0 1 = cc in absurd (omega arith)
 
 -- ---- what the walks tell of the paper's answers
 
-was_rooted : (y : Answer Part) (w : Shaped) (c : ℕ) → w ≡ rooted 0 y → w ≡ shaped.Roots c → (y ≡ ok (got y)) × (siblings (got y).trees ≡ c)
+was_rooted : (y : Answer Part) (w : Shaped) (c : ℕ) → w ≡ rooted 0 y → w ≡ Ok c → (y ≡ ok (got y)) × (siblings (got y).trees ≡ c)
 unfolding rooted
 was_rooted (ok p) w c e d = (refl, sym (zero-add (siblings p.trees)) ∙ cc)
 was_rooted (refused n l k) w c e d = let z : ◌≡◌ {A = ℕ} 0 1 = cc in absurd (omega arith)
 
-was_stuck : (y : Answer Part) (w : Shaped) (x : Refusal) → w ≡ rooted 0 y → w ≡ shaped.Refused x → y ≡ refused_as x
+was_stuck : (y : Answer Part) (w : Shaped) (x : Refusal) → w ≡ rooted 0 y → w ≡ Err x → y ≡ refused_as x
 unfolding rooted
 was_stuck (ok p) w x e d = let z : ◌≡◌ {A = ℕ} 0 1 = cc in absurd (omega arith)
 was_stuck (refused n l k) w x e d = cc
 
-walk_stops : {A : Type 0} (number li next : ℕ) (o : Option ℕ) (w : Walked) (f : Unit {0} → Answer A) (x : Refusal) → w ≡ walked_to number li next o → w ≡ walked.Refused x → (fault number li o >>= f) ≡ refused_as x
+walk_stops : {A : Type 0} (number li next : ℕ) (o : Option ℕ) (w : Walked) (f : Unit {0} → Answer A) (x : Refusal) → w ≡ walked_to number li next o → w ≡ Err x → (fault number li o >>= f) ≡ refused_as x
 unfolding walked_to ◌>>=◌
 walk_stops number li next none w f x e d = let z : ◌≡◌ {A = ℕ} 0 1 = cc in absurd (omega arith)
 walk_stops number li next (some p) w f x e d = cc
@@ -78,29 +75,29 @@ module _ (li : ℕ) (s pool : List ℕ) where
   rest_4 = fault 4 li (lowest (in_pool (length pool) s) 0 (slots s)) >>= λ _. rest_5
 
   module _ (a : Check) (ea : a ≡ tested 3 li (lowest (ok_bytes s) 0 (slots s))) where
-    pub stop_3 : (x : Refusal) → a ≡ check.Refused x → shaped.Refused x ≡ decoded (decode li s pool)
+    pub stop_3 : (x : Refusal) → a ≡ Err x → Err x ≡ decoded (decode li s pool)
     unfolding decode decoded
     stop_3 x d = sym (ap decoded (chain_stops 3 li (lowest (ok_bytes s) 0 (slots s)) a _ x ea d))
 
-    module _ (fa : a ≡ check.Fine) (b : Check) (eb : b ≡ tested 4 li (lowest (in_pool (length pool) s) 0 (slots s))) where
+    module _ (fa : a ≡ (Ok tt)) (b : Check) (eb : b ≡ tested 4 li (lowest (in_pool (length pool) s) 0 (slots s))) where
       past_3 : decode li s pool ≡ rest_4
       unfolding decode rest_4 rest_5 rest_6
       past_3 = chain_goes 3 li (lowest (ok_bytes s) 0 (slots s)) a _ ea fa
 
-      pub stop_4 : (x : Refusal) → b ≡ check.Refused x → shaped.Refused x ≡ decoded (decode li s pool)
+      pub stop_4 : (x : Refusal) → b ≡ Err x → Err x ≡ decoded (decode li s pool)
       unfolding decoded rest_4
       stop_4 x d = sym (ap decoded (past_3 ∙ chain_stops 4 li (lowest (in_pool (length pool) s) 0 (slots s)) b _ x eb d))
 
-      module _ (fb : b ≡ check.Fine) (w : Shaped) (ew : w ≡ rooted 0 (roots li (kids_at s) (slots s) (slots s) 0)) where
+      module _ (fb : b ≡ (Ok tt)) (w : Shaped) (ew : w ≡ rooted 0 (roots li (kids_at s) (slots s) (slots s) 0)) where
         past_4 : decode li s pool ≡ rest_5
         unfolding rest_4
         past_4 = past_3 ∙ chain_goes 4 li (lowest (in_pool (length pool) s) 0 (slots s)) b _ eb fb
 
-        pub stop_5 : (x : Refusal) → w ≡ shaped.Refused x → shaped.Refused x ≡ decoded (decode li s pool)
+        pub stop_5 : (x : Refusal) → w ≡ Err x → Err x ≡ decoded (decode li s pool)
         unfolding decoded rest_5 ◌>>=◌
         stop_5 x d = rw (past_4, was_stuck (roots li (kids_at s) (slots s) (slots s) 0) w x ew d)
 
-        module _ (c : ℕ) (fw : w ≡ shaped.Roots c) (v : Walked) (ev : Labelled pool s li (slots s) 16 c 0 Member v) where
+        module _ (c : ℕ) (fw : w ≡ Ok c) (v : Walked) (ev : Labelled pool s li (slots s) 16 c 0 Member v) where
           whole : Part
           whole = part li (kids_at s) (slots s) 16 c 0
 
@@ -112,17 +109,17 @@ module _ (li : ℕ) (s pool : List ℕ) where
               let h : part li (kids_at s) (slots s) 16 c 0 ≡ p = part_is li (kids_at s) (slots s) 16 c 0 p (rw r.1 at (roots_row li (kids_at s) (slots s) (slots s) 0 p (omega arith) (omega arith) r.0).0) in
               (past_4 ∙ rw (r.0, h), ap (λ (q : Part). siblings q.trees) h ∙ r.1)
 
-          pub stop_6 : (x : Refusal) → v ≡ walked.Refused x → shaped.Refused x ≡ decoded (decode li s pool)
+          pub stop_6 : (x : Refusal) → v ≡ Err x → Err x ≡ decoded (decode li s pool)
           unfolding decoded rest_6 whole
           stop_6 x d = sym (ap decoded (past_5.0 ∙ walk_stops 6 li _ _ v _ x ev.says d))
 
-          pub all_fine : (j : ℕ) → v ≡ walked.End j → shaped.Roots c ≡ decoded (decode li s pool)
+          pub all_fine : (j : ℕ) → v ≡ Ok j → Ok c ≡ decoded (decode li s pool)
           unfolding decoded rest_6 whole fields ◌>>=◌
-          all_fine j d = rw (past_5.0, (walked_end 6 li _ j _ v ev.says d).0) (ap shaped.Roots (sym (siblings_mapped (field_at pool s) whole.trees ∙ past_5.1)))
+          all_fine j d = rw (past_5.0, (walked_end 6 li _ j _ v ev.says d).0) (ap Ok (sym (siblings_mapped (field_at pool s) whole.trees ∙ past_5.1)))
 
 -- What the labels ask, of a tree that keeps 3, 4 and 5.
-pub planted : (li : ℕ) (s pool : List ℕ) (n c : ℕ) (a b : Check) (w : Shaped) → n * 24 ≤ length s → n ≤ 1024 → a ≡ tested 3 li (lowest (ok_bytes s) 0 n) → a ≡ check.Fine → b ≡ tested 4 li (lowest (in_pool (length pool) s) 0 n) → b ≡ check.Fine
-    → w ≡ rooted 0 (roots li (kids_at s) n n 0) → w ≡ shaped.Roots c → Planted li pool s n c
+pub planted : (li : ℕ) (s pool : List ℕ) (n c : ℕ) (a b : Check) (w : Shaped) → n * 24 ≤ length s → n ≤ 1024 → a ≡ tested 3 li (lowest (ok_bytes s) 0 n) → a ≡ (Ok tt) → b ≡ tested 4 li (lowest (in_pool (length pool) s) 0 n) → b ≡ (Ok tt)
+    → w ≡ rooted 0 (roots li (kids_at s) n n 0) → w ≡ Ok c → Planted li pool s n c
 planted li s pool n c a b w o l ea fa eb fb e d =
     let r = was_rooted (roots li (kids_at s) n n 0) w c e d in
     let p = got (roots li (kids_at s) n n 0) in
@@ -142,7 +139,7 @@ pub ruleset deciding = (stop_3, stop_4, stop_5, stop_6, all_fine)
 -- ---- 2, then 3 to 6
 
 module _ (s pool : List ℕ) (b : Bool) (e : b ≡ sized s pool) where
-  pub past_limits : not b ≡ true → shaped.Refused (refusal_of 2 0 0) ≡ decoded (only_read s pool)
+  pub past_limits : not b ≡ true → Err (refusal_of 2 0 0) ≡ decoded (only_read s pool)
   unfolding decoded only_read ◌>>=◌
   past_limits t = rw (← e, not-true b t)
 

@@ -16,8 +16,8 @@ use Rattle.paper.specs.Layout.{Part, before, row}
 use Rattle.laws.proofs.Basics.{refused≢ok, unbind, ok_is}
 use Rattle.laws.proofs.Taken.{Laid, row_take}
 use Rattle.tree.specs.Read.{itself}
-use Rattle.tree.specs.declared.Walked.{Walked}
-use Rattle.tree.specs.declared.Walked.TheVariants.{End, Refused}
+use Rattle.tree.specs.Answers.{Walked}
+use Rattle.std.specs.Prelude.{Ok, Err}
 use Rattle.tree.specs.Says.{ended}
 use Rattle.tree.proofs.Reading.{row_deep, row_past, row_in}
 
@@ -68,22 +68,22 @@ module _ (li : ℕ) (kids : ℕ → ℕ) (n : ℕ) where
       record { next = t.took.end; most = t.took.inside; trees = t.count; slots = laid_slots kids n k p.trees t.took.laid; sizes = laid_sizes kids n k p.trees t.took.laid }
 
 -- a row that ends, ends within the list, at or after the slot where it began
-pub ended_ok : (P : Type 0) (x : Answer Part) (w : Walked) (j : ℕ) → w ≡ ended x → w ≡ End j → ((p : Part) → x ≡ ok p → p.next ≡ j → P) → P
+pub ended_ok : (P : Type 0) (x : Answer Part) (w : Walked) (j : ℕ) → w ≡ ended x → w ≡ Ok j → ((p : Part) → x ≡ ok p → p.next ≡ j → P) → P
 unfolding ended
 ended_ok P (ok p) w j e d f = f p refl cc
 ended_ok P (refused n l k) w j e d f = let z : ◌≡◌ {A = ℕ} 0 1 = cc in absurd (omega arith)
 
-pub ended_no : (x : Answer Part) (p : Part) (w : Walked) (t : Refusal) → x ≡ ok p → w ≡ ended x → w ≡ Refused t → ⊥
+pub ended_no : (x : Answer Part) (p : Part) (w : Walked) (t : Refusal) → x ≡ ok p → w ≡ ended x → w ≡ Err t → ⊥
 unfolding ended
 ended_no (ok a) p w t e ew et = let z : ◌≡◌ {A = ℕ} 0 1 = cc in omega arith
 ended_no (refused n l k) p w t e ew et = let z : ◌≡◌ {A = ℕ} 0 1 = cc in omega arith
 
-pub end_room : (li : ℕ) (kids : ℕ → ℕ) (n lv c k j : ℕ) (w : Walked) → w ≡ ended (row li kids n lv c k) → w ≡ End j → (k ≤ j) × (k ≤ n → j ≤ n)
+pub end_room : (li : ℕ) (kids : ℕ → ℕ) (n lv c k j : ℕ) (w : Walked) → w ≡ ended (row li kids n lv c k) → w ≡ Ok j → (k ≤ j) × (k ≤ n → j ≤ n)
 end_room li kids n lv c k j w e d = ended_ok _ (row li kids n lv c k) w j e d λ p ep en. let f = full li kids n lv c k p ep in (omega (arith, f.next), λ h. rw en at (f.most h))
 
-pub next_within : (li : ℕ) (kids : ℕ → ℕ) (n lv c k j : ℕ) (w : Walked) → w ≡ ended (row li kids n lv c (k + 1)) → w ≡ End j → k < n → j ≤ n
+pub next_within : (li : ℕ) (kids : ℕ → ℕ) (n lv c k j : ℕ) (w : Walked) → w ≡ ended (row li kids n lv c (k + 1)) → w ≡ Ok j → k < n → j ≤ n
 next_within li kids n lv c k j w e d h = (end_room li kids n lv c (k + 1) j w e d).1 (omega arith)
 
 -- so less is left behind a tree than from its slot on
-pub end_less : (li : ℕ) (kids : ℕ → ℕ) (n lv k m : ℕ) (w : Walked) → k < n → w ≡ ended (row li kids n lv m (k + 1)) → (j : ℕ) → w ≡ End j → n - j < n - k
+pub end_less : (li : ℕ) (kids : ℕ → ℕ) (n lv k m : ℕ) (w : Walked) → k < n → w ≡ ended (row li kids n lv m (k + 1)) → (j : ℕ) → w ≡ Ok j → n - j < n - k
 end_less li kids n lv k m w l ew j d = let r = end_room li kids n lv m (k + 1) j w ew d in omega arith

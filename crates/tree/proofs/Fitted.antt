@@ -25,7 +25,7 @@ use Rattle.laws.proofs.Fitting.{lowest_none}
 use Rattle.laws.proofs.Written.{siblings_size}
 use Rattle.record.specs.Sifts.{flat}
 use Rattle.record.proofs.Ruling.{rules, kids_nested}
-use Rattle.tree.specs.declared.Walked.TheVariants.{End}
+use Rattle.std.specs.Prelude.{Ok}
 use Rattle.tree.specs.Read.{part}
 use Rattle.tree.specs.Says.{walked_to, Labelled}
 use Rattle.tree.specs.Fits.{Passed, Seated, Planted, Begins, Fits, AllFit}
@@ -90,7 +90,7 @@ module _ (li : ℕ) (pool s : List ℕ) (n c : ℕ) (h : Planted li pool s n c) 
         members = λ k l. let q = laid_members (kids_at s) n 0 (part li (kids_at s) n 16 c 0).trees whole.laid k (omega arith) (omega (arith, whole.end, h.all)) in omega (arith, whole.end, h.all);
       }
 
-  pub all_fits : (b : Bool) → AllFit pool s n b → b ≡ true → Labelled pool s li n 16 c 0 Member (End n)
+  pub all_fits : (b : Bool) → AllFit pool s n b → b ≡ true → Labelled pool s li n 16 c 0 Member (Ok n)
   unfolding walked_to
   all_fits b f e =
       record { says = rw (h.all, none_misnamed pool s n (f.each e) Member 0 (part li (kids_at s) n 16 c 0).trees whole.laid (begins_member pool s _ 0 Member refl)) }

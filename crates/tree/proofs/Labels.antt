@@ -15,8 +15,8 @@ use Rattle.paper.specs.Answer.{lowest, same, or_else}
 use Rattle.paper.specs.Forest.{Forest, empty, node, size, mapped}
 use Rattle.paper.specs.Field.{first, after}
 use Rattle.paper.specs.Sound.{fitting, misnamed, text}
-use Rattle.tree.specs.declared.Walked.{Walked}
-use Rattle.tree.specs.declared.Walked.TheVariants.{End, Refused}
+use Rattle.tree.specs.Answers.{Walked}
+use Rattle.std.specs.Prelude.{Ok, Err}
 use Rattle.paper.specs.Bytes.{in_pool, name_of, field_at, kind_at, kids_at}
 use Rattle.paper.specs.Layout.{Part}
 use Rattle.tree.specs.Read.{part, reads}
@@ -42,17 +42,17 @@ module _ (pool s : List ℕ) where
   unfolding misnamed fields mapped
   misnamed_none r k = refl
 
-pub walked_goes : (num li next next' j : ℕ) (x y : Option ℕ) (w : Walked) → w ≡ walked_to num li next x → w ≡ End j → walked_to num li next' (or_else x y) ≡ walked_to num li next' y
+pub walked_goes : (num li next next' j : ℕ) (x y : Option ℕ) (w : Walked) → w ≡ walked_to num li next x → w ≡ Ok j → walked_to num li next' (or_else x y) ≡ walked_to num li next' y
 unfolding walked_to
 walked_goes num li next next' j none y w e d = refl
 walked_goes num li next next' j (some p) y w e d = let z : ◌≡◌ {A = ℕ} 0 1 = cc in absurd (omega arith)
 
-pub walked_stops : (num li next next' : ℕ) (t : Refusal) (x y : Option ℕ) (w : Walked) → w ≡ walked_to num li next x → w ≡ Refused t → Refused t ≡ walked_to num li next' (or_else x y)
+pub walked_stops : (num li next next' : ℕ) (t : Refusal) (x y : Option ℕ) (w : Walked) → w ≡ walked_to num li next x → w ≡ Err t → Err t ≡ walked_to num li next' (or_else x y)
 unfolding walked_to
 walked_stops num li next next' t none y w e d = let z : ◌≡◌ {A = ℕ} 0 1 = cc in absurd (omega arith)
 walked_stops num li next next' t (some p) y w e d = cc
 
-pub walked_end : (num li next j : ℕ) (x : Option ℕ) (w : Walked) → w ≡ walked_to num li next x → w ≡ End j → (x ≡ none) × (next ≡ j)
+pub walked_end : (num li next j : ℕ) (x : Option ℕ) (w : Walked) → w ≡ walked_to num li next x → w ≡ Ok j → (x ≡ none) × (next ≡ j)
 unfolding walked_to
 walked_end num li next j none w e d = (refl, cc)
 walked_end num li next j (some p) w e d = let z : ◌≡◌ {A = ℕ} 0 1 = cc in absurd (omega arith)
@@ -62,12 +62,12 @@ abbrev Said : (pool s : List ℕ) (li n lv c k : ℕ) (r : Role) → Walked
 Said pool s li n lv c k r = walked_to 6 li (part li (kids_at s) n lv c k).next (misnamed r k (fields pool s (part li (kids_at s) n lv c k).trees))
 
 module _ (pool s : List ℕ) (li n lv c k : ℕ) (r : Role) where
-  said_none : c ≡ 0 → End k ≡ Said pool s li n lv c k r
+  said_none : c ≡ 0 → Ok k ≡ Said pool s li n lv c k r
   unfolding walked_to
   said_none e = rw (part_none li (kids_at s) n lv c k e, misnamed_none pool s r k)
 
   module _ (sr : reads li (kids_at s) n lv c k ≡ true) (h : c ≡ 0 → ⊥) where
-    said_bad : fitting r (name_of pool s k) ≡ false → Refused (refusal_of 6 li k) ≡ Said pool s li n lv c k r
+    said_bad : fitting r (name_of pool s k) ≡ false → Err (refusal_of 6 li k) ≡ Said pool s li n lv c k r
     unfolding walked_to
     said_bad e = rw (part_in li (kids_at s) n lv c k sr (kids_at s k) h refl, misnamed_bad pool s r k _ _ e)
 
@@ -84,11 +84,11 @@ module _ (pool s : List ℕ) (li n lv c k : ℕ) (r : Role) where
           rw (part_in li (kids_at s) n lv c k sr m h em, misnamed_good pool s r q (after r) k inside.next inside.trees (part li (kids_at s) n lv (c - 1) inside.next).trees e eq refl d)
 
       module _ (w : Walked) (ew : w ≡ Said pool s li n (lv - 1) m (k + 1) q) where
-        said_goes : (j : ℕ) → w ≡ End j → Said pool s li n lv (c - 1) j (after r) ≡ Said pool s li n lv c k r
+        said_goes : (j : ℕ) → w ≡ Ok j → Said pool s li n lv (c - 1) j (after r) ≡ Said pool s li n lv c k r
         unfolding inside
         said_goes j d = rw (← (walked_end 6 li _ j _ w ew d).1) (sym (said_in ∙ walked_goes 6 li _ _ j _ _ w ew d))
 
-        said_stops : (y : Refusal) → w ≡ Refused y → Refused y ≡ Said pool s li n lv c k r
+        said_stops : (y : Refusal) → w ≡ Err y → Err y ≡ Said pool s li n lv c k r
         unfolding inside
         said_stops y d = walked_stops 6 li _ _ y _ _ w ew d ∙ sym said_in
 
@@ -105,15 +105,15 @@ module _ (pool s : List ℕ) (li n lv c k : ℕ) (r : Role) (l : n ≤ 1024) whe
   label_starts h e = record { few = few li (kids_at s) n lv c k e h; shallow = shallow li (kids_at s) n lv c k e h l; read = e; same = refl }
 
   module _ (c' k' : ℕ) (r' : Role) (o : Onward pool s li n lv c k r c' k' r') where
-    pub label_ends : c' ≤ 0 → Labelled pool s li n lv c k r (End k')
+    pub label_ends : c' ≤ 0 → Labelled pool s li n lv c k r (Ok k')
     label_ends h = record { says = said_none pool s li n lv c' k' r' (omega arith) ∙ o.same }
 
     module _ (h : 0 < c') (b : Bool) (eb : b ≡ fitting r' (name_of pool s k')) where
-      pub label_bad : not b ≡ true → Labelled pool s li n lv c k r (Refused (refusal_of 6 li k'))
+      pub label_bad : not b ≡ true → Labelled pool s li n lv c k r (Err (refusal_of 6 li k'))
       label_bad t = record { says = said_bad pool s li n lv c' k' r' o.read (λ z. omega arith) (sym eb ∙ not-true b t) ∙ o.same }
 
       module _ (t : not b ≡ false) (m : ℕ) (em : m ≡ kids_at s k') (q : Role) (eq : q ≡ first (kind_at s k')) (w : Walked) (ew : Labelled pool s li n (lv - 1) m (k' + 1) q w) where
-        pub label_goes : (j : ℕ) (q' : Role) → w ≡ End j → q' ≡ after r' → Onward pool s li n lv c k r (c' - 1) j q'
+        pub label_goes : (j : ℕ) (q' : Role) → w ≡ Ok j → q' ≡ after r' → Onward pool s li n lv c k r (c' - 1) j q'
         label_goes j q' d e =
             let nx = sym (walked_end 6 li _ j _ w ew.says d).1 in
             let jn = next_in li (kids_at s) n lv c' k' o.read m (λ z. omega arith) em j (omega arith) nx in
@@ -125,14 +125,14 @@ module _ (pool s : List ℕ) (li n lv c k : ℕ) (r : Role) (l : n ≤ 1024) whe
               same = rw e (said_goes pool s li n lv c' k' r' o.read (λ z. omega arith) m em (sym eb ∙ not-false b t) q eq w ew.says j d ∙ o.same);
             }
 
-        pub label_stops : (y : Refusal) → w ≡ Refused y → Labelled pool s li n lv c k r (Refused y)
+        pub label_stops : (y : Refusal) → w ≡ Err y → Labelled pool s li n lv c k r (Err y)
         label_stops y d = record { says = said_stops pool s li n lv c' k' r' o.read (λ z. omega arith) m em (sym eb ∙ not-false b t) q eq w ew.says y d ∙ o.same }
 
       -- inside a leaf no name is wrong
       pub label_leaf : not b ≡ false → (m : ℕ) → m ≡ kids_at s k' → m ≡ 0 → (q' : Role) → q' ≡ after r' → Onward pool s li n lv c k r (c' - 1) (k' + 1) q'
       label_leaf t m em z q' e =
           let q = first (kind_at s k') in
-          label_goes t m em q refl (End (k' + 1)) (record { says = said_none pool s li n (lv - 1) m (k' + 1) q z }) (k' + 1) q' refl e
+          label_goes t m em q refl (Ok (k' + 1)) (record { says = said_none pool s li n (lv - 1) m (k' + 1) q z }) (k' + 1) q' refl e
 
     -- what the calls ask
     pub label_reads : (m : ℕ) → 0 < c' → m ≡ kids_at s k' → reads li (kids_at s) n (lv - 1) m (k' + 1) ≡ true

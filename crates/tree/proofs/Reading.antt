@@ -6,8 +6,8 @@ use native.Mathlib.Omega.{arith}
 use borrow.Author.Tests.{lt-ltb, le-ltb}
 use Rattle.record.specs.declared.Refusal.{Refusal}
 use Rattle.paper.specs.Answer.{Answer, ok, refused, ◌>>=◌}
-use Rattle.tree.specs.declared.Walked.{Walked}
-use Rattle.tree.specs.declared.Walked.TheVariants.{End, Refused}
+use Rattle.tree.specs.Answers.{Walked}
+use Rattle.std.specs.Prelude.{Ok, Err}
 use Rattle.paper.specs.Layout.{Part, nothing, before, deep, row_with, row}
 use Rattle.record.specs.Says.{refusal_of}
 use Rattle.tree.specs.Says.{ended}
@@ -41,12 +41,12 @@ unfolding ◌>>=◌ ended
 ended_before k a (ok b) = refl
 ended_before k a (refused n l p) = refl
 
-ended_goes : (x : Answer Part) (f : ℕ → Answer Part) (k j : ℕ) (w : Walked) → w ≡ ended x → w ≡ End j → ended (x >>= λ a. f a.next >>= λ b. ok (before k a b)) ≡ ended (f j)
+ended_goes : (x : Answer Part) (f : ℕ → Answer Part) (k j : ℕ) (w : Walked) → w ≡ ended x → w ≡ Ok j → ended (x >>= λ a. f a.next >>= λ b. ok (before k a b)) ≡ ended (f j)
 unfolding ◌>>=◌ ended
 ended_goes (ok a) f k j w e d = let q : a.next ≡ j = cc in ended_before k a (f a.next) ∙ rw q
 ended_goes (refused n l p) f k j w e d = let z : ◌≡◌ {A = ℕ} 0 1 = cc in absurd (omega arith)
 
-ended_stops : (x : Answer Part) (f : ℕ → Answer Part) (k : ℕ) (t : Refusal) (w : Walked) → w ≡ ended x → w ≡ Refused t → Refused t ≡ ended (x >>= λ a. f a.next >>= λ b. ok (before k a b))
+ended_stops : (x : Answer Part) (f : ℕ → Answer Part) (k : ℕ) (t : Refusal) (w : Walked) → w ≡ ended x → w ≡ Err t → Err t ≡ ended (x >>= λ a. f a.next >>= λ b. ok (before k a b))
 unfolding ◌>>=◌ ended
 ended_stops (ok a) f k t w e d = let z : ◌≡◌ {A = ℕ} 0 1 = cc in absurd (omega arith)
 ended_stops (refused n l p) f k t w e d = cc
@@ -58,15 +58,15 @@ ended_last (ok a) f k h = rw (h a.next)
 ended_last (refused n l p) f k h = refl
 
 module _ (li : ℕ) (kids : ℕ → ℕ) (n lv c k : ℕ) where
-  pub end_none : c ≡ 0 → End k ≡ ended (row li kids n lv c k)
+  pub end_none : c ≡ 0 → Ok k ≡ ended (row li kids n lv c k)
   unfolding ended
   end_none e = rw (row_none li kids n lv c k e)
 
-  pub end_deep : lv ≡ 0 → (c ≡ 0 → ⊥) → Refused (refusal_of 5 li k) ≡ ended (row li kids n lv c k)
+  pub end_deep : lv ≡ 0 → (c ≡ 0 → ⊥) → Err (refusal_of 5 li k) ≡ ended (row li kids n lv c k)
   unfolding ended
   end_deep e h = rw (row_deep li kids n lv c k e h)
 
-  pub end_past : (lv ≡ 0 → ⊥) → (c ≡ 0 → ⊥) → n ≤ k → Refused (refusal_of 5 li k) ≡ ended (row li kids n lv c k)
+  pub end_past : (lv ≡ 0 → ⊥) → (c ≡ 0 → ⊥) → n ≤ k → Err (refusal_of 5 li k) ≡ ended (row li kids n lv c k)
   unfolding ended
   end_past e h l = rw (row_past li kids n lv c k e h l)
 
@@ -74,8 +74,8 @@ module _ (li : ℕ) (kids : ℕ → ℕ) (n lv c k : ℕ) where
   end_last m p e l em = sym (rw (row_in li kids n lv c k p (λ z. omega arith) l, ← em) (ended_last (row li kids n (lv - 1) m (k + 1)) (λ i. row li kids n lv (c - 1) i) k (λ j. row_none li kids n lv (c - 1) j (omega arith))))
 
   module _ (m : ℕ) (w : Walked) (p : lv ≡ 0 → ⊥) (q : c ≡ 0 → ⊥) (l : k < n) (em : m ≡ kids k) (ew : w ≡ ended (row li kids n (lv - 1) m (k + 1))) where
-    pub end_goes : (j : ℕ) (r : Walked) → w ≡ End j → r ≡ ended (row li kids n lv (c - 1) j) → r ≡ ended (row li kids n lv c k)
+    pub end_goes : (j : ℕ) (r : Walked) → w ≡ Ok j → r ≡ ended (row li kids n lv (c - 1) j) → r ≡ ended (row li kids n lv c k)
     end_goes j r e f = f ∙ sym (rw (row_in li kids n lv c k p q l, ← em) (ended_goes (row li kids n (lv - 1) m (k + 1)) (λ i. row li kids n lv (c - 1) i) k j w ew e))
 
-    pub end_stops : (t : Refusal) → w ≡ Refused t → Refused t ≡ ended (row li kids n lv c k)
+    pub end_stops : (t : Refusal) → w ≡ Err t → Err t ≡ ended (row li kids n lv c k)
     end_stops t e = rw (row_in li kids n lv c k p q l, ← em) (ended_stops (row li kids n (lv - 1) m (k + 1)) (λ i. row li kids n lv (c - 1) i) k t w ew e)

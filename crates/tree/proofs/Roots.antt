@@ -9,10 +9,8 @@ use borrow.Author.Tests.{lt-ltb, le-ltb}
 use Rattle.record.specs.declared.Refusal.{Refusal}
 use Rattle.paper.specs.Answer.{Answer, ok, refused, ◌>>=◌}
 use Rattle.paper.specs.Forest.{siblings}
-use Rattle.tree.specs.declared.Walked.{Walked}
-use Rattle.tree.specs.declared.Walked.TheVariants as walked
-use Rattle.tree.specs.declared.Shaped.{Shaped}
-use Rattle.tree.specs.declared.Shaped.TheVariants as shaped
+use Rattle.tree.specs.Answers.{Walked, Shaped}
+use Rattle.std.specs.Prelude.{Ok, Err}
 use Rattle.paper.specs.Layout.{Part, nothing, before, row, roots}
 use Rattle.tree.specs.Says.{ended, rooted}
 use Rattle.tree.proofs.Reading.{row_none, row_in, end_none}
@@ -35,12 +33,12 @@ unfolding ◌>>=◌ siblings rooted
 rooted_before i k a (ok b) = let e : i + suc (siblings b.trees) ≡ i + 1 + siblings b.trees = omega arith in rw e
 rooted_before i k a (refused n l p) = refl
 
-rooted_goes : (x : Answer Part) (f : ℕ → Answer Part) (i k j : ℕ) (w : Walked) → w ≡ ended x → w ≡ walked.End j → rooted i (x >>= λ a. f a.next >>= λ b. ok (before k a b)) ≡ rooted (i + 1) (f j)
+rooted_goes : (x : Answer Part) (f : ℕ → Answer Part) (i k j : ℕ) (w : Walked) → w ≡ ended x → w ≡ Ok j → rooted i (x >>= λ a. f a.next >>= λ b. ok (before k a b)) ≡ rooted (i + 1) (f j)
 unfolding ◌>>=◌ rooted ended
 rooted_goes (ok a) f i k j w e d = let q : a.next ≡ j = cc in rooted_before i k a (f a.next) ∙ rw q
 rooted_goes (refused n l p) f i k j w e d = let z : ◌≡◌ {A = ℕ} 0 1 = cc in absurd (omega arith)
 
-rooted_stops : (x : Answer Part) (f : ℕ → Answer Part) (i k : ℕ) (t : Refusal) (w : Walked) → w ≡ ended x → w ≡ walked.Refused t → shaped.Refused t ≡ rooted i (x >>= λ a. f a.next >>= λ b. ok (before k a b))
+rooted_stops : (x : Answer Part) (f : ℕ → Answer Part) (i k : ℕ) (t : Refusal) (w : Walked) → w ≡ ended x → w ≡ Err t → Err t ≡ rooted i (x >>= λ a. f a.next >>= λ b. ok (before k a b))
 unfolding ◌>>=◌ rooted ended
 rooted_stops (ok a) f i k t w e d = let z : ◌≡◌ {A = ℕ} 0 1 = cc in absurd (omega arith)
 rooted_stops (refused n l p) f i k t w e d = cc
@@ -58,7 +56,7 @@ module _ (li : ℕ) (kids : ℕ → ℕ) (n : ℕ) where
   left_starts = record { turns = n; few = omega arith; within = omega arith; enough = omega arith; same = refl }
 
   module _ (W : Shaped) (i k m : ℕ) (w : Walked) (h : Left li kids n W i k) (l : k < n) (em : m ≡ kids k) (ew : w ≡ ended (row li kids n 15 m (k + 1))) where
-    pub left_goes : (j : ℕ) → w ≡ walked.End j → Left li kids n W (i + 1) j
+    pub left_goes : (j : ℕ) → w ≡ Ok j → Left li kids n W (i + 1) j
     left_goes j d =
         let r = end_room li kids n 15 m (k + 1) j w ew d in
         record {
@@ -69,14 +67,14 @@ module _ (li : ℕ) (kids : ℕ → ℕ) (n : ℕ) where
           same = h.same ∙ rw (roots_in li kids n h.turns k l h.enough, ← em) (rooted_goes (row li kids n 15 m (k + 1)) (λ i. roots li kids n (h.turns - 1) i) i k j w ew d);
         }
 
-    pub left_stops : (t : Refusal) → w ≡ walked.Refused t → shaped.Refused t ≡ W
+    pub left_stops : (t : Refusal) → w ≡ Err t → Err t ≡ W
     left_stops t d = sym (h.same ∙ rw (roots_in li kids n h.turns k l h.enough, ← em) (sym (rooted_stops (row li kids n 15 m (k + 1)) (λ i. roots li kids n (h.turns - 1) i) i k t w ew d)))
 
   -- the inside of a leaf ends where it begins
   pub left_leaf : (W : Shaped) (i k m : ℕ) → Left li kids n W i k → k < n → m ≡ kids k → m ≡ 0 → Left li kids n W (i + 1) (k + 1)
-  left_leaf W i k m h l em z = left_goes W i k m (walked.End (k + 1)) h l em (end_none li kids n 15 m (k + 1) z) (k + 1) refl
+  left_leaf W i k m h l em z = left_goes W i k m (Ok (k + 1)) h l em (end_none li kids n 15 m (k + 1) z) (k + 1) refl
 
-  pub left_ends : (W : Shaped) (i k : ℕ) → Left li kids n W i k → n ≤ k → shaped.Roots i ≡ W
+  pub left_ends : (W : Shaped) (i k : ℕ) → Left li kids n W i k → n ≤ k → Ok i ≡ W
   unfolding siblings rooted
   left_ends W i k h l = sym (h.same ∙ rw (roots_past li kids n h.turns k l, add-zero i))
 

@@ -8,8 +8,8 @@ use Rattle.paper.specs.Answer.{Answer, ok, refused}
 use Rattle.paper.specs.Bytes.{kids_at}
 use Rattle.paper.specs.Layout.{Part, nothing, before, row}
 use Rattle.record.specs.declared.Refusal.{Refusal}
-use Rattle.tree.specs.declared.Walked.{Walked}
-use Rattle.tree.specs.declared.Walked.TheVariants.{End, Refused}
+use Rattle.tree.specs.Answers.{Walked}
+use Rattle.std.specs.Prelude.{Ok, Err}
 use Rattle.tree.specs.Says.{ended}
 use Rattle.tree.specs.Read.{got, fine, part, reads, Rowed, Standing}
 use Rattle.laws.proofs.Written.{siblings_size}
@@ -82,10 +82,10 @@ shallow li kids n (suc lv) c k s h l = omega (arith, few li kids n (suc lv) c k 
 -- ---- where a row and a tree end
 
 module _ (li : ℕ) (s : List ℕ) (n lv c k : ℕ) (w : Walked) (h : Rowed li s n lv c k) (ew : w ≡ ended (row li (kids_at s) n lv c k)) where
-  pub end_is : (j : ℕ) → w ≡ End j → j ≡ (part li (kids_at s) n lv c k).next
+  pub end_is : (j : ℕ) → w ≡ Ok j → j ≡ (part li (kids_at s) n lv c k).next
   end_is j e = ended_ok _ (row li (kids_at s) n lv c k) w j ew e λ p ep en. sym (ap (λ (z : Part). z.next) (part_is li (kids_at s) n lv c k p ep) ∙ en)
 
-  pub end_not : (t : Refusal) (j : ℕ) → w ≡ Refused t → j ≡ (part li (kids_at s) n lv c k).next
+  pub end_not : (t : Refusal) (j : ℕ) → w ≡ Err t → j ≡ (part li (kids_at s) n lv c k).next
   end_not t j e = absurd (ended_no (row li (kids_at s) n lv c k) (part li (kids_at s) n lv c k) w t (was_read li (kids_at s) n lv c k h.read) ew e)
 
 -- the inside of a record, as a row

@@ -11,20 +11,18 @@ use Rattle.paper.specs.Bytes.{kids_at}
 use Rattle.paper.specs.Decode.{fields}
 use Rattle.paper.specs.Layout.{Part}
 use Rattle.tree.specs.Read.{part}
-use Rattle.tree.specs.declared.Walked.{Walked}
-use Rattle.tree.specs.declared.Walked.TheVariants as walked
-use Rattle.tree.specs.declared.Shaped.{Shaped}
-use Rattle.tree.specs.declared.Shaped.TheVariants as shaped
+use Rattle.tree.specs.Answers.{Walked, Shaped}
+use Rattle.std.specs.Prelude.{Ok, Err}
 
 -- where a row ends
 unfoldable pub ended : Answer Part → Walked
-ended (ok p) = walked.End p.next
-ended (refused n l p) = walked.Refused (refusal_of n l p)
+ended (ok p) = Ok p.next
+ended (refused n l p) = Err (refusal_of n l p)
 
 -- a walk over a row that ends at `next`, with a test
 unfoldable pub walked_to : ℕ → ℕ → ℕ → Option ℕ → Walked
-walked_to number list next none = walked.End next
-walked_to number list next (some p) = walked.Refused (refusal_of number list p)
+walked_to number list next none = Ok next
+walked_to number list next (some p) = Err (refusal_of number list p)
 
 -- what a walk over c trees from slot k on, of which the first has role r, says of their names
 pub record Labelled (pool records : List ℕ) (list n lv c k : ℕ) (r : Role) (w : Walked) : Type 0 where
@@ -32,9 +30,9 @@ pub record Labelled (pool records : List ℕ) (list n lv c k : ℕ) (r : Role) (
 
 -- how many roots there are, after i that were passed
 unfoldable pub rooted : ℕ → Answer Part → Shaped
-rooted i (ok p) = shaped.Roots (i + siblings p.trees)
-rooted i (refused n l p) = shaped.Refused (refusal_of n l p)
+rooted i (ok p) = Ok (i + siblings p.trees)
+rooted i (refused n l p) = Err (refusal_of n l p)
 
 unfoldable pub decoded : Answer (Forest Field) → Shaped
-decoded (ok t) = shaped.Roots (siblings t)
-decoded (refused n l p) = shaped.Refused (refusal_of n l p)
+decoded (ok t) = Ok (siblings t)
+decoded (refused n l p) = Err (refusal_of n l p)

@@ -17,7 +17,7 @@ ghost use Rattle.tree.specs.Fits.{Passed, Seated, Planted, Fits, AllFit};
 ghost use Rattle.tree.specs.Only.{only_read};
 
 use paper::{Role, first_role, next_role};
-use record::{Check, Refusal, check_bounds, check_bytes, equal, kids_at, kind_at, name_at, sift};
+use record::{Refusal, check_bounds, check_bytes, equal, kids_at, kind_at, name_at, sift};
 use record_limits::sized;
 
 // Where a walk over a row of trees ends, or why it stops.
@@ -36,7 +36,7 @@ pub enum Shaped {
 
 // Where `count` trees from `slot` on end, with `levels` levels left for them, or refusal 5. A loop over the siblings, which goes on
 // inside the last of them.
-pub fn row_end(recs: &[u8], n: usize, slot: usize, count: u32, levels: usize, list: u32) -> Walked
+pub fn row_end(recs: &[u8], n: usize, slot: usize, count: u32, levels: usize, list: u32) -> Result<usize, Refusal>
     requires { (n * 24 ≤ length recs.now) × (n ≤ 1024) × (slot ≤ n) }
     ensures { result ≡ ended (row list (kids_at recs.now) n levels count slot) }
 {
@@ -46,7 +46,7 @@ pub fn row_end(recs: &[u8], n: usize, slot: usize, count: u32, levels: usize, li
     while 0 < left {
         // refusal 5: level 17
         if spare == 0 {
-            return Walked::Refused(Refusal {
+            return Err(Refusal {
                 number: 5,
                 list,
                 place: at as u32,
@@ -54,7 +54,7 @@ pub fn row_end(recs: &[u8], n: usize, slot: usize, count: u32, levels: usize, li
         }
         // refusal 5: past the end
         if n <= at {
-            return Walked::Refused(Refusal {
+            return Err(Refusal {
                 number: 5,
                 list,
                 place: at as u32,
@@ -75,16 +75,16 @@ pub fn row_end(recs: &[u8], n: usize, slot: usize, count: u32, levels: usize, li
             continue;
         }
         match row_end(recs, n, at + 1, kids, spare - 1, list) {
-            Walked::End(next) => {
+            Ok(next) => {
                 at = next;
             }
-            Walked::Refused(r) => {
-                return Walked::Refused(r);
+            Err(r) => {
+                return Err(r);
             }
         }
         left -= 1;
     }
-    Walked::End(at)
+    Ok(at)
 }
 
 // Where `count` trees end that were read from `slot` on: the slot behind their last record.
@@ -93,7 +93,7 @@ pub fn row_past(recs: &[u8], n: usize, slot: usize, count: u32, levels: usize, l
     ensures { result ≡ (part list (kids_at recs.now) n levels count slot).next }
 {
     let walked = row_end(recs, n, slot, count, levels, list);
-    let Walked::End(next) = walked else {
+    let Ok(next) = walked else {
         return slot;
     };
     next
@@ -109,7 +109,7 @@ pub fn tree_end(recs: &[u8], n: usize, slot: usize, levels: usize, list: u32) ->
 }
 
 // The number of roots, or refusal 5.
-pub fn check_shape(recs: &[u8], n: usize, list: u32) -> Shaped
+pub fn check_shape(recs: &[u8], n: usize, list: u32) -> Result<u32, Refusal>
     requires { (n * 24 ≤ length recs.now) × (n ≤ 1024) }
     ensures { result ≡ rooted 0 (roots list (kids_at recs.now) n n 0) }
 {
@@ -124,16 +124,16 @@ pub fn check_shape(recs: &[u8], n: usize, list: u32) -> Shaped
             continue;
         }
         match row_end(recs, n, slot + 1, kids, 15, list) {
-            Walked::End(next) => {
+            Ok(next) => {
                 slot = next;
                 count += 1;
             }
-            Walked::Refused(r) => {
-                return Shaped::Refused(r);
+            Err(r) => {
+                return Err(r);
             }
         }
     }
-    Shaped::Roots(count)
+    Ok(count)
 }
 
 // Whether a record of this role may have this name.
@@ -175,7 +175,7 @@ pub fn check_labels(
     levels: usize,
     role: Role,
     list: u32,
-) -> Walked
+) -> Result<usize, Refusal>
     requires { (n * 24 ≤ length recs.now) × (n ≤ 1024) × (slot ≤ n)
         × (reads list (kids_at recs.now) n levels count slot ≡ true)
         × (lowest (in_pool (length pool.now) recs.now) 0 n ≡ none) }
@@ -187,7 +187,7 @@ pub fn check_labels(
     let mut part = role;
     while 0 < left {
         if !label_ok(recs, pool, at, part) {
-            return Walked::Refused(Refusal {
+            return Err(Refusal {
                 number: 6,
                 list,
                 place: at as u32,
@@ -203,17 +203,17 @@ pub fn check_labels(
         }
         let inside = inside_role(recs, at);
         match check_labels(recs, pool, n, at + 1, kids, levels - 1, inside, list) {
-            Walked::End(next) => {
+            Ok(next) => {
                 at = next;
             }
-            Walked::Refused(r) => {
-                return Walked::Refused(r);
+            Err(r) => {
+                return Err(r);
             }
         }
         part = next_role(part);
         left -= 1;
     }
-    Walked::End(at)
+    Ok(at)
 }
 
 // Whether the names directly inside a record are seen to fit. Behind a key with an inside its value is not looked for.
@@ -256,45 +256,41 @@ fn labels_fit(recs: &[u8], pool: &[u8], n: usize, nested: bool) -> bool
 }
 
 // Where the roots end, or refusal 6. Where the loop does not see all fit, the walk tells.
-fn label_roots(recs: &[u8], pool: &[u8], n: usize, count: u32, nested: bool, list: u32) -> Walked
+fn label_roots(recs: &[u8], pool: &[u8], n: usize, count: u32, nested: bool, list: u32) -> Result<usize, Refusal>
     requires { Planted list pool.now recs.now n count × (nested ≡ false → lowest (flat recs.now) 0 n ≡ none) }
     ensures { Labelled pool.now recs.now list n 16 count 0 Member result }
 {
     if labels_fit(recs, pool, n, nested) {
-        return Walked::End(n);
+        return Ok(n);
     }
     check_labels(recs, pool, n, 0, count, 16, Role::Member, list)
 }
 
 // Refusals 3 to 6, or the number of roots: what `decode` gives. Refusal 2 is tested before it, for everything at once, hence the length.
-pub fn check_tree(recs: &[u8], pool: &[u8], list: u32) -> Shaped
+pub fn check_tree(recs: &[u8], pool: &[u8], list: u32) -> Result<u32, Refusal>
     requires { length recs.now ≤ 24576 }
     ensures { result ≡ decoded (decode list recs.now pool.now) }
 {
     let n = recs.len() / 24;
     let sifted = sift(recs, n, pool.len());
-    if let Check::Refused(r) = check_bytes(recs, sifted.fine, n, list) {
-        return Shaped::Refused(r);
-    }
-    if let Check::Refused(r) = check_bounds(recs, sifted.fine, n, pool.len(), list) {
-        return Shaped::Refused(r);
-    }
+    check_bytes(recs, sifted.fine, n, list)?;
+    check_bounds(recs, sifted.fine, n, pool.len(), list)?;
     match check_shape(recs, n, list) {
-        Shaped::Roots(count) => match label_roots(recs, pool, n, count, sifted.nested, list) {
-            Walked::End(_) => Shaped::Roots(count),
-            Walked::Refused(r) => Shaped::Refused(r),
+        Ok(count) => match label_roots(recs, pool, n, count, sifted.nested, list) {
+            Ok(_) => Ok(count),
+            Err(r) => Err(r),
         },
-        Shaped::Refused(r) => Shaped::Refused(r),
+        Err(r) => Err(r),
     }
 }
 
 // Refusals 2 to 6, or the number of roots, of a tree that is only read.
-pub fn read_tree(recs: &[u8], pool: &[u8]) -> Shaped
+pub fn read_tree(recs: &[u8], pool: &[u8]) -> Result<u32, Refusal>
     ensures { result ≡ decoded (only_read recs.now pool.now) }
 {
     if !sized(recs, pool) {
         // refusal 2
-        return Shaped::Refused(Refusal {
+        return Err(Refusal {
             number: 2,
             list: 0,
             place: 0,

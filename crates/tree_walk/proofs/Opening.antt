@@ -13,7 +13,7 @@ use Rattle.paper.specs.Decode.{fields, decode}
 use Rattle.laws.proofs.Basics.{unbind, ok_is}
 use Rattle.laws.proofs.Taken as taken
 use Rattle.laws.proofs.Fitting.{siblings_mapped, names_below, sum_within, sized_slots}
-use Rattle.tree.specs.declared.Shaped.TheVariants.{Roots}
+use Rattle.std.specs.Prelude.{Ok}
 use Rattle.tree.specs.Says.{decoded}
 use Rattle.tree.proofs.Filled.{full}
 use Rattle.tree.proofs.Steps.{part_is, reads_is}
@@ -30,10 +30,10 @@ pub record Opened (s pool : List ℕ) (c : ℕ) : Type 0 where
   pub past : (row_of s 16 c 0).next ≡ slots s
   pub names : name_bytes (fields pool s (row_of s 16 c 0).trees) ≤ 32768
 
-pub opened : (s pool : List ℕ) (c : ℕ) → sized s pool ≡ true → Roots c ≡ decoded (decode 0 s pool) → Opened s pool c
+pub opened : (s pool : List ℕ) (c : ℕ) → sized s pool ≡ true → Ok c ≡ decoded (decode 0 s pool) → Opened s pool c
 unfolding decode fields name_sum
 opened s pool c z e =
-    decode_ok _ (decode 0 s pool) (Roots c) c e refl λ t et ct.
+    decode_ok _ (decode 0 s pool) (Ok c) c e refl λ t et ct.
     unbind _ _ et λ _ e₁ a₁. unbind _ _ a₁ λ _ e₂ a₂. unbind _ _ a₂ λ p e₃ a₃. unbind _ _ a₃ λ _ e₄ a₄.
     let u = p.trees in
     let o = taken.roots_take 0 (kids_at s) (slots s) (slots s) 0 p e₃ in

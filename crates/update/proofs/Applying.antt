@@ -23,11 +23,9 @@ use Rattle.paper.specs.Rebuild.{arrivals, rebuilt, carried_out, update}
 use Rattle.paper.specs.Visited.{visited}
 use Rattle.paper.specs.Entries.{Result, request_in, update_entry}
 use Rattle.paper.specs.Outcome.{Buffer, for_records, for_names, Answers}
-use Rattle.record.specs.declared.Check.{Check}
-use Rattle.record.specs.declared.Check.TheVariants as check
+use Rattle.record.specs.Answers.{Check, Changed}
+use Rattle.std.specs.Prelude.{Ok, Err}
 use Rattle.record.specs.declared.Refusal.{Refusal}
-use Rattle.record.specs.declared.Changed.{Changed}
-use Rattle.record.specs.declared.Changed.TheVariants as changed
 use Rattle.record.specs.Says.{changes}
 use Rattle.record.specs.Trees.{Trees, Lists, stored_in, lent_in}
 use Rattle.record.proofs.Testing.{checked_ok, checked_refused, refuses}
@@ -41,12 +39,10 @@ use Rattle.index.specs.Index.{Readable, BaseIndexed}
 use Rattle.update_edits.specs.Marks.{Unmarked}
 use Rattle.update_rebuild.specs.declared.Given.{Given}
 use Rattle.update_rebuild.specs.Planned.{drops_in, unders_in}
-use Rattle.update_request.specs.declared.Opened.{Opened}
-use Rattle.update_request.specs.declared.Opened.TheVariants as it
+use Rattle.update_request.specs.Answers.{Opened}
 use Rattle.update_request.specs.Opened.{Forests, both_trees, readable, opening, opened, Opens}
 use Rattle.update_request.proofs.Opening.{open_refused}
-use Rattle.update_schema.specs.declared.Decided.{Decided}
-use Rattle.update_schema.specs.declared.Decided.TheVariants as decided
+use Rattle.update_schema.specs.Answers.{Decided}
 use Rattle.update_schema.specs.Base.{DecisionsRoom}
 use Rattle.update_dropped.specs.Gathered.{row_ids}
 use Rattle.update_schema.specs.Additions.{parents_in}
@@ -57,7 +53,7 @@ use Rattle.update.proofs.Settling.{Contents, contents}
 abbrev result_of : ℕ → Schema → Result
 result_of visits u = record { tree = u.tree; identifiers = []; last = turned u.last; visited = visits }
 
-open_ok : (P : Type 0) (x : Answer Forests) (c k : ℕ) → it.Roots c k ≡ opened x → ((base added : Forest Field) → x ≡ ok (both_trees base added) → c ≡ siblings base → k ≡ siblings added → P) → P
+open_ok : (P : Type 0) (x : Answer Forests) (c k : ℕ) → Ok (c, k) ≡ opened x → ((base added : Forest Field) → x ≡ ok (both_trees base added) → c ≡ siblings base → k ≡ siblings added → P) → P
 unfolding opened
 open_ok P (ok v) c k e f = f v.base v.added refl (let z : c ≡ siblings v.base = cc in z) (let z : k ≡ siblings v.added = cc in z)
 open_ok P (refused n l q) c k e f = let z : ◌≡◌ {A = ℕ} 0 1 = cc in absurd (omega arith)
@@ -71,7 +67,7 @@ end_joined (refused n l k) y u f = refl
 
 -- ---- what passed 1 to 6
 
-module _ (l : Trees) (lists : Lists) (version rr rn : ℕ) (w : Opened) (o : Opens l lists version rr rn w) (roots columns : ℕ) (q : w ≡ it.Roots roots columns) where
+module _ (l : Trees) (lists : Lists) (version rr rn : ℕ) (w : Opened) (o : Opens l lists version rr rn w) (roots columns : ℕ) (q : w ≡ Ok (roots, columns)) where
   record Through : Type 0 where
     pub passed : Passed l lists
     pub rooms : room rr rn ≡ true
@@ -103,7 +99,7 @@ module _ (l : Trees) (lists : Lists) (version rr rn : ℕ) (w : Opened) (o : Ope
     (identifiers_most _ _ true (sym limits) refl, (p, i)),
   )
 
-  pub decide_asks : (x : Check) (plan plan' index : List (List ℕ)) → BaseIndexed l (slots l.records) lists.identifiers x plan plan' index → x ≡ check.Fine
+  pub decide_asks : (x : Check) (plan plan' index : List (List ℕ)) → BaseIndexed l (slots l.records) lists.identifiers x plan plan' index → x ≡ (Ok tt)
       → (g last : ℕ) → (g ≡ turned last) × (g < 4294967296) → (decisions : List (List ℕ)) → DecisionsRoom decisions → (marks : List ℕ) → Unmarked marks → Decidable l lists g columns plan' index decisions marks
   decide_asks x plan plan' index b d g last eg decisions r marks u =
       record {
@@ -160,11 +156,11 @@ module _ (l : Trees) (lists : Lists) (last version : ℕ) (out text : List ℕ) 
       go (ok e) (ok g) (ok h) (ok t) (ok m) (ok j) (ok q) (ok i) f = refl
 
   module _ (w : Opened) (o : Opens l lists version (length out) (length text) w) where
-    pub open_stops : (y : Refusal) → w ≡ it.Refused y → EndsSo (changed.Refused y) out text
+    pub open_stops : (y : Refusal) → w ≡ Err y → EndsSo (Err y) out text
     unfolding ◌>>=◌
     open_stops y q = refuses _ y buffers (entry_is ∙ rw (open_refused open_first w y (o.says last) q))
 
-    module _ (roots columns : ℕ) (q : w ≡ it.Roots roots columns) where
+    module _ (roots columns : ℕ) (q : w ≡ Ok (roots, columns)) where
       abbrev opened_as : Through l lists version (length out) (length text) w o roots columns q
       opened_as = through l lists version (length out) (length text) w o roots columns q
 
@@ -182,7 +178,7 @@ module _ (l : Trees) (lists : Lists) (last version : ℕ) (out text : List ℕ) 
       goes = entry_is ∙ rw (opened_as.opens last)
 
       module _ (x : Check) (plan plan' index : List (List ℕ)) (b : BaseIndexed l (slots l.records) lists.identifiers x plan plan' index) where
-        pub test_stops : (y : Refusal) → x ≡ check.Refused y → EndsSo (changed.Refused y) out text
+        pub test_stops : (y : Refusal) → x ≡ Err y → EndsSo (Err y) out text
         unfolding update planned ◌>>=◌
         test_stops y d =
             refuses _ y buffers
@@ -193,11 +189,11 @@ module _ (l : Trees) (lists : Lists) (last version : ℕ) (out text : List ℕ) 
           goes_at = goes ∙ ap (λ (z : ℕ). carried z base added) (sym eg.0)
 
           module _ (y : Decided) (decisions' : List (List ℕ)) (marks' : List ℕ) (v : Settles l lists g version y decisions' marks') where
-            pub decide_stops : (f : Refusal) → y ≡ decided.Refused f → EndsSo (changed.Refused f) out text
+            pub decide_stops : (f : Refusal) → y ≡ Err f → EndsSo (Err f) out text
             unfolding update ◌>>=◌
             decide_stops f z = refuses _ f buffers (goes_at ∙ rw (v.refusal base added opened_as.passed.read f z))
 
-            module _ (consumed : ℕ) (z : y ≡ decided.Last consumed) (given : Given) (eg' : given ≡ given_in l lists consumed version) where
+            module _ (consumed : ℕ) (z : y ≡ Ok consumed) (given : Given) (eg' : given ≡ given_in l lists consumed version) where
               the_plan : Settled l lists g version base added decisions' marks' consumed
               the_plan = v.accepted base added opened_as.passed.read consumed z
 

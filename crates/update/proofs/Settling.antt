@@ -18,8 +18,8 @@ use Rattle.paper.specs.Lists.{ok_deletion, ok_addition, path_in, ok_edit, edit_i
 use Rattle.paper.specs.Edits.{Edited, edited_all}
 use Rattle.paper.specs.Limits.{sized_update}
 use Rattle.paper.specs.Update.{Plan, deleted, Placed, planned}
-use Rattle.record.specs.declared.Check.{Check}
-use Rattle.record.specs.declared.Check.TheVariants as check
+use Rattle.record.specs.Answers.{Check}
+use Rattle.std.specs.Prelude.{Ok, Err}
 use Rattle.record.specs.declared.Refusal.{Refusal}
 use Rattle.record.specs.Says.{refusal_of}
 use Rattle.record.specs.Trees.{Trees, Lists, stored_in, lent_in}
@@ -38,8 +38,7 @@ use Rattle.update_edited.specs.Editing.{Editable, EditsLeft, EditsBy, EditsIn}
 use Rattle.update_rebuild.specs.declared.Given.{Given}
 use Rattle.update_rebuild.specs.Planned.{drops_in, unders_in, firsts_in, starts_in}
 use Rattle.update_request.specs.Opened.{Forests, both_trees, readable}
-use Rattle.update_schema.specs.declared.Decided.{Decided}
-use Rattle.update_schema.specs.declared.Decided.TheVariants as decided
+use Rattle.update_schema.specs.Answers.{Decided}
 use Rattle.update_schema.specs.Base.{BasedIn, Entries, DecisionsRoom}
 use Rattle.update_dropped.specs.Gathered.{row_ids}
 use Rattle.update_schema.specs.Additions.{ColumnsIn, parents_in, all_placed, Placings}
@@ -134,7 +133,7 @@ module _ (l : Trees) (lists : Lists) (last version columns : ℕ) (plan index de
   paths_are = length_from (parent_path l.request_pool lists.additions) 0 a
 
   module _ (g : Given) (eg : g ≡ given_in l lists last version) where
-    pub count_stops : (decisions' : List (List ℕ)) → (columns ≡ g.additions → ⊥) → Settles l lists last version (decided.Refused (refusal_of 10 3 0)) decisions' marks
+    pub count_stops : (decisions' : List (List ℕ)) → (columns ≡ g.additions → ⊥) → Settles l lists last version (Err (refusal_of 10 3 0)) decisions' marks
     unfolding planned ◌>>=◌
     count_stops decisions' other =
         record {
@@ -238,7 +237,7 @@ module _ (l : Trees) (lists : Lists) (last version columns : ℕ) (plan index de
             (drops_in decisions') (unders_in decisions') (firsts_in decisions') (starts_in decisions')
         at_tree base e = rw (base_is base e) at (rw eg at v)
 
-        pub changes_stop : (w : Refusal) → y ≡ decided.Refused w → Settles l lists last version (decided.Refused w) decisions' marks
+        pub changes_stop : (w : Refusal) → y ≡ Err w → Settles l lists last version (Err w) decisions' marks
         unfolding changes
         changes_stop w z =
             record {
@@ -252,7 +251,7 @@ module _ (l : Trees) (lists : Lists) (last version columns : ℕ) (plan index de
                   rw (← f) (planned_is base added e ∙ chain_refused (dropping base) (placing base) (edited_plan base) w.number w.list w.place p);
             }
 
-        module _ (j : ℕ) (z : y ≡ decided.Last j) where
+        module _ (j : ℕ) (z : y ≡ Ok j) where
           placings : (base : Forest Field) → decode 0 l.records l.pool ≡ ok base
               → Placings (changes base (id_list lists.identifiers) l.request_pool lists.deletions d l.added_records lists.additions a m last) l.request_pool l.added_records a m last j (unders_in decisions') (firsts_in decisions') (starts_in decisions')
           placings base e = rw z at (at_tree base e).by
@@ -271,7 +270,7 @@ module _ (l : Trees) (lists : Lists) (last version columns : ℕ) (plan index de
             edits_at : (base : Forest Field) → decode 0 l.records l.pool ≡ ok base → EditsBy x (editing base (row_ids (drops_in decisions') d)) l n marks'
             edits_at base e = rw (base_is base e) at (rw eg at b).by
 
-            pub edits_stop : (w : Refusal) → x ≡ check.Refused w → Settles l lists last version (decided.Refused w) decisions' marks'
+            pub edits_stop : (w : Refusal) → x ≡ Err w → Settles l lists last version (Err w) decisions' marks'
             unfolding ◌>>=◌
             edits_stop w q =
                 record {
@@ -284,7 +283,7 @@ module _ (l : Trees) (lists : Lists) (last version columns : ℕ) (plan index de
                       rw (← t) (planned_at base added e ∙ rw p);
                 }
 
-            pub all_settled : x ≡ check.Fine → Settles l lists last version (decided.Last j) decisions' marks'
+            pub all_settled : x ≡ (Ok tt) → Settles l lists last version (Ok j) decisions' marks'
             unfolding ◌>>=◌
             all_settled q =
                 record {

@@ -22,8 +22,8 @@ use Rattle.update_edits.specs.Marks.{Unmarked, Carries}
 use Rattle.update_rebuild.specs.declared.Given.{Given}
 use Rattle.update_rebuild.specs.Planned.{drops_in, unders_in, ResolvedIn, additions_in}
 use Rattle.update_request.specs.Opened.{both_trees, readable}
-use Rattle.update_schema.specs.declared.Decided.{Decided}
-use Rattle.update_schema.specs.declared.Decided.TheVariants as decided
+use Rattle.update_schema.specs.Answers.{Decided}
+use Rattle.std.specs.Prelude.{Ok, Err}
 use Rattle.update_schema.specs.Base.{DecisionsRoom}
 use Rattle.update_dropped.specs.Gathered.{row_ids}
 use Rattle.update_schema.specs.Additions.{parents_in}
@@ -83,8 +83,8 @@ pub record Settled (l : Trees) (lists : Lists) (last version : ℕ) (base added 
 
 -- The base's 7 to 9 were passed, so this is 10 to 18 and 22, then 23, 24, 13 and 26 of the edits.
 pub record Settles (l : Trees) (lists : Lists) (last version : ℕ) (r : Decided) (decisions : List (List ℕ)) (marks : List ℕ) : Type 0 where
-  pub accepted : (base added : Forest Field) → readable l lists ≡ ok (both_trees base added) → (consumed : ℕ) → r ≡ decided.Last consumed
+  pub accepted : (base added : Forest Field) → readable l lists ≡ ok (both_trees base added) → (consumed : ℕ) → r ≡ Ok consumed
       → Settled l lists last version base added decisions marks consumed
   pub unmarked : entries 16 l.edits ≡ 0 → Unmarked marks
-  pub refusal : (base added : Forest Field) → readable l lists ≡ ok (both_trees base added) → (x : Refusal) → r ≡ decided.Refused x
+  pub refusal : (base added : Forest Field) → readable l lists ≡ ok (both_trees base added) → (x : Refusal) → r ≡ Err x
       → planned_in l lists last version base added ≡ refused x.number x.list x.place

@@ -12,15 +12,12 @@ ghost use Rattle.update.specs.Updating.{given_in, Decidable, Settles};
 use index::index_base;
 use index_ids::IndexRows;
 use plan::PlanRows;
-use record::{
-    ADDED_RECORDS, ADDITIONS, Changed, Check, DELETIONS, EDITS, IDENTIFIERS, Lists, RECORDS,
-    Refusal, Trees, long, turn,
-};
+use record::{Lists, Refusal, Trees, long, turn};
 use update_edited::edit_columns;
 use update_edits::Marks;
 use update_rebuild::{Decisions, Given};
-use update_request::{Opened, open_update};
-use update_schema::{Decided, decide_changes};
+use update_request::{open_update};
+use update_schema::{decide_changes};
 use update_write::write_rebuilt;
 
 // The last id plus 2^31, from its bits, to count on in 64 bits.
@@ -36,11 +33,11 @@ fn given_of<'a>(trees: &Trees<'a>, lists: &Lists<'a>, last: u64, version: u32) -
         last version }
 {
     Given {
-        base: trees[RECORDS].len() / 24,
-        added: trees[ADDED_RECORDS].len() / 24,
-        deletions: lists[DELETIONS].len() / 8,
-        additions: lists[ADDITIONS].len() / 8,
-        edits: trees[EDITS].len() / 16,
+        base: trees.records.len() / 24,
+        added: trees.added_records.len() / 24,
+        deletions: lists.deletions.len() / 8,
+        additions: lists.additions.len() / 8,
+        edits: trees.edits.len() / 16,
         last,
         version,
     }
@@ -58,7 +55,7 @@ fn decide<'a>(
     index: &IndexRows,
     decisions: &mut Decisions,
     marks: &mut Marks,
-) -> Decided
+) -> Result<u64, Refusal>
     requires { Decidable (trees_in trees.now) (lists_in lists.now) last columns plan.now
         index.now decisions.old marks.old }
     ensures { Settles (trees_in trees.now) (lists_in lists.now) last
@@ -67,18 +64,18 @@ fn decide<'a>(
     let given = given_of(trees, lists, last, version);
     if columns as usize != given.additions {
         // refusal 10
-        return Decided::Refused(Refusal {
+        return Err(Refusal {
             number: 10,
             list: 3,
             place: 0,
         });
     }
     match decide_changes(trees, lists, given, plan, index, decisions) {
-        Decided::Refused(r) => Decided::Refused(r),
-        Decided::Last(consumed) => {
+        Err(r) => Err(r),
+        Ok(consumed) => {
             match edit_columns(trees, given, plan, index, decisions, marks) {
-                Check::Refused(r) => Decided::Refused(r),
-                Check::Fine => Decided::Last(consumed),
+                Err(r) => Err(r),
+                Ok(()) => Ok(consumed),
             }
         }
     }
@@ -92,7 +89,7 @@ pub fn update<'a>(
     version: u32,
     out_records: &mut [u8],
     out_names: &mut [u8],
-) -> Changed
+) -> Result<Sizes, Refusal>
     ensures { Answers changes
         (update_entry (stored_in (trees_in trees.now) last_id)
         (lent_in (trees_in trees.now) (lists_in lists.now) version
@@ -102,16 +99,13 @@ pub fn update<'a>(
 {
     // open
     match open_update(trees, lists, version, out_records.len(), out_names.len()) {
-        Opened::Refused(r) => Changed::Refused(r),
-        Opened::Roots(roots, columns) => {
-            let mut plan = [[0u32; 1024]; 3];
+        Err(r) => Err(r),
+        Ok((roots, columns)) => {
+            let mut plan = PlanRows::empty();
             let mut index = [[0u16; 1024]; 8];
             // test
-            let n = trees[RECORDS].len() / 24;
-            let sound = index_base(trees, n, lists[IDENTIFIERS], &mut plan, &mut index);
-            if let Check::Refused(r) = sound {
-                return Changed::Refused(r);
-            }
+            let n = trees.records.len() / 24;
+            index_base(trees, n, lists.identifiers, &mut plan, &mut index)?;
             // decide
             let last = counted(last_id);
             let mut decisions = [[0u64; 64]; 4];
@@ -127,11 +121,11 @@ pub fn update<'a>(
                 &mut decisions,
                 &mut marks,
             ) {
-                Decided::Refused(r) => Changed::Refused(r),
+                Err(r) => Err(r),
                 // plan, test, write
-                Decided::Last(consumed) => write_rebuilt(
+                Ok(consumed) => write_rebuilt(
                     trees,
-                    lists[IDENTIFIERS],
+                    lists.identifiers,
                     given_of(trees, lists, consumed, version),
                     roots,
                     &decisions,

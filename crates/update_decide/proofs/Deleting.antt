@@ -16,10 +16,9 @@ use Rattle.laws.proofs.Words.{turned_twice}
 use Rattle.laws.proofs.Runs.{from_step, from_done, from_all}
 use Rattle.record.specs.declared.FieldId.{FieldId}
 use Rattle.record.specs.declared.Slot.{Slot}
-use Rattle.record.specs.declared.Found.{Found}
-use Rattle.record.specs.declared.Found.TheVariants.{At, Nothing}
+use Rattle.record.specs.Answers.{Found}
+use Rattle.std.specs.Prelude.{Ok, Err, Some, None}
 use Rattle.record.specs.Says.{found_row, refusal_of}
-use Rattle.update_decide.specs.declared.Dropping.TheVariants as dropping
 use Rattle.update_decide.specs.Entry.{Known, dropped_id, drops, Deleted}
 
 -- ---- the identifiers
@@ -55,46 +54,46 @@ known : (r : Row) → Known (some r) → r.field.id < 4294967296
 unfolding Known
 known r h = h
 
-found_is : (x : FieldId) (k : Slot) (r : Row) → At x k ≡ found_row (some r) → x.0 ≡ turned r.field.id
+found_is : (x : FieldId) (k : Slot) (r : Row) → Some (x, k) ≡ found_row (some r) → x.0 ≡ turned r.field.id
 unfolding found_row
 found_is x k r e = let z : x ≡ record { 0 = turned r.field.id } = cc in rw z
 
-pub at_none : (x : FieldId) (k : Slot) → At x k ≡ found_row none → ⊥
+pub at_none : (x : FieldId) (k : Slot) → Some (x, k) ≡ found_row none → ⊥
 unfolding found_row
 at_none x k e = let z : ◌≡◌ {A = ℕ} 0 1 = cc in omega arith
 
-pub nothing_some : (r : Row) → Nothing ≡ found_row (some r) → ⊥
+pub nothing_some : (r : Row) → None ≡ found_row (some r) → ⊥
 unfolding found_row
 nothing_some r e = let z : ◌≡◌ {A = ℕ} 0 1 = cc in omega arith
 
-pub drop_nothing : (f : Found) (ids : List ℕ) (k : ℕ) → f ≡ Nothing → Deleted f ids k (dropping.Refused (refusal_of 11 2 k))
+pub drop_nothing : (f : Found) (ids : List ℕ) (k : ℕ) → f ≡ None → Deleted f ids k (Err (refusal_of 11 2 k))
 unfolding dropped_id ◌>>=◌ drops
 drop_nothing f ids k e = record { says = λ o. go o }
   where
-    go : (o : Option Row) → Known o → f ≡ found_row o → dropping.Refused (refusal_of 11 2 k) ≡ drops (dropped_id o ids k)
+    go : (o : Option Row) → Known o → f ≡ found_row o → Err (refusal_of 11 2 k) ≡ drops (dropped_id o ids k)
     go none h q = refl
     go (some r) h q = absurd (nothing_some r (sym e ∙ q))
 
-pub id_back : (f : Found) (x : FieldId) (p : Slot) (r : Row) → f ≡ At x p → Known (some r) → f ≡ found_row (some r) → turned x.0 ≡ r.field.id
+pub id_back : (f : Found) (x : FieldId) (p : Slot) (r : Row) → f ≡ Some (x, p) → Known (some r) → f ≡ found_row (some r) → turned x.0 ≡ r.field.id
 id_back f x p r e h q = ap turned (found_is x p r (sym e ∙ q)) ∙ turned_twice r.field.id (known r h)
 
-module _ (f : Found) (ids : List ℕ) (k : ℕ) (x : FieldId) (p : Slot) (b : Bool) (e : f ≡ At x p) (eb : b ≡ among (turned x.0) ids) where
+module _ (f : Found) (ids : List ℕ) (k : ℕ) (x : FieldId) (p : Slot) (b : Bool) (e : f ≡ Some (x, p)) (eb : b ≡ among (turned x.0) ids) where
   asked : (r : Row) → Known (some r) → f ≡ found_row (some r) → among r.field.id ids ≡ b
   asked r h q = ap (λ (z : ℕ). among z ids) (sym (id_back f x p r e h q)) ∙ sym eb
 
-  pub drop_identifier : b ≡ true → Deleted f ids k (dropping.Refused (refusal_of 12 2 k))
+  pub drop_identifier : b ≡ true → Deleted f ids k (Err (refusal_of 12 2 k))
   unfolding dropped_id ◌>>=◌ drops
   drop_identifier t = record { says = λ o. go o }
     where
-      go : (o : Option Row) → Known o → f ≡ found_row o → dropping.Refused (refusal_of 12 2 k) ≡ drops (dropped_id o ids k)
+      go : (o : Option Row) → Known o → f ≡ found_row o → Err (refusal_of 12 2 k) ≡ drops (dropped_id o ids k)
       go none h q = absurd (at_none x p (sym e ∙ q))
       go (some r) h q = rw (asked r h q, t)
 
-  pub drop_goes : b ≡ false → Deleted f ids k (dropping.Id x)
+  pub drop_goes : b ≡ false → Deleted f ids k (Ok x)
   unfolding dropped_id ◌>>=◌ drops
   drop_goes t = record { says = λ o. go o }
     where
-      go : (o : Option Row) → Known o → f ≡ found_row o → dropping.Id x ≡ drops (dropped_id o ids k)
+      go : (o : Option Row) → Known o → f ≡ found_row o → Ok x ≡ drops (dropped_id o ids k)
       go none h q = absurd (at_none x p (sym e ∙ q))
       go (some r) h q = rw (asked r h q, t, ← (found_is x p r (sym e ∙ q)))
 

@@ -13,14 +13,11 @@ use Rattle.paper.specs.Update.{member_taken}
 use Rattle.laws.proofs.Words.{turned_twice}
 use Rattle.record.specs.declared.FieldId.{FieldId}
 use Rattle.record.specs.declared.Slot.{Slot}
-use Rattle.record.specs.declared.Check.TheVariants as check
-use Rattle.record.specs.declared.Found.{Found}
-use Rattle.record.specs.declared.Found.TheVariants.{At, Nothing}
+use Rattle.std.specs.Prelude.{Ok, Err, Some, None}
+use Rattle.record.specs.Answers.{Found}
 use Rattle.record.specs.Says.{found_row, refusal_of, checked}
 use Rattle.update_gone.specs.Gone.{slot_id, ids_gone}
 use Rattle.update_parents.specs.Target.{members_at}
-use Rattle.update_decide.specs.declared.Going.TheVariants as going
-use Rattle.update_decide.specs.declared.Fresh.TheVariants as fresh
 use Rattle.update_decide.specs.Entry.{Known, unbarred, goes, root_place, AtRoot, taken_at, under_place, freshly}
 use Rattle.update_decide.proofs.Deleting.{at_none, nothing_some, id_back}
 
@@ -30,16 +27,16 @@ module _ (pool s : List ℕ) (k p : ℕ) (y : List ℕ) (b : Bool) (ey : y ≡ n
   dot : among 46 (name_of pool s k) ≡ b
   dot = ap (λ (z : List ℕ). among 46 z) (sym ey) ∙ sym eb
 
-  pub added_dot : b ≡ true → check.Refused (refusal_of 13 3 p) ≡ checked (unbarred pool s k p)
+  pub added_dot : b ≡ true → Err (refusal_of 13 3 p) ≡ checked (unbarred pool s k p)
   unfolding unbarred ◌>>=◌ checked
   added_dot q = rw (dot, q)
 
   module _ (q : b ≡ false) where
-    pub added_required : (f : ℕ) → f ≡ (rec_at s k).flags → f ≡ 1 → check.Refused (refusal_of 14 3 p) ≡ checked (unbarred pool s k p)
+    pub added_required : (f : ℕ) → f ≡ (rec_at s k).flags → f ≡ 1 → Err (refusal_of 14 3 p) ≡ checked (unbarred pool s k p)
     unfolding unbarred ◌>>=◌ checked
     added_required f e g = rw (dot, q, ← e, eq-eqb f 1 g)
 
-    pub added_fine : (f : ℕ) → f ≡ (rec_at s k).flags → (f ≡ 1 → ⊥) → check.Fine ≡ checked (unbarred pool s k p)
+    pub added_fine : (f : ℕ) → f ≡ (rec_at s k).flags → (f ≡ 1 → ⊥) → (Ok tt) ≡ checked (unbarred pool s k p)
     unfolding unbarred ◌>>=◌ checked
     added_fine f e g = rw (dot, q, ← e, ne_eqb f 1 g)
 
@@ -47,31 +44,31 @@ pub ruleset adding = (added_dot, added_required, added_fine)
 
 -- ---- at the root
 
-pub root_free : (f : Found) (ds : List ℕ) (k : ℕ) → f ≡ Nothing → AtRoot f ds k (going.Under 0)
+pub root_free : (f : Found) (ds : List ℕ) (k : ℕ) → f ≡ None → AtRoot f ds k (Ok 0)
 unfolding root_place ◌>>=◌ goes
 root_free f ds k e = record { says = λ o. go o }
   where
-    go : (o : Option Row) → Known o → f ≡ found_row o → going.Under 0 ≡ goes (root_place o ds k)
+    go : (o : Option Row) → Known o → f ≡ found_row o → Ok 0 ≡ goes (root_place o ds k)
     go none h q = refl
     go (some r) h q = absurd (nothing_some r (sym e ∙ q))
 
-module _ (f : Found) (ds : List ℕ) (k : ℕ) (x : FieldId) (p : Slot) (b : Bool) (e : f ≡ At x p) (eb : b ≡ among (turned x.0) ds) where
+module _ (f : Found) (ds : List ℕ) (k : ℕ) (x : FieldId) (p : Slot) (b : Bool) (e : f ≡ Some (x, p)) (eb : b ≡ among (turned x.0) ds) where
   asked : (r : Row) → Known (some r) → f ≡ found_row (some r) → among r.field.id ds ≡ b
   asked r h q = ap (λ (z : ℕ). among z ds) (sym (id_back f x p r e h q)) ∙ sym eb
 
-  pub root_dropped : b ≡ true → AtRoot f ds k (going.Under 0)
+  pub root_dropped : b ≡ true → AtRoot f ds k (Ok 0)
   unfolding root_place ◌>>=◌ goes
   root_dropped t = record { says = λ o. go o }
     where
-      go : (o : Option Row) → Known o → f ≡ found_row o → going.Under 0 ≡ goes (root_place o ds k)
+      go : (o : Option Row) → Known o → f ≡ found_row o → Ok 0 ≡ goes (root_place o ds k)
       go none h q = absurd (at_none x p (sym e ∙ q))
       go (some r) h q = rw (asked r h q, t)
 
-  pub root_stands : b ≡ false → AtRoot f ds k (going.Refused (refusal_of 17 3 k))
+  pub root_stands : b ≡ false → AtRoot f ds k (Err (refusal_of 17 3 k))
   unfolding root_place ◌>>=◌ goes
   root_stands t = record { says = λ o. go o }
     where
-      go : (o : Option Row) → Known o → f ≡ found_row o → going.Refused (refusal_of 17 3 k) ≡ goes (root_place o ds k)
+      go : (o : Option Row) → Known o → f ≡ found_row o → Err (refusal_of 17 3 k) ≡ goes (root_place o ds k)
       go none h q = absurd (at_none x p (sym e ∙ q))
       go (some r) h q = rw (asked r h q, t)
 
@@ -94,16 +91,16 @@ module _ (pool s : List ℕ) (n slot : ℕ) (ds x : List ℕ) (i : ℕ) (b : Boo
 pub ruleset taking = (taken_nowhere, taken_there)
 
 module _ (pool s : List ℕ) (n slot : ℕ) (ds : List ℕ) (k : ℕ) (x : List ℕ) (b : Bool) (eb : b ≡ among (slot_id s slot) (ids_gone s n ds)) where
-  pub under_gone : b ≡ true → going.Refused (refusal_of 22 3 k) ≡ goes (under_place pool s n slot ds k x)
+  pub under_gone : b ≡ true → Err (refusal_of 22 3 k) ≡ goes (under_place pool s n slot ds k x)
   unfolding under_place ◌>>=◌ goes
   under_gone t = rw (← eb, t)
 
   module _ (t : b ≡ false) (g : Bool) (eg : g ≡ taken_at pool s n slot ds x) where
-    pub under_taken : g ≡ true → going.Refused (refusal_of 17 3 k) ≡ goes (under_place pool s n slot ds k x)
+    pub under_taken : g ≡ true → Err (refusal_of 17 3 k) ≡ goes (under_place pool s n slot ds k x)
     unfolding under_place ◌>>=◌ goes
     under_taken q = rw (← eb, t, ← eg, q)
 
-    pub under_free : (i u : ℕ) → g ≡ false → i ≡ (rec_at s slot).id → i < 4294967296 → u ≡ i + 1 → going.Under u ≡ goes (under_place pool s n slot ds k x)
+    pub under_free : (i u : ℕ) → g ≡ false → i ≡ (rec_at s slot).id → i < 4294967296 → u ≡ i + 1 → Ok u ≡ goes (under_place pool s n slot ds k x)
     unfolding under_place ◌>>=◌ goes
     under_free i u q ei hi e = rw (← eb, t, ← eg, q, ← ei, turned_twice i hi, e, add-one i)
 
@@ -111,11 +108,11 @@ pub ruleset joining = (under_gone, under_taken, under_free)
 
 -- ---- 18
 
-pub fresh_over : (last m k : ℕ) → 4294967295 < last + m → fresh.Refused (refusal_of 18 3 k) ≡ freshly last m k
+pub fresh_over : (last m k : ℕ) → 4294967295 < last + m → Err (refusal_of 18 3 k) ≡ freshly last m k
 unfolding freshly
 fresh_over last m k h = rw (lt-ltb 4294967295 (last + m) h)
 
-pub fresh_ids : (last m k start : ℕ) → last + m ≤ 4294967295 → start ≡ turned (last + 1) → fresh.Ids start (last + m) ≡ freshly last m k
+pub fresh_ids : (last m k start : ℕ) → last + m ≤ 4294967295 → start ≡ turned (last + 1) → Ok (start, (last + m)) ≡ freshly last m k
 unfolding freshly
 fresh_ids last m k start h e = rw (le-ltb 4294967295 (last + m) h, e, add-one last)
 

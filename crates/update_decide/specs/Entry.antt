@@ -12,18 +12,13 @@ use Rattle.paper.specs.Gone.{gone_columns}
 use Rattle.paper.specs.Update.{root_taken, member_taken, receiver}
 use Rattle.record.specs.declared.FieldId.{FieldId}
 use Rattle.record.specs.declared.Slot.{Slot}
-use Rattle.record.specs.declared.Found.{Found}
-use Rattle.record.specs.declared.Found.TheVariants as found
+use Rattle.record.specs.Answers.{Found}
+use Rattle.std.specs.Prelude.{Ok, Err, Some}
 use Rattle.record.specs.Says.{refusal_of, found_row}
 use Rattle.tree.specs.Read.{Standing}
 use Rattle.update_gone.specs.Gone.{base_slots, slot_id, ids_gone}
 use Rattle.update_parents.specs.Target.{members_at, Stands}
-use Rattle.update_decide.specs.declared.Dropping.{Dropping}
-use Rattle.update_decide.specs.declared.Dropping.TheVariants as dropping
-use Rattle.update_decide.specs.declared.Going.{Going}
-use Rattle.update_decide.specs.declared.Going.TheVariants as going
-use Rattle.update_decide.specs.declared.Fresh.{Fresh}
-use Rattle.update_decide.specs.declared.Fresh.TheVariants as fresh
+use Rattle.update_decide.specs.Answers.{Dropping, Going, Fresh}
 
 -- The id of a row has 32 bits.
 unfoldable pub Known : Option Row → Type 0
@@ -39,8 +34,8 @@ dropped_id o identifiers k = do
   ok r.field.id
 
 unfoldable pub drops : Answer ℕ → Dropping
-drops (ok i) = dropping.Id (record { 0 = turned i })
-drops (refused n l p) = dropping.Refused (refusal_of n l p)
+drops (ok i) = Ok (record { 0 = turned i })
+drops (refused n l p) = Err (refusal_of n l p)
 
 pub record Deleted (f : Found) (identifiers : List ℕ) (k : ℕ) (r : Dropping) : Type 0 where
   pub says : (o : Option Row) → Known o → f ≡ found_row o → r ≡ drops (dropped_id o identifiers k)
@@ -54,9 +49,9 @@ unbarred pool records slot k = do
   fillable k (eqb (rec_at records slot).flags 1)
 
 unfoldable pub goes : Answer (Option ℕ) → Going
-goes (ok none) = going.Under 0
-goes (ok (some i)) = going.Under (suc (turned i))
-goes (refused n l p) = going.Refused (refusal_of n l p)
+goes (ok none) = Ok 0
+goes (ok (some i)) = Ok (suc (turned i))
+goes (refused n l p) = Err (refusal_of n l p)
 
 -- 17 at the root
 unfoldable pub root_place : Option Row → (dropped : List ℕ) → (k : ℕ) → Answer (Option ℕ)
@@ -94,11 +89,11 @@ parent_place tree o dropped k x = do
 
 -- What was found is a record of the list, and its bytes are in order.
 pub record FoundSited (pool records : List ℕ) (n : ℕ) (f : Found) : Type 0 where
-  pub at : (x : FieldId) (p : Slot) → f ≡ found.At x p → Sited pool records n p.0 × (ok_bytes records p.0 ≡ true)
+  pub at : (x : FieldId) (p : Slot) → f ≡ Some (x, p) → Sited pool records n p.0 × (ok_bytes records p.0 ≡ true)
 
 pub record UnderParent (f : Found) (pool records : List ℕ) (n : ℕ) (dropped : List ℕ) (k : ℕ) (x : List ℕ) (r : Going) : Type 0 where
   pub says : (o : Option Row) → ((row : Row) → o ≡ some row → Stands pool records n row) → f ≡ found_row o → r ≡ goes (parent_place (fields pool records (base_slots records n)) o dropped k x)
 
 -- 18; ids from last + 1 on
 unfoldable pub freshly : (last records k : ℕ) → Fresh
-freshly last records k = cond (ltb highest (last + records)) (fresh.Refused (refusal_of 18 3 k)) (fresh.Ids (turned (suc last)) (last + records))
+freshly last records k = cond (ltb highest (last + records)) (Err (refusal_of 18 3 k)) (Ok ((turned (suc last)), (last + records)))

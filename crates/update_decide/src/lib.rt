@@ -12,13 +12,11 @@ ghost use Rattle.record.specs.Says.{checked};
 ghost use Rattle.update_decide.specs.Entry.{Deleted, unbarred, goes, AtRoot, taken_at, under_place, Sited, FoundSited, UnderParent, freshly};
 
 use index_ids::IndexRows;
-use record::{
-    Check, FieldId, Found, Refusal, flags_at, has_dot, id_bits_at, name_at, turn_back, under_of,
-};
+use record::{FieldId, Refusal, flags_at, has_dot, id_bits_at, name_at, turn_back, under_of};
 use record_entries::id_at;
 use update_dropped::holds;
 use update_gone::is_gone;
-use update_parents::{Target, name_taken, resolve_parent_target};
+use update_parents::{name_taken, resolve_parent_target};
 
 // The id that a deletion drops, or refusal 11 or 12.
 #[derive(Clone, Copy)]
@@ -59,13 +57,13 @@ pub fn is_identifier(identifiers: &[u8], id: FieldId) -> bool
 }
 
 // One deletion. A found column that is no identifier is dropped.
-pub fn drop_one(found: Found, identifiers: &[u8], place: u32) -> Dropping
+pub fn drop_one(found: Option<(FieldId, Slot)>, identifiers: &[u8], place: u32) -> Result<FieldId, Refusal>
     requires { length identifiers.now ≤ 256 }
     ensures { Deleted found (id_list identifiers.now) place result }
 {
-    let Found::At(id, _) = found else {
+    let Some((id, _)) = found else {
         // refusal 11
-        return Dropping::Refused(Refusal {
+        return Err(Refusal {
             number: 11,
             list: 2,
             place,
@@ -73,24 +71,24 @@ pub fn drop_one(found: Found, identifiers: &[u8], place: u32) -> Dropping
     };
     if is_identifier(identifiers, id) {
         // refusal 12
-        return Dropping::Refused(Refusal {
+        return Err(Refusal {
             number: 12,
             list: 2,
             place,
         });
     }
-    Dropping::Id(id)
+    Ok(id)
 }
 
 // Refusals 13 and 14 of the added column at a slot: a dot in its own name; required, without initial default.
-pub fn check_added(recs: &[u8], pool: &[u8], slot: usize, place: u32) -> Check
+pub fn check_added(recs: &[u8], pool: &[u8], slot: usize, place: u32) -> Result<(), Refusal>
     requires { (slot * 24 + 24 ≤ length recs.now)
         × (in_pool (length pool.now) recs.now slot ≡ true) }
     ensures { result ≡ checked (unbarred pool.now recs.now slot place) }
 {
     if has_dot(name_at(pool, recs, slot)) {
         // refusal 13
-        return Check::Refused(Refusal {
+        return Err(Refusal {
             number: 13,
             list: 3,
             place,
@@ -98,28 +96,28 @@ pub fn check_added(recs: &[u8], pool: &[u8], slot: usize, place: u32) -> Check
     }
     if flags_at(recs, slot) == 1 {
         // refusal 14
-        return Check::Refused(Refusal {
+        return Err(Refusal {
             number: 14,
             list: 3,
             place,
         });
     }
-    Check::Fine
+    Ok(())
 }
 
 // A root addition: its name is taken if look-up found it undeleted.
-pub fn place_at_root(found: Found, place: u32, dropped: &[u32; 64], drops: usize) -> Going
+pub fn place_at_root(found: Option<(FieldId, Slot)>, place: u32, dropped: &[u32; 64], drops: usize) -> Result<u64, Refusal>
     requires { Good (set_of dropped.now drops) }
     ensures { AtRoot found (dropped_ids (set_of dropped.now drops)) place result }
 {
-    let Found::At(id, _) = found else {
-        return Going::Under(0);
+    let Some((id, _)) = found else {
+        return Ok(0);
     };
     if holds(dropped, drops, id) {
-        return Going::Under(0);
+        return Ok(0);
     }
     // refusal 17
-    Going::Refused(Refusal {
+    Err(Refusal {
         number: 17,
         list: 3,
         place,
@@ -157,7 +155,7 @@ fn join(
     place: u32,
     dropped: &[u32; 64],
     drops: usize,
-) -> Going
+) -> Result<u64, Refusal>
     requires { Sited pool.now recs.now n slot × Rises recs.now n (ups_in index.now)
         × Good (set_of dropped.now drops) }
     ensures { result ≡ goes (under_place pool.now recs.now n slot
@@ -165,7 +163,7 @@ fn join(
 {
     if is_gone(recs, n, index, slot, dropped, drops) {
         // refusal 22
-        return Going::Refused(Refusal {
+        return Err(Refusal {
             number: 22,
             list: 3,
             place,
@@ -173,18 +171,18 @@ fn join(
     }
     if is_taken(recs, pool, n, slot, name, dropped, drops) {
         // refusal 17
-        return Going::Refused(Refusal {
+        return Err(Refusal {
             number: 17,
             list: 3,
             place,
         });
     }
-    Going::Under(under_of(id_bits_at(recs, slot)))
+    Ok(under_of(id_bits_at(recs, slot)))
 }
 
 // An addition under a parent: the struct that its path leads to by one step receives it.
 pub fn place_under(
-    found: Found,
+    found: Option<(FieldId, Slot)>,
     recs: &[u8],
     pool: &[u8],
     n: usize,
@@ -193,24 +191,24 @@ pub fn place_under(
     place: u32,
     dropped: &[u32; 64],
     drops: usize,
-) -> Going
+) -> Result<u64, Refusal>
     requires { FoundSited pool.now recs.now n found × Rises recs.now n (ups_in index.now)
         × Good (set_of dropped.now drops) }
     ensures { UnderParent found pool.now recs.now n
         (dropped_ids (set_of dropped.now drops)) place name.now result }
 {
-    let Found::At(_, parent) = found else {
+    let Some((_, parent)) = found else {
         // refusal 15
-        return Going::Refused(Refusal {
+        return Err(Refusal {
             number: 15,
             list: 3,
             place,
         });
     };
     let target = resolve_parent_target(recs, n, parent.0);
-    let Target::Struct(slot) = target else {
+    let Some(slot) = target else {
         // refusal 16
-        return Going::Refused(Refusal {
+        return Err(Refusal {
             number: 16,
             list: 3,
             place,
@@ -220,18 +218,18 @@ pub fn place_under(
 }
 
 // The ids of an addition, in preorder after the last one that was consumed.
-pub fn assign_fresh_ids(last: u64, records: usize, place: u32) -> Fresh
+pub fn assign_fresh_ids(last: u64, records: usize, place: u32) -> Result<(u32, u64), Refusal>
     requires { (last < 4294967296) × (records ≤ 1024) }
     ensures { result ≡ freshly last records place }
 {
     let end = last + records as u64;
     if 4294967295 < end {
         // refusal 18
-        return Fresh::Refused(Refusal {
+        return Err(Refusal {
             number: 18,
             list: 3,
             place,
         });
     }
-    Fresh::Ids(turn_back(last + 1), end)
+    Ok((turn_back(last + 1), end))
 }

@@ -20,9 +20,8 @@ use Rattle.laws.proofs.Going.{gone_same}
 use Rattle.laws.proofs.Runs.{from_step, from_done, from_all}
 use Rattle.record.specs.declared.Refusal.{Refusal}
 use Rattle.record.specs.declared.Slot.{Slot}
-use Rattle.record.specs.declared.Found.{Found}
-use Rattle.record.specs.declared.Check.{Check}
-use Rattle.record.specs.declared.Check.TheVariants as check
+use Rattle.record.specs.Answers.{Found, Check}
+use Rattle.std.specs.Prelude.{Ok, Err}
 use Rattle.record.specs.Says.{found_row}
 use Rattle.record.specs.Trees.{Trees}
 use Rattle.record_entries.specs.declared.PathList.TheVariants.{Edits}
@@ -32,7 +31,6 @@ use Rattle.index_ids.specs.Table.{ups_in}
 use Rattle.update_dropped.specs.Set.{dropped_ids, Good}
 use Rattle.update_dropped.specs.Gathered.{row_ids, Gathered}
 use Rattle.update_gone.specs.Gone.{base_slots, Rises}
-use Rattle.update_edits.specs.declared.Editing.TheVariants as editing
 use Rattle.update_edits.specs.declared.Editing as declared
 use Rattle.update_edits.specs.Edit.{Lands, Named, change_of, edited_at, EditedBy, OneEdited}
 use Rattle.update_edits.specs.Marks.{as_marked, Carries, marked_by}
@@ -105,12 +103,12 @@ module _ (l : Trees) (version n total : ℕ) (t : Forest Field) (ds : List ℕ) 
       here earlier = ap (edited_all t ds k earlier) (from_step asked k total b) ∙ rw (add-one k)
 
       module _ (r : declared.Editing) (a : (earlier : List Edited) → Carries l n marks earlier → EditedBy r (decided earlier) l.records n (asked k).change) where
-        pub edit_stops : (x : Refusal) → r ≡ editing.Refused x → whole ≡ refused x.number x.list x.place
+        pub edit_stops : (x : Refusal) → r ≡ Err x → whole ≡ refused x.number x.list x.place
         edit_stops x q =
             let e : decided H.earlier ≡ refused x.number x.list x.place = rw q at (a H.earlier H.carries) in
             H.left ∙ here H.earlier ∙ bind_not _ _ x.number x.list x.place e
 
-        pub edit_goes : (s : Slot) (marks' : List ℕ) → r ≡ editing.At s
+        pub edit_goes : (s : Slot) (marks' : List ℕ) → r ≡ Ok s
             → ((earlier : List Edited) → Carries l n marks earlier → s.0 < n → Carries l n marks' (earlier ++ (edited_at l.records s.0 (asked k).change ∷ [])))
             → Editing (k + 1) marks'
         edit_goes s marks' q f =
@@ -168,14 +166,14 @@ module _ (l : Trees) (given : Given) (plan index : List (List ℕ)) (marks₀ : 
       one_says earlier c =
           rw base_is (edited_is rises_here l.pool given.version l.request_pool l.edits k ds marks earlier f r (rw (← base_is, ← ep) ef) c.told o)
 
-      pub all_stop : (x : Refusal) → r ≡ editing.Refused x → all_edited l given plan ds ≡ refused x.number x.list x.place
+      pub all_stop : (x : Refusal) → r ≡ Err x → all_edited l given plan ds ≡ refused x.number x.list x.place
       all_stop x q = edit_stops l given.version n given.edits t ds k marks H b r one_says x q
 
-      pub all_go : (s : Slot) (marks' : List ℕ) → r ≡ editing.At s → marks' ≡ set marks s.0 (marked_by l.edits k (get_or marks s.0 0)) → Editing l given.version n given.edits t ds (k + 1) marks'
+      pub all_go : (s : Slot) (marks' : List ℕ) → r ≡ Ok s → marks' ≡ set marks s.0 (marked_by l.edits k (get_or marks s.0 0)) → Editing l given.version n given.edits t ds (k + 1) marks'
       all_go s marks' q e =
           edit_goes l given.version n given.edits t ds k marks H b r one_says s marks' q (λ earlier c i. carries_more c rises_here given.version k s.0 i (named_here k b) marks' e)
 
-      pub mark_asks : (s : Slot) → r ≡ editing.At s → (s.0 < 1024) × (k < 64) × (k * 16 + 16 ≤ length l.edits)
+      pub mark_asks : (s : Slot) → r ≡ Ok s → (s.0 < 1024) × (k < 64) × (k * 16 + 16 ≤ length l.edits)
       mark_asks s q =
           let few = h.based.plan.few in
           let i : s.0 < n = (rw q at (one_says H.earlier H.carries)).0 in
@@ -187,7 +185,7 @@ module _ (l : Trees) (given : Given) (plan index : List (List ℕ)) (marks₀ : 
 
   -- ---- behind the deletions
 
-  pub none_asked : (decisions : List (List ℕ)) → given.edits ≡ 0 → EditsIn l given plan decisions check.Fine marks₀
+  pub none_asked : (decisions : List (List ℕ)) → given.edits ≡ 0 → EditsIn l given plan decisions (Ok tt) marks₀
   none_asked decisions e =
       let ds = row_ids (drops_in decisions) given.deletions in
       record { by = edit_ends l given.version n given.edits t ds 0 marks₀ (all_begin ds) (omega arith); unmarked = λ _. h.unmarked }

@@ -4,8 +4,8 @@ use Rattle.paper.specs.Answer.{Answer, ok, refused}
 use Rattle.paper.specs.Bytes.{from}
 use Rattle.paper.specs.Lists.{edit_of}
 use Rattle.paper.specs.Edits.{Edited, edited_all}
-use Rattle.record.specs.declared.Check.{Check}
-use Rattle.record.specs.declared.Check.TheVariants.{Fine, Refused}
+use Rattle.record.specs.Answers.{Check}
+use Rattle.std.specs.Prelude.{Ok, Err}
 use Rattle.record.specs.Trees.{Trees}
 use Rattle.record_entries.specs.declared.PathList.TheVariants.{Edits}
 use Rattle.plan.specs.Table.{fields_in}
@@ -36,8 +36,8 @@ pub record EditsLeft (l : Trees) (n : ℕ) (marks : List ℕ) (a : Answer (List 
   pub carries : Carries l n marks edits
 
 abbrev pub EditsBy : Check → Answer (List Edited) → Trees → (n : ℕ) (marks : List ℕ) → Type 0
-EditsBy Fine a l n marks = EditsLeft l n marks a
-EditsBy (Refused r) a l n marks = a ≡ refused r.number r.list r.place
+EditsBy (Ok tt) a l n marks = EditsLeft l n marks a
+EditsBy (Err r) a l n marks = a ≡ refused r.number r.list r.place
 
 -- The same behind the deletions, whose ids are in their row. Without edits there is no mark.
 pub record EditsIn (l : Trees) (given : Given) (plan decisions : List (List ℕ)) (r : Check) (marks : List ℕ) : Type 0 where

@@ -8,11 +8,11 @@ ghost use Rattle.update_edited.specs.Editing.{Editable, all_edited, EditsBy, Edi
 use index::look_name;
 use index_ids::IndexRows;
 use plan::PlanRows;
-use record::{Check, EDITS, RECORDS, REQUEST_POOL, Trees};
+use record::{Trees};
 use record_entries::edit_path_at;
 use update_dropped::{Dropped, gather};
-use update_edits::{Editing, Marks, edit_one, put_edit};
-use update_rebuild::{DROPS, Decisions, Given};
+use update_edits::{Marks, edit_one, put_edit};
+use update_rebuild::{Decisions, Given};
 
 // All edits, where the dropped ids are a set.
 fn edit_all<'a>(
@@ -23,22 +23,22 @@ fn edit_all<'a>(
     dropped: &[u32; 64],
     drops: usize,
     marks: &mut Marks,
-) -> Check
+) -> Result<(), Refusal>
     requires { Editable (trees_in trees.now) given plan.now index.now marks.old
         × Good (set_of dropped.now drops) }
     ensures { EditsBy result (all_edited (trees_in trees.now) given
         plan.now (dropped_ids (set_of dropped.now drops)))
         (trees_in trees.now) given.base marks.new }
 {
-    let pool = trees[REQUEST_POOL];
-    let edits = trees[EDITS];
+    let pool = trees.request_pool;
+    let edits = trees.edits;
     let mut k = 0;
     while k < given.edits {
         let path = edit_path_at(pool, edits, k);
         let found = look_name(trees, plan, given.base, index, path);
         match edit_one(
             found,
-            trees[RECORDS],
+            trees.records,
             given.base,
             index,
             given.version,
@@ -49,16 +49,16 @@ fn edit_all<'a>(
             drops,
             marks,
         ) {
-            Editing::At(slot) => {
+            Ok(slot) => {
                 put_edit(marks, slot.0, edits, k);
             }
-            Editing::Refused(r) => {
-                return Check::Refused(r);
+            Err(r) => {
+                return Err(r);
             }
         }
         k += 1;
     }
-    Check::Fine
+    Ok(())
 }
 
 // The edits of a request whose deletions and additions are decided: refusals 23, 24, 13 and 26, or their marks.
@@ -69,15 +69,15 @@ pub fn edit_columns<'a>(
     index: &IndexRows,
     decisions: &Decisions,
     marks: &mut Marks,
-) -> Check
+) -> Result<(), Refusal>
     requires { Editable (trees_in trees.now) given plan.now index.now marks.old }
     ensures { EditsIn (trees_in trees.now) given plan.now
         decisions.now result marks.new }
 {
     if given.edits == 0 {
-        return Check::Fine;
+        return Ok(());
     }
     let mut dropped = Dropped { ids: [0; 64], n: 0 };
-    dropped.n = gather(&decisions[DROPS], given.deletions, &mut dropped.ids);
+    dropped.n = gather(&decisions.drops, given.deletions, &mut dropped.ids);
     edit_all(trees, given, plan, index, &dropped.ids, dropped.n, marks)
 }

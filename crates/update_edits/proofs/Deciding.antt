@@ -22,10 +22,8 @@ use Rattle.paper.specs.Rows.{Row, look_name}
 use Rattle.record.specs.declared.FieldId.{FieldId}
 use Rattle.record.specs.declared.Slot.{Slot}
 use Rattle.record.specs.declared.Refusal.{Refusal}
-use Rattle.record.specs.declared.Check.{Check}
-use Rattle.record.specs.declared.Check.TheVariants as check
-use Rattle.record.specs.declared.Found.{Found}
-use Rattle.record.specs.declared.Found.TheVariants.{At, Nothing}
+use Rattle.record.specs.Answers.{Check, Found}
+use Rattle.std.specs.Prelude.{Ok, Err, Some, None}
 use Rattle.record.specs.Says.{refusal_of, checked, found_row}
 use Rattle.record.proofs.Testing.{checked_ok, checked_refused}
 use Rattle.record_entries.specs.declared.What.{What}
@@ -33,27 +31,26 @@ use Rattle.record_entries.specs.declared.What.TheVariants.{Rename, Relax, Widen}
 use Rattle.record_entries.specs.Rule.{what_of}
 use Rattle.update_gone.specs.Gone.{base_slots, slot_id, ids_gone, Rises}
 use Rattle.update_gone.proofs.Fields.{gone_fields}
-use Rattle.update_edits.specs.declared.Editing.{Editing}
-use Rattle.update_edits.specs.declared.Editing.TheVariants as editing
+use Rattle.update_edits.specs.Answers.{Editing}
 use Rattle.update_edits.specs.Roles.{role_at, Stood, forbids, repeats, dots, stepless}
 use Rattle.update_edits.specs.Edit.{Lands, Tells, edit_found, fits, edit_fits, edited_at, change_of, EditedBy, OneEdited}
 use Rattle.update_edits.proofs.Roles.{found_stood}
 
 -- ---- what was found
 
-at_nothing : (x : FieldId) (p : Slot) → At x p ≡ found_row none → ⊥
+at_nothing : (x : FieldId) (p : Slot) → Some (x, p) ≡ found_row none → ⊥
 unfolding found_row
 at_nothing x p e = let z : ◌≡◌ {A = ℕ} 0 1 = cc in omega arith
 
-nothing_at : (r : Row) → Nothing ≡ found_row (some r) → ⊥
+nothing_at : (r : Row) → None ≡ found_row (some r) → ⊥
 unfolding found_row
 nothing_at r e = let z : ◌≡◌ {A = ℕ} 0 1 = cc in omega arith
 
-at_slot : (x : FieldId) (p : Slot) (r : Row) → At x p ≡ found_row (some r) → r.slot ≡ p.0
+at_slot : (x : FieldId) (p : Slot) (r : Row) → Some (x, p) ≡ found_row (some r) → r.slot ≡ p.0
 unfolding found_row
 at_slot x p r e = let z : p ≡ record { 0 = r.slot } = cc in rw z
 
-pub lands_in : (n : ℕ) (f : Found) (x : FieldId) (p : Slot) → f ≡ At x p → Lands n f → p.0 < n
+pub lands_in : (n : ℕ) (f : Found) (x : FieldId) (p : Slot) → f ≡ Some (x, p) → Lands n f → p.0 < n
 lands_in n f x p e h = h.at x p e
 
 -- ---- a change, by what the edit does
@@ -113,21 +110,21 @@ module _ (records us : List ℕ) (version : ℕ) (request edits : List ℕ) (k :
   Fits r = r ≡ checked (edit_fits records us version request edits k marks slot)
 
   module _ (w : What) (ew : w ≡ what_of (edit_at edits k).what) (q : Bool) (eq : q ≡ (forbids w (role_at records us slot) || repeats w (get_or marks slot 0))) where
-    pub fits_barred : q ≡ true → Fits (check.Refused (refusal_of 24 6 k))
+    pub fits_barred : q ≡ true → Fits (Err (refusal_of 24 6 k))
     unfolding checked fits ◌>>=◌
     fits_barred u = rw (← ew, ← eq, u)
 
     module _ (u : q ≡ false) (d : Bool) (ed : d ≡ dots w (new_name request edits k)) where
-      pub fits_dotted : d ≡ true → Fits (check.Refused (refusal_of 13 6 k))
+      pub fits_dotted : d ≡ true → Fits (Err (refusal_of 13 6 k))
       unfolding checked fits ◌>>=◌
       fits_dotted v = rw (← ew, ← eq, u, ← ed, v)
 
       module _ (v : d ≡ false) (z : Bool) (ez : z ≡ stepless w version (kind_at records slot) (rec_at records slot).code (edit_at edits k).code) where
-        pub fits_stepless : z ≡ true → Fits (check.Refused (refusal_of 26 6 k))
+        pub fits_stepless : z ≡ true → Fits (Err (refusal_of 26 6 k))
         unfolding checked fits ◌>>=◌
         fits_stepless y = rw (← ew, ← eq, u, ← ed, v, ← ez, y)
 
-        pub fits_fine : z ≡ false → Fits check.Fine
+        pub fits_fine : z ≡ false → Fits (Ok tt)
         unfolding checked fits ◌>>=◌
         fits_fine y = rw (← ew, ← eq, u, ← ed, v, ← ez, y)
 
@@ -158,12 +155,12 @@ module _ (f : Found) (records : List ℕ) (n : ℕ) (us : List ℕ) (version : �
   abbrev code : ℕ
   code = (edit_at edits k).code
 
-  pub edit_nothing : f ≡ Nothing → Says (editing.Refused (refusal_of 23 6 k))
+  pub edit_nothing : f ≡ None → Says (Err (refusal_of 23 6 k))
   unfolding edit_found ◌>>=◌
   edit_nothing e = record { by = λ pool o earlier st ef tells. go pool o earlier ef }
     where
       go : (pool : List ℕ) (o : Option Row) (earlier : List Edited) → f ≡ found_row o
-          → EditedBy (editing.Refused (refusal_of 23 6 k)) (edit_found (tree pool) o ds k earlier change) records n change
+          → EditedBy (Err (refusal_of 23 6 k)) (edit_found (tree pool) o ds k earlier change) records n change
       go pool none earlier ef = refl
       go pool (some r) earlier ef = absurd (nothing_at r (sym e ∙ ef))
 
@@ -176,7 +173,7 @@ module _ (f : Found) (records : List ℕ) (n : ℕ) (us : List ℕ) (version : �
   fits_then false false true a = refl
   fits_then false false false a = refl
 
-  module _ (x : FieldId) (p : Slot) (e : f ≡ At x p) (g : Bool) (eg : g ≡ among (slot_id records p.0) (ids_gone records n ds)) where
+  module _ (x : FieldId) (p : Slot) (e : f ≡ Some (x, p)) (g : Bool) (eg : g ≡ among (slot_id records p.0) (ids_gone records n ds)) where
     -- Something was found, so it is enough to speak of its row.
     of_row : (a : Editing) → ((pool : List ℕ) (r : Row) (earlier : List Edited) → Stood pool records n us r → f ≡ found_row (some r) → Tells records n marks earlier
         → EditedBy a (edit_found (tree pool) (some r) ds k earlier change) records n change) → Says a
@@ -205,9 +202,9 @@ module _ (f : Found) (records : List ℕ) (n : ℕ) (us : List ℕ) (version : �
       gone_is : among r.field.id (gone_columns ds (tree pool)) ≡ g
       gone_is = rw (id_is, gone_fields pool records n ds) (sym eg)
 
-    pub edit_gone : g ≡ true → Says (editing.Refused (refusal_of 23 6 k))
+    pub edit_gone : g ≡ true → Says (Err (refusal_of 23 6 k))
     unfolding edit_found ◌>>=◌
-    edit_gone t = of_row (editing.Refused (refusal_of 23 6 k)) (λ pool r earlier s ef tells. rw (gone_is pool r s ef, t))
+    edit_gone t = of_row (Err (refusal_of 23 6 k)) (λ pool r earlier s ef tells. rw (gone_is pool r s ef, t))
 
     module _ (t : g ≡ false) (l : Lands n f) where
       there : p.0 < n
@@ -227,13 +224,13 @@ module _ (f : Found) (records : List ℕ) (n : ℕ) (us : List ℕ) (version : �
           rw (gone_is pool r s ef, t) (rw (barred, dotted, steps, id_is pool r s ef) (fits_then _ _ _ (edited_at records p.0 change)))
 
       module _ (c : Check) (ec : c ≡ checked (edit_fits records us version request edits k marks p.0)) where
-        pub edit_barred : (y : Refusal) → c ≡ check.Refused y → Says (editing.Refused y)
+        pub edit_barred : (y : Refusal) → c ≡ Err y → Says (Err y)
         unfolding ◌>>=◌
-        edit_barred y q = of_row (editing.Refused y) (λ pool r earlier s ef tells. found_fits pool r earlier s ef tells ∙ rw (checked_refused (edit_fits records us version request edits k marks p.0) c y ec q))
+        edit_barred y q = of_row (Err y) (λ pool r earlier s ef tells. found_fits pool r earlier s ef tells ∙ rw (checked_refused (edit_fits records us version request edits k marks p.0) c y ec q))
 
-        pub edit_stands : c ≡ check.Fine → Says (editing.At p)
+        pub edit_stands : c ≡ (Ok tt) → Says (Ok p)
         unfolding ◌>>=◌
-        edit_stands q = of_row (editing.At p) (λ pool r earlier s ef tells. (there, found_fits pool r earlier s ef tells ∙ rw (checked_ok (edit_fits records us version request edits k marks p.0) c ec q)))
+        edit_stands q = of_row (Ok p) (λ pool r earlier s ef tells. (there, found_fits pool r earlier s ef tells ∙ rw (checked_ok (edit_fits records us version request edits k marks p.0) c ec q)))
 
 pub ruleset deciding = (lands_in, edit_nothing, edit_gone, edit_barred, edit_stands)
 
@@ -247,7 +244,7 @@ module _ {records : List ℕ} {n : ℕ} {us : List ℕ} (R : Rises records n us)
   pub found_lands : (x : List ℕ) (f : Found) → f ≡ found_row (look_name base x) → Lands n f
   found_lands x f e = record { at = λ i p q. go i p (look_name base x) refl (sym q ∙ e) }
     where
-      go : (i : FieldId) (p : Slot) (o : Option Row) → look_name base x ≡ o → At i p ≡ found_row o → p.0 < n
+      go : (i : FieldId) (p : Slot) (o : Option Row) → look_name base x ≡ o → Some (i, p) ≡ found_row o → p.0 < n
       go i p none eo q = absurd (at_nothing i p q)
       go i p (some r) eo q = subst (λ (z : ℕ). z < n) (at_slot i p r q) (found_stood R x r eo).there
 

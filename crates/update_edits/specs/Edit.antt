@@ -13,19 +13,18 @@ use Rattle.paper.specs.Edits.{Change, Edited, remaining, forbidden, again, has_d
 use Rattle.paper.specs.Lists.{edit_at, edit_in, new_name, edit_of}
 use Rattle.record.specs.declared.FieldId.{FieldId}
 use Rattle.record.specs.declared.Slot.{Slot}
-use Rattle.record.specs.declared.Found.{Found}
-use Rattle.record.specs.declared.Found.TheVariants as found
+use Rattle.record.specs.Answers.{Found}
+use Rattle.std.specs.Prelude.{Ok, Err, Some}
 use Rattle.record.specs.Says.{found_row}
 use Rattle.record_entries.specs.Rule.{what_of}
 use Rattle.plan.specs.Plan.{low_part}
 use Rattle.update_gone.specs.Gone.{base_slots, slot_id}
-use Rattle.update_edits.specs.declared.Editing.{Editing}
-use Rattle.update_edits.specs.declared.Editing.TheVariants as editing
+use Rattle.update_edits.specs.Answers.{Editing}
 use Rattle.update_edits.specs.Roles.{role_at, Stood, forbids, repeats, dots, stepless}
 
 -- What was found is one of n slots.
 pub record Lands (n : ℕ) (f : Found) : Type 0 where
-  pub at : (x : FieldId) (p : Slot) → f ≡ found.At x p → p.0 < n
+  pub at : (x : FieldId) (p : Slot) → f ≡ Some (x, p) → p.0 < n
 
 -- The edit k is there, and its path and its new name are in the pool.
 pub record Named (pool edits : List ℕ) (k : ℕ) : Type 0 where
@@ -71,8 +70,8 @@ change_of version pool edits k = (edit_of version pool edits k).change
 
 -- What the code answers of it.
 abbrev pub EditedBy : Editing → Answer Edited → (records : List ℕ) (n : ℕ) → Change → Type 0
-EditedBy (editing.At s) a records n change = (s.0 < n) × (a ≡ ok (edited_at records s.0 change))
-EditedBy (editing.Refused r) a records n change = a ≡ refused r.number r.list r.place
+EditedBy (Ok s) a records n change = (s.0 < n) × (a ≡ ok (edited_at records s.0 change))
+EditedBy (Err r) a records n change = a ≡ refused r.number r.list r.place
 
 -- Whatever pool the base has, what the look-up answered, and which edits came before.
 pub record OneEdited (f : Found) (records : List ℕ) (n : ℕ) (us : List ℕ) (version : ℕ) (request edits : List ℕ) (k : ℕ) (dropped marks : List ℕ) (r : Editing) : Type 0 where

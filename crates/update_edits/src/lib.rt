@@ -18,8 +18,8 @@ ghost use Rattle.update_edits.specs.Marks.{mark_with, marked_by, remarked, Remar
 
 use index_ids::{IndexRows, UPS, cell};
 use paper::{Role, first_role, is_key, is_primitive, next_role};
-use plan::{PlanRows, SOURCES};
-use record::{Check, Found, Refusal, Slot, code_at, has_dot, kind_at};
+use plan::{PlanRows};
+use record::{Refusal, Slot, code_at, has_dot, kind_at};
 use record_entries::{What, new_code_at, new_name_at, what_at};
 use update_gone::is_gone;
 use update_promotions::is_allowed;
@@ -149,7 +149,7 @@ fn check_edit(
     k: usize,
     slot: usize,
     marks: &Marks,
-) -> Check
+) -> Result<(), Refusal>
     requires { Rises recs.now n (ups_in index.now) × (slot < n)
         × Named pool.now edits.now k }
     ensures { result ≡ checked (edit_fits recs.now (ups_in index.now)
@@ -158,7 +158,7 @@ fn check_edit(
     let what = what_at(edits, k);
     if is_barred(recs, n, index, slot, what, marks) {
         // refusal 24
-        return Check::Refused(Refusal {
+        return Err(Refusal {
             number: 24,
             list: 6,
             place: k as u32,
@@ -166,7 +166,7 @@ fn check_edit(
     }
     if is_dotted(pool, edits, k, what) {
         // refusal 13
-        return Check::Refused(Refusal {
+        return Err(Refusal {
             number: 13,
             list: 6,
             place: k as u32,
@@ -174,18 +174,18 @@ fn check_edit(
     }
     if is_stepless(recs, slot, version, edits, k, what) {
         // refusal 26
-        return Check::Refused(Refusal {
+        return Err(Refusal {
             number: 26,
             list: 6,
             place: k as u32,
         });
     }
-    Check::Fine
+    Ok(())
 }
 
 // The edit k, of the column that its path found.
 pub fn edit_one(
-    found: Found,
+    found: Option<(FieldId, Slot)>,
     recs: &[u8],
     n: usize,
     index: &IndexRows,
@@ -196,16 +196,16 @@ pub fn edit_one(
     dropped: &[u32; 64],
     drops: usize,
     marks: &Marks,
-) -> Editing
+) -> Result<Slot, Refusal>
     requires { Lands n found × Rises recs.now n (ups_in index.now)
         × Named pool.now edits.now k × Good (set_of dropped.now drops) }
     ensures { OneEdited found recs.now n (ups_in index.now) version
         pool.now edits.now k
         (dropped_ids (set_of dropped.now drops)) marks.now result }
 {
-    let Found::At(_, at) = found else {
+    let Some((_, at)) = found else {
         // refusal 23
-        return Editing::Refused(Refusal {
+        return Err(Refusal {
             number: 23,
             list: 6,
             place: k as u32,
@@ -213,17 +213,14 @@ pub fn edit_one(
     };
     if is_gone(recs, n, index, at.0, dropped, drops) {
         // refusal 23
-        return Editing::Refused(Refusal {
+        return Err(Refusal {
             number: 23,
             list: 6,
             place: k as u32,
         });
     }
-    let check = check_edit(recs, n, index, version, pool, edits, k, at.0, marks);
-    if let Check::Refused(r) = check {
-        return Editing::Refused(r);
-    }
-    Editing::At(at)
+    check_edit(recs, n, index, version, pool, edits, k, at.0, marks)?;
+    Ok(at)
 }
 
 // A mark with the edit k, which keeps what other edits left.
@@ -277,8 +274,8 @@ pub fn mark_plan(plan: &mut PlanRows, m: usize, marks: &Marks)
 {
     let mut i = 0;
     while i < m {
-        let source = plan[SOURCES][i];
-        plan[SOURCES][i] = marked_source(marks, source);
+        let source = plan.sources[i];
+        plan.sources[i] = marked_source(marks, source);
         i += 1;
     }
 }

@@ -14,7 +14,7 @@ use Rattle.theorems.proofs.Evolution.{types_rise}
 use Rattle.theorems.proofs.Promises.{runs_begin, runs_go_on, runs_begin_identified, runs_go_on_identified}
 use Rattle.theorems.proofs.Promises.{runs_edit_stored, runs_widen_stored}
 use Rattle.record.specs.declared.Sizes.{Sizes}
-use Rattle.record.specs.declared.Changed.{Changed}
+use Rattle.record.specs.Answers.{Changed}
 use Rattle.braidhurdle.specs.declared.ChangedNumbers.{ChangedNumbers}
 use Rattle.update_lasts.specs.Calls.{Call, Contract, Ensures, of_update, of_c_update, Calls, LastingCalls, VisitsFew}
 use Rattle.update_lasts.proofs.Kept.{update_reads, c_update_reads, calls_last, calls_visit}

@@ -9,8 +9,8 @@ use Rattle.paper.specs.Entries.{Result, update_entry}
 use Rattle.paper.specs.Outcome.{for_records, for_names, Answers}
 use Rattle.theorems.specs.Stored.{LendsBytes, LastingStored}
 use Rattle.record.specs.declared.Sizes.{Sizes}
-use Rattle.record.specs.declared.Changed.{Changed}
-use Rattle.record.specs.declared.Changed.TheVariants.{Done, Refused}
+use Rattle.record.specs.Answers.{Changed}
+use Rattle.std.specs.Prelude.{Ok, Err}
 use Rattle.record.specs.Says.{changes}
 use Rattle.braidhurdle.specs.declared.ChangedNumbers.{ChangedNumbers}
 use Rattle.braidhurdle.specs.Numbers.{laid}
@@ -42,8 +42,8 @@ Ensures f s c =
     c.answer (c.records_after ∷ c.names_after ∷ [])
 
 abbrev pub sizes_of : Changed → Option Sizes
-sizes_of (Done z) = some z
-sizes_of (Refused x) = none
+sizes_of (Ok z) = some z
+sizes_of (Err x) = none
 
 -- In seven numbers a refusal is not 0.
 abbrev pub sizes_in : ChangedNumbers → Option Sizes

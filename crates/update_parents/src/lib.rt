@@ -22,14 +22,14 @@ pub enum Target {
     Nothing,
 }
 
-fn as_struct(recs: &[u8], slot: usize) -> Target
+fn as_struct(recs: &[u8], slot: usize) -> Option<Slot>
     requires { slot * 24 + 24 ≤ length recs.now }
     ensures { result ≡ targeted (struct_at recs.now slot) }
 {
     if is_struct(kind_at(recs, slot)) {
-        return Target::Struct(Slot(slot));
+        return Some(Slot(slot));
     }
-    Target::Nothing
+    None
 }
 
 // A map's value: it comes after the key and the key's inside.
@@ -41,13 +41,13 @@ fn value_at(recs: &[u8], n: usize, slot: usize) -> usize
 }
 
 // One step from a parent to the struct that receives the addition: itself, a list's element, a map's value.
-pub fn resolve_parent_target(recs: &[u8], n: usize, slot: usize) -> Target
+pub fn resolve_parent_target(recs: &[u8], n: usize, slot: usize) -> Option<Slot>
     requires { Standing 0 recs.now n 15 slot × (ok_bytes recs.now slot ≡ true) }
     ensures { result ≡ targeted (receiving recs.now n slot) }
 {
     match kind_at(recs, slot) {
-        Kind::Primitive => Target::Nothing,
-        Kind::Structure => Target::Struct(Slot(slot)),
+        Kind::Primitive => None,
+        Kind::Structure => Some(Slot(slot)),
         Kind::Listing => as_struct(recs, slot + 1),
         Kind::Mapping => as_struct(recs, value_at(recs, n, slot)),
     }

@@ -14,8 +14,8 @@ use Rattle.laws.proofs.Runs.{from_step, from_done, from_all}
 use Rattle.tree.specs.Read.{reads}
 use Rattle.plan.specs.Plan.{Source}
 use Rattle.update_rebuild.specs.declared.Place.{Place}
-use Rattle.update_rebuild.specs.declared.Step.{Step}
-use Rattle.update_rebuild.specs.declared.Step.TheVariants.{Went, Full}
+use Rattle.update_rebuild.specs.Answers.{Step}
+use Rattle.std.specs.Prelude.{Some, None}
 use Rattle.update_rebuild.specs.Sources.{parent, added_tree, addition_at, additions}
 use Rattle.update_rebuild.specs.Planned.{Planned, Resolved}
 use Rattle.update_rebuild.proofs.Onward.{Onward, onward_starts, onward_same, onward_goes, onward_stops, onward_done, went_whole, full_over}
@@ -79,19 +79,19 @@ module _ (added : List ℕ) (n : ℕ) (unders firsts starts : List ℕ) (total q
       pub all_skips : Resolved added n unders firsts total → q ≤ 4294967296 → j < total → (get_or unders j 0 ≡ q → ⊥) → Rest (j + 1) here p₁
       all_skips r hq l d = record { on = onward_same h.on (rest_other j l (r.under j l) hq d) refl; seen = h.seen }
 
-      pub all_done : total ≤ j → Planned all 0 past lv i c v plan (Went here) p₁
+      pub all_done : total ≤ j → Planned all 0 past lv i c v plan (Some here) p₁
       all_done l = onward_done h.on (rest_none j l) refl
 
       module _ (k id : ℕ) (r : Step) (p₂ : List (List ℕ)) (l : j < total) (e : get_or unders j 0 ≡ q) (ek : k ≡ get_or firsts j 0) (ei : id ≡ get_or starts j 0 % 4294967296) (p : Planned (added_tree added n k id) 0 here.next lv here.at here.count here.visited p₁ r p₂) where
         first : arriving_from j ≡ added_tree added n k id then arriving_from (j + 1)
         first = rw (ek, ei, low_tree added n (get_or firsts j 0) (get_or starts j 0)) (rest_here j l e)
 
-        pub all_goes : (w : Place) → r ≡ Went w → Rest (j + 1) w p₂
+        pub all_goes : (w : Place) → r ≡ Some w → Rest (j + 1) w p₂
         all_goes w er =
             let u = went_whole p er in
             record { on = onward_goes h.on first refl (sym u.next) u; seen = omega (arith, u.at, u.visited, h.seen) }
 
-        pub all_stops : r ≡ Full → Planned all 0 past lv i c v plan Full p₂
+        pub all_stops : r ≡ None → Planned all 0 past lv i c v plan None p₂
         all_stops er = onward_stops h.on (added_tree added n k id) (arriving_from (j + 1)) first (full_over p er)
 
 pub resolved_first : (added : List ℕ) (n : ℕ) (unders firsts : List ℕ) (total j k : ℕ) → Resolved added n unders firsts total → j < total → k ≡ get_or firsts j 0 → k ≤ n

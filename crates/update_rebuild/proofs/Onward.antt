@@ -10,22 +10,22 @@ use Rattle.laws.proofs.Preorder.{size_then, siblings_then, levels_then}
 use Rattle.plan.specs.Plan.{Source}
 use Rattle.plan.proofs.Laying.{laid_none, laid_then}
 use Rattle.update_rebuild.specs.declared.Place.{Place}
-use Rattle.update_rebuild.specs.declared.Step.{Step}
-use Rattle.update_rebuild.specs.declared.Step.TheVariants.{Went, Full}
+use Rattle.update_rebuild.specs.Answers.{Step}
+use Rattle.std.specs.Prelude.{Some, None}
 use Rattle.update_rebuild.specs.Planned.{Whole, Over, PlannedBy, Planned}
 
 -- what an answer says, by its case
 module _ {t : Forest Source} {d past lv i c v : ℕ} {plan plan' : List (List ℕ)} {r : Step} (h : Planned t d past lv i c v plan r plan') where
-  pub went_whole : {w : Place} → r ≡ Went w → Whole t d past lv i c v plan w plan'
+  pub went_whole : {w : Place} → r ≡ Some w → Whole t d past lv i c v plan w plan'
   went_whole e = (rw e at h).by
 
-  pub went_rows : {w : Place} → r ≡ Went w → length plan' ≡ 3
+  pub went_rows : {w : Place} → r ≡ Some w → length plan' ≡ 3
   went_rows e = (went_whole e).laid.rows
 
-  pub full_over : r ≡ Full → Over t lv i
+  pub full_over : r ≡ None → Over t lv i
   full_over e = (rw e at h).by
 
-pub planned_none : {past lv i c v : ℕ} {plan : List (List ℕ)} → i ≤ 1024 → length plan ≡ 3 → Planned empty 0 past lv i c v plan (Went (record { next = past; at = i; count = c; visited = v })) plan
+pub planned_none : {past lv i c v : ℕ} {plan : List (List ℕ)} → i ≤ 1024 → length plan ≡ 3 → Planned empty 0 past lv i c v plan (Some (record { next = past; at = i; count = c; visited = v })) plan
 unfolding size siblings levels
 planned_none {i = i} {plan = plan} h e = record { by = record { next = refl; at = omega arith; count = omega arith; visited = omega arith; low = omega arith; room = h; laid = laid_none i plan e } }
 
@@ -34,7 +34,7 @@ module _ (t u : Forest Source) (d d' past' lv i c v : ℕ) (plan : List (List �
   planned_then {w = w} {r} {p₁} {p₂} h g = record { by = go r g.by }
     where
       go : (r : Step) → PlannedBy r u d' past' lv w.at w.count w.visited p₁ p₂ → PlannedBy r (t then u) (d + d') past' lv i c v plan p₂
-      go (Went _) g =
+      go (Some _) g =
           record {
             next = g.next;
             at = let e = size_then t u in omega (arith, h.at, g.at);
@@ -44,7 +44,7 @@ module _ (t u : Forest Source) (d d' past' lv i c v : ℕ) (plan : List (List �
             room = g.room;
             laid = laid_then t u i w.at plan p₁ p₂ h.at h.laid g.laid;
           }
-      go Full g = record { over = λ l m. g.over (let e = levels_then t u in omega arith) (let e = size_then t u in omega (arith, h.at)) }
+      go None g = record { over = λ l m. g.over (let e = levels_then t u in omega arith) (let e = size_then t u in omega (arith, h.at)) }
 
 planned_stops : (t u : Forest Source) (lv i : ℕ) → Over t lv i → Over (t then u) lv i
 planned_stops t u lv i h = record { over = λ l m. h.over (let e = levels_then t u in omega arith) (let e = size_then t u in omega arith) }
@@ -68,8 +68,8 @@ module _ {G : Step → List (List ℕ) → Type 0} {u : Forest Source} {d past l
   onward_passes {t} {d'} {past'} e ed f = record { room = on.room; few = on.few; rows = on.rows; go = λ r p₂ p. on.go r p₂ (rw (e, ed, f) record { by = again r p₂ p.by }) }
     where
       again : (r : Step) (p₂ : List (List ℕ)) → PlannedBy r t d' past' lv i c (v + 1) plan p₂ → PlannedBy r t (suc d') past' lv i c v plan p₂
-      again (Went _) p₂ h = record { next = h.next; at = h.at; count = h.count; visited = omega (arith, h.visited); low = h.low; room = h.room; laid = h.laid }
-      again Full p₂ h = h
+      again (Some _) p₂ h = record { next = h.next; at = h.at; count = h.count; visited = omega (arith, h.visited); low = h.low; room = h.room; laid = h.laid }
+      again None p₂ h = h
 
   pub onward_goes : {a b : Forest Source} {da db past₂ past' : ℕ} {w : Place} {p₁ : List (List ℕ)} → u ≡ a then b → d ≡ da + db → past ≡ past' → Whole a da past₂ lv i c v plan w p₁ → Onward G b db past' lv w.at w.count w.visited p₁
   onward_goes {a} {b} {da} {db} e ed f h =
@@ -80,8 +80,8 @@ module _ {G : Step → List (List ℕ) → Type 0} {u : Forest Source} {d past l
         go = λ r p₂ p. on.go r p₂ (rw (e, ed, f) (planned_then a b da db _ lv i c v plan h p));
       }
 
-  pub onward_stops : (a b : Forest Source) {p₁ : List (List ℕ)} → u ≡ a then b → Over a lv i → G Full p₁
-  onward_stops a b e h = on.go Full _ (rw e record { by = planned_stops a b lv i h })
+  pub onward_stops : (a b : Forest Source) {p₁ : List (List ℕ)} → u ≡ a then b → Over a lv i → G None p₁
+  onward_stops a b e h = on.go None _ (rw e record { by = planned_stops a b lv i h })
 
-  pub onward_done : u ≡ empty → d ≡ 0 → G (Went (record { next = past; at = i; count = c; visited = v })) plan
+  pub onward_done : u ≡ empty → d ≡ 0 → G (Some (record { next = past; at = i; count = c; visited = v })) plan
   onward_done e ed = on.go _ plan (rw (e, ed) (planned_none on.room on.rows))

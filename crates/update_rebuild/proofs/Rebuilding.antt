@@ -22,8 +22,8 @@ use Rattle.plan.specs.Table.{planned_at}
 use Rattle.plan.proofs.Laying.{laid_last}
 use Rattle.update_rebuild.specs.declared.Head.{Head}
 use Rattle.update_rebuild.specs.declared.Place.{Place}
-use Rattle.update_rebuild.specs.declared.Step.{Step}
-use Rattle.update_rebuild.specs.declared.Step.TheVariants.{Went, Full}
+use Rattle.update_rebuild.specs.Answers.{Step}
+use Rattle.std.specs.Prelude.{Some, None}
 use Rattle.update_rebuild.specs.Sources.{base_source, parent, rebuilt_row, rebuilt_one, passed}
 use Rattle.update_rebuild.specs.Planned.{Readable, Inside, Planned, HeadOf, StandsAt, closing, RowPlanned, OnePlanned}
 use Rattle.update_rebuild.proofs.Onward.{went_whole, full_over, planned_none, Onward, onward_passes, onward_goes, onward_stops}
@@ -34,7 +34,7 @@ pub closing_open : (adds : List (Addition Source)) (q : Option ℕ) {b : Bool} {
 unfolding closing
 closing_open adds q e h = rw e h
 
-pub closing_shut : (adds : List (Addition Source)) (q : Option ℕ) {b : Bool} {lv : ℕ} {here : Place} {plan : List (List ℕ)} → b ≡ false → here.at ≤ 1024 → length plan ≡ 3 → Planned (closing adds q b) 0 here.next lv here.at here.count here.visited plan (Went here) plan
+pub closing_shut : (adds : List (Addition Source)) (q : Option ℕ) {b : Bool} {lv : ℕ} {here : Place} {plan : List (List ℕ)} → b ≡ false → here.at ≤ 1024 → length plan ≡ 3 → Planned (closing adds q b) 0 here.next lv here.at here.count here.visited plan (Some here) plan
 unfolding closing
 closing_shut adds q e l rows = rw e (planned_none l rows)
 
@@ -90,7 +90,7 @@ leaf_is true m e = absurd (let z : ◌≡◌ {A = ℕ} 0 1 = cc in omega arith)
 leaf_is false m e = (eqb-true m 0 e, refl)
 
 module _ (records dropped : List ℕ) (adds : List (Addition Source)) (n lv k : ℕ) (plan : List (List ℕ)) (i c v : ℕ) where
-  pub one_wide : (p₁ : List (List ℕ)) → 1024 ≤ i → OnePlanned records dropped adds n lv k plan i c v Full p₁
+  pub one_wide : (p₁ : List (List ℕ)) → 1024 ≤ i → OnePlanned records dropped adds n lv k plan i c v None p₁
   unfolding rebuilt_one size
   one_wide p₁ e = record { by = record { over = λ l m. omega arith } }
 
@@ -99,12 +99,12 @@ module _ (records dropped : List ℕ) (adds : List (Addition Source)) (n lv k : 
     unfolding parent
     inner = rw (hh.members, hh.under, hh.opens) at p
 
-    pub one_stops : (p₂ : List (List ℕ)) → r ≡ Full → OnePlanned records dropped adds n lv k plan i c v Full p₂
+    pub one_stops : (p₂ : List (List ℕ)) → r ≡ None → OnePlanned records dropped adds n lv k plan i c v None p₂
     unfolding rebuilt_one size levels
     one_stops p₂ e = record { by = record { over = λ l m. (full_over inner e).over (omega arith) (omega arith) } }
 
     -- at most 1,024 are planned inside it, and 1,024 passed
-    pub one_few : (w : Place) → Inside records n lv k → r ≡ Went w → w.visited ≤ 2048
+    pub one_few : (w : Place) → Inside records n lv k → r ≡ Some w → w.visited ≤ 2048
     one_few w h e =
         let u = went_whole inner e in
         let z = passed_between records dropped (is_struct (kind_at records k)) n (lv - 1) (kids_at records k) (k + 1) h.inside in
@@ -112,7 +112,7 @@ module _ (records dropped : List ℕ) (adds : List (Addition Source)) (n lv k : 
         omega (arith, u.visited, u.at, u.room, f.most h.inside.within, h.inside.small)
 
     -- its place is filled after those of its inside
-    one_goes : (w : Place) (p₂ : List (List ℕ)) → 0 < lv → r ≡ Went w → p₂ ≡ planned_at p₁ i k h.id w.count → OnePlanned records dropped adds n lv k plan i c v (Went (record { next = w.next; at = w.at; count = c + 1; visited = v + 1 + w.visited })) p₂
+    one_goes : (w : Place) (p₂ : List (List ℕ)) → 0 < lv → r ≡ Some w → p₂ ≡ planned_at p₁ i k h.id w.count → OnePlanned records dropped adds n lv k plan i c v (Some (record { next = w.next; at = w.at; count = c + 1; visited = v + 1 + w.visited })) p₂
     unfolding rebuilt_one size siblings levels
     one_goes w p₂ l e ep =
         let u = went_whole inner e in
@@ -129,12 +129,12 @@ module _ (records dropped : List ℕ) (adds : List (Addition Source)) (n lv k : 
           };
         }
 
-    pub one_past : (w past : Place) (p₂ : List (List ℕ)) → 0 < lv → r ≡ Went w → p₂ ≡ planned_at p₁ i k h.id w.count → StandsAt w.next w.at (c + 1) (v + 1 + w.visited) past
-        → OnePlanned records dropped adds n lv k plan i c v (Went past) p₂
+    pub one_past : (w past : Place) (p₂ : List (List ℕ)) → 0 < lv → r ≡ Some w → p₂ ≡ planned_at p₁ i k h.id w.count → StandsAt w.next w.at (c + 1) (v + 1 + w.visited) past
+        → OnePlanned records dropped adds n lv k plan i c v (Some past) p₂
     one_past w past p₂ l e ep o = rw o.is (one_goes w p₂ l e ep)
 
   -- nothing comes to stand inside a leaf
-  pub one_leaf : (h : Head) (g : Bool) (p₂ : List (List ℕ)) → HeadOf records k h → g ≡ (not h.under.opens && eqb h.members 0) → g ≡ true → 0 < lv → i < 1024 → length plan ≡ 3 → p₂ ≡ planned_at plan i k h.id 0 → OnePlanned records dropped adds n lv k plan i c v (Went (record { next = k + 1; at = i + 1; count = c + 1; visited = v + 1 })) p₂
+  pub one_leaf : (h : Head) (g : Bool) (p₂ : List (List ℕ)) → HeadOf records k h → g ≡ (not h.under.opens && eqb h.members 0) → g ≡ true → 0 < lv → i < 1024 → length plan ≡ 3 → p₂ ≡ planned_at plan i k h.id 0 → OnePlanned records dropped adds n lv k plan i c v (Some (record { next = k + 1; at = i + 1; count = c + 1; visited = v + 1 })) p₂
   one_leaf h g p₂ hh eg et l m rows ep =
       let q = parent h.under.q in
       let e = leaf_is h.under.opens h.members (sym eg ∙ et) in
@@ -242,10 +242,10 @@ module _ {records dropped : List ℕ} {adds : List (Addition Source)} {n lv : �
       kept_passed j ej = ap (λ (z : Part). passed records dropped b z.trees) (the_row j ej) ∙ passed_kept records dropped b k held.trees (behind j).trees (sym eg ∙ ef)
 
       module _ {r : Step} {p₁ : List (List ℕ)} (p : OnePlanned records dropped adds n lv k plan i d v r p₁) where
-        pub rebuild_stops : r ≡ Full → G Full p₁
+        pub rebuild_stops : r ≡ None → G None p₁
         rebuild_stops e = onward_stops H.on (rebuilt_one records dropped adds n lv k) (rebuilt_trees (behind held.next).trees) (kept held.next refl) (full_over p e)
 
-        pub rebuild_goes : {w : Place} → r ≡ Went w → Rebuilding records dropped adds n lv q b G (c - 1) w.next w.at w.count w.visited p₁
+        pub rebuild_goes : {w : Place} → r ≡ Some w → Rebuilding records dropped adds n lv q b G (c - 1) w.next w.at w.count w.visited p₁
         unfolding rebuilt_one size
         rebuild_goes {w} e =
             let u = went_whole p e in

@@ -15,15 +15,14 @@ use Rattle.laws.proofs.Runs.{map_from}
 use Rattle.laws.proofs.Taken.{Laid, row_take}
 use Rattle.laws.proofs.Preorder.{size_mapped, siblings_mapped, levels_mapped, preorder_mapped, counts_mapped}
 use Rattle.tree.specs.Says.{ended}
-use Rattle.tree.specs.declared.Walked.{Walked}
-use Rattle.tree.specs.declared.Walked.TheVariants.{End, Refused}
+use Rattle.tree.specs.Answers.{Walked}
+use Rattle.std.specs.Prelude.{Ok, Err, Some, None}
 use Rattle.tree.specs.Read.{part, reads, itself}
 use Rattle.tree.proofs.Filled.{ended_ok, ended_no, end_room}
 use Rattle.tree.proofs.Depth.{row_is_low, row_reads_low}
 use Rattle.tree.proofs.Steps.{part_is, part_full, was_read}
 use Rattle.plan.specs.Plan.{Source, slot_of, bits_of}
 use Rattle.update_rebuild.specs.declared.Place.{Place}
-use Rattle.update_rebuild.specs.declared.Step.TheVariants as step
 use Rattle.update_rebuild.specs.Sources.{added_source, added_tree}
 use Rattle.update_rebuild.specs.Planned.{Planned, AddedIn, StandsAt}
 
@@ -47,7 +46,7 @@ module _ (added : List ℕ) (n k id past lv i c v : ℕ) (plan : List (List ℕ)
   added_is = fresh_row (kids_at added) (λ j. turned id + (j - k)) n (turned id) k slots (row_take 1 (kids_at added) n 16 1 k _ (was_read 1 (kids_at added) n 16 1 k h)).took.laid (λ d. omega arith)
 
   -- a row that ends with fewer levels is the row
-  tree_ends : (e : ℕ) → w ≡ End e → (levels slots ≤ lv) × (e - k ≡ size slots)
+  tree_ends : (e : ℕ) → w ≡ Ok e → (levels slots ≤ lv) × (e - k ≡ size slots)
   tree_ends e ee =
       ended_ok _ (row 1 (kids_at added) n lv 1 k) w e ew ee λ p ep en.
       let low = row_is_low 1 (kids_at added) n lv 1 k p ep in
@@ -57,8 +56,8 @@ module _ (added : List ℕ) (n k id past lv i c v : ℕ) (plan : List (List ℕ)
       let b = ap (λ (q : Part). q.next) z in
       (omega arith, omega (arith, f.next))
 
-  pub tree_goes : (e : ℕ) (p₁ : List (List ℕ)) → w ≡ End e → i ≤ 1024 → e - k ≤ 1024 - i → AddedIn (kids_at added) k (e - k) (turned id) plan i p₁ → (o : Place) → StandsAt past (i + (e - k)) (c + 1) (v + (e - k)) o
-      → Planned (added_tree added n k id) 0 past lv i c v plan (step.Went o) p₁
+  pub tree_goes : (e : ℕ) (p₁ : List (List ℕ)) → w ≡ Ok e → i ≤ 1024 → e - k ≤ 1024 - i → AddedIn (kids_at added) k (e - k) (turned id) plan i p₁ → (o : Place) → StandsAt past (i + (e - k)) (c + 1) (v + (e - k)) o
+      → Planned (added_tree added n k id) 0 past lv i c v plan (Some o) p₁
   tree_goes e p₁ ee l m r o stands =
       let d = tree_ends e ee in
       let f = part_full 1 (kids_at added) n 16 1 k h in
@@ -81,17 +80,17 @@ module _ (added : List ℕ) (n k id past lv i c v : ℕ) (plan : List (List ℕ)
         };
       }
 
-  pub tree_wide : (e : ℕ) (p₁ : List (List ℕ)) → w ≡ End e → 1024 - i < e - k → Planned (added_tree added n k id) 0 past lv i c v plan step.Full p₁
+  pub tree_wide : (e : ℕ) (p₁ : List (List ℕ)) → w ≡ Ok e → 1024 - i < e - k → Planned (added_tree added n k id) 0 past lv i c v plan None p₁
   tree_wide e p₁ ee l = rw added_is record { by = record { over = λ y z. let q = size_mapped source slots in omega (arith, tree_ends e ee) } }
 
-  pub tree_deep : (t : Refusal) (p₁ : List (List ℕ)) → w ≡ Refused t → Planned (added_tree added n k id) 0 past lv i c v plan step.Full p₁
+  pub tree_deep : (t : Refusal) (p₁ : List (List ℕ)) → w ≡ Err t → Planned (added_tree added n k id) 0 past lv i c v plan None p₁
   tree_deep t p₁ et =
       let p = part 1 (kids_at added) n 16 1 k in
       rw added_is
       record { by = record { over = λ y z. ended_no (row 1 (kids_at added) n lv 1 k) p w t (row_reads_low 1 (kids_at added) n 16 1 k lv p (was_read 1 (kids_at added) n 16 1 k h) (rw (levels_mapped source slots) at y)) ew et } }
 
 -- the row that is asked for is there
-module _ (added : List ℕ) (n k lv e : ℕ) (w : Walked) (ew : w ≡ ended (row 1 (kids_at added) n lv 1 k)) (ee : w ≡ End e) where
+module _ (added : List ℕ) (n k lv e : ℕ) (w : Walked) (ew : w ≡ ended (row 1 (kids_at added) n lv 1 k)) (ee : w ≡ Ok e) where
   pub tree_from : k ≤ e
   tree_from = (end_room 1 (kids_at added) n lv 1 k e w ew ee).0
 

@@ -14,13 +14,12 @@ use Rattle.paper.specs.Rebuild.{Addition}
 use Rattle.laws.proofs.RoundTrip.{both}
 use Rattle.tree.specs.Read.{part, got}
 use Rattle.tree.specs.Says.{rooted}
-use Rattle.tree.specs.declared.Shaped.TheVariants.{Roots}
+use Rattle.std.specs.Prelude.{Ok, Some, None}
 use Rattle.tree.proofs.Roots.{roots_row}
 use Rattle.tree.proofs.Steps.{part_is, reads_is}
 use Rattle.plan.specs.Plan.{Source}
 use Rattle.update_rebuild.specs.declared.Place.{Place}
-use Rattle.update_rebuild.specs.declared.Step.{Step}
-use Rattle.update_rebuild.specs.declared.Step.TheVariants.{Went, Full}
+use Rattle.update_rebuild.specs.Answers.{Step}
 use Rattle.update_rebuild.specs.Sources.{parent, rebuilt_base, passed_base}
 use Rattle.update_rebuild.specs.Planned.{Readable, Based, PlannedBy, RowPlanned, fits, verdict, Rebuilds}
 
@@ -34,27 +33,27 @@ pub of_fits : (t : Forest Source) → fits t ≡ true → (levels t ≤ 16) × (
 unfolding fits
 of_fits t e = let b = both (leb (size t) 1024) (leb (levels t) 16) e in (leb-true (levels t) 16 b.1, leb-true (size t) 1024 b.0)
 
-verdict_went : (n d : ℕ) (t : Forest Source) (w : Place) → fits t ≡ true → w.next ≡ n → w.at ≡ size t → w.count ≡ siblings t → w.visited ≡ size t + d → Went w ≡ verdict n d t
+verdict_went : (n d : ℕ) (t : Forest Source) (w : Place) → fits t ≡ true → w.next ≡ n → w.at ≡ size t → w.count ≡ siblings t → w.visited ≡ size t + d → Some w ≡ verdict n d t
 unfolding verdict
 verdict_went n d t w e en ea ec ev = rw (e, ← en, ← ec, ← ev, ← ea)
 
-verdict_full : (n d : ℕ) (t : Forest Source) → (fits t ≡ true → ⊥) → Full ≡ verdict n d t
+verdict_full : (n d : ℕ) (t : Forest Source) → (fits t ≡ true → ⊥) → None ≡ verdict n d t
 unfolding verdict
 verdict_full n d t h = go (fits t) refl
   where
-    go : (b : Bool) → fits t ≡ b → Full ≡ cond (fits t) (Went (record { next = n; at = size t; count = siblings t; visited = size t + d })) Full
+    go : (b : Bool) → fits t ≡ b → None ≡ cond (fits t) (Some (record { next = n; at = size t; count = siblings t; visited = size t + d })) None
     go true e = absurd (h e)
     go false e = rw e
 
 judged : (t : Forest Source) (d n : ℕ) (plan : List (List ℕ)) (r : Step) (plan' : List (List ℕ)) → PlannedBy r t d n 16 0 0 0 plan plan' → Rebuilds t d n plan r plan'
-judged t d n plan (Went w) plan' h = record { answer = verdict_went n d t w (fits_of t h.low (omega (arith, h.at, h.room))) h.next (omega (arith, h.at)) (omega (arith, h.count)) (omega (arith, h.visited)); laid = λ e. h.laid }
-judged t d n plan Full plan' h =
+judged t d n plan (Some w) plan' h = record { answer = verdict_went n d t w (fits_of t h.low (omega (arith, h.at, h.room))) h.next (omega (arith, h.at)) (omega (arith, h.count)) (omega (arith, h.visited)); laid = λ e. h.laid }
+judged t d n plan None plan' h =
     let no : fits t ≡ true → ⊥ = λ e. h.over (of_fits t e).0 (let z = (of_fits t e).1 in omega arith) in
     record { answer = verdict_full n d t no; laid = λ e. absurd (no e) }
 
 -- ---- the root list
 
-roots_are : (P : Type 0) (x : Answer Part) (c : ℕ) → Roots c ≡ rooted 0 x → ((p : Part) → x ≡ ok p → c ≡ siblings p.trees → P) → P
+roots_are : (P : Type 0) (x : Answer Part) (c : ℕ) → Ok c ≡ rooted 0 x → ((p : Part) → x ≡ ok p → c ≡ siblings p.trees → P) → P
 unfolding rooted
 roots_are P (ok p) c e f = f p refl (let z : c ≡ 0 + siblings p.trees = cc in omega arith)
 roots_are P (refused n l k) c e f = let z : ◌≡◌ {A = ℕ} 0 1 = cc in absurd (omega arith)

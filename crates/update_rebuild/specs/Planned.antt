@@ -9,13 +9,12 @@ use Rattle.paper.specs.Layout.{roots}
 use Rattle.paper.specs.Rebuild.{Addition, arriving}
 use Rattle.tree.specs.Read.{part, reads}
 use Rattle.tree.specs.Says.{rooted}
-use Rattle.tree.specs.declared.Shaped.TheVariants.{Roots}
+use Rattle.std.specs.Prelude.{Ok, Some, None}
 use Rattle.plan.specs.Plan.{Source}
 use Rattle.plan.specs.Table.{sources, numbers, members, LaidIn}
 use Rattle.update_rebuild.specs.declared.Given.{Given}
 use Rattle.update_rebuild.specs.declared.Place.{Place}
-use Rattle.update_rebuild.specs.declared.Step.{Step}
-use Rattle.update_rebuild.specs.declared.Step.TheVariants.{Went, Full}
+use Rattle.update_rebuild.specs.Answers.{Step}
 use Rattle.update_rebuild.specs.declared.Head.{Head}
 use Rattle.update_rebuild.specs.Sources.{additions, rebuilt_row, rebuilt_one, passed}
 
@@ -70,7 +69,7 @@ additions_in added given decisions =
 pub record Based (records : List ℕ) (n c : ℕ) : Type 0 where
   pub whole : n * 24 ≤ length records
   pub small : n ≤ 1024
-  pub rooted : Roots c ≡ rooted 0 (roots 0 (kids_at records) n n 0)
+  pub rooted : Ok c ≡ rooted 0 (roots 0 (kids_at records) n n 0)
 
 -- ---- what is left
 
@@ -89,8 +88,8 @@ pub record Over (t : Forest Source) (lv i : ℕ) : Type 0 where
   pub over : levels t ≤ lv → i + size t ≤ 1024 → ⊥
 
 abbrev pub PlannedBy : Step → (t : Forest Source) (d past lv i c v : ℕ) (plan plan' : List (List ℕ)) → Type 0
-PlannedBy (Went w) t d past lv i c v plan plan' = Whole t d past lv i c v plan w plan'
-PlannedBy Full t d past lv i c v plan plan' = Over t lv i
+PlannedBy (Some w) t d past lv i c v plan plan' = Whole t d past lv i c v plan w plan'
+PlannedBy None t d past lv i c v plan plan' = Over t lv i
 
 pub record Planned (t : Forest Source) (d past lv i c v : ℕ) (plan : List (List ℕ)) (r : Step) (plan' : List (List ℕ)) : Type 0 where
   pub by : PlannedBy r t d past lv i c v plan plan'
@@ -135,7 +134,7 @@ unfoldable pub fits : Forest Source → Bool
 fits t = leb (size t) 1024 && leb (levels t) 16
 
 unfoldable pub verdict : (n d : ℕ) → Forest Source → Step
-verdict n d t = cond (fits t) (Went (record { next = n; at = size t; count = siblings t; visited = size t + d })) Full
+verdict n d t = cond (fits t) (Some (record { next = n; at = size t; count = siblings t; visited = size t + d })) None
 
 -- t is the plan of n records, of which d dropped members were passed.
 pub record Rebuilds (t : Forest Source) (d n : ℕ) (plan : List (List ℕ)) (r : Step) (plan' : List (List ℕ)) : Type 0 where

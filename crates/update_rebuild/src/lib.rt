@@ -27,10 +27,8 @@ ghost use Rattle.update_rebuild.specs.Planned.{
 
 use paper::is_struct;
 use plan::{PlanRows, put_planned};
-use record::{
-    ADDED_RECORDS, RECORDS, Siblings, Trees, id_bits_at, kids_at, kind_at, long, low_32, under_of,
-};
-use tree::{Walked, row_end, tree_end};
+use record::{Siblings, Trees, id_bits_at, kids_at, kind_at, long, low_32, under_of};
+use tree::{row_end, tree_end};
 use update_dropped::dropped_member;
 
 // How much a request has: base records, added records, deletions, additions and edits; the last id, plus 2^31; and the version that
@@ -189,7 +187,7 @@ fn add_tree(
     levels: usize,
     plan: &mut PlanRows,
     place: Place,
-) -> Step
+) -> Option<Place>
     requires { (m * 24 ≤ length added.now) × (m ≤ 1024) × (slot ≤ m)
         × (reads 1 (kids_at added.now) m 16 1 slot ≡ true) × (levels ≤ 16) × (place.at ≤ 1024)
         × (place.count ≤ place.at) × (place.visited ≤ place.at + 1024)
@@ -198,15 +196,15 @@ fn add_tree(
         place.at place.count place.visited plan.old result plan.new }
 {
     let walked = row_end(added, m, slot, 1, levels, 1);
-    let Walked::End(end) = walked else {
-        return Step::Full;
+    let Ok(end) = walked else {
+        return None;
     };
     let size = end - slot;
     if 1024 - place.at < size {
-        return Step::Full;
+        return None;
     }
     put_added(added, slot, size, id, plan, place.at);
-    Step::Went(behind(place, size))
+    Some(behind(place, size))
 }
 
 // The additions under q, in entry order.
@@ -218,7 +216,7 @@ fn add_all(
     levels: usize,
     plan: &mut PlanRows,
     place: Place,
-) -> Step
+) -> Option<Place>
     requires { ResolvedIn added.now given decisions.now × (q ≤ 4294967296) × (levels ≤ 16)
         × (place.at ≤ 1024) × (place.count ≤ place.at) × (place.visited ≤ place.at + 1024)
         × (length plan.old ≡ 3) }
@@ -229,21 +227,21 @@ fn add_all(
     let mut j = 0;
     let mut here = place;
     while j < given.additions {
-        let under = decisions[UNDERS][j];
+        let under = decisions.unders[j];
         if under != q {
             j += 1;
             continue;
         }
-        let first = decisions[FIRSTS][j] as usize;
-        let start = low_32(decisions[STARTS][j]);
+        let first = decisions.firsts[j] as usize;
+        let start = low_32(decisions.starts[j]);
         let step = add_tree(added, given.added, first, start, levels, plan, here);
-        let Step::Went(w) = step else {
-            return Step::Full;
+        let Some(w) = step else {
+            return None;
         };
         here = w;
         j += 1;
     }
-    Step::Went(here)
+    Some(here)
 }
 
 // The end of a row: additions follow the members of the root list or of a struct.
@@ -255,7 +253,7 @@ fn close(
     levels: usize,
     plan: &mut PlanRows,
     place: Place,
-) -> Step
+) -> Option<Place>
     requires { ResolvedIn added.now given decisions.now × (under.q ≤ 4294967296)
         × (levels ≤ 16) × (place.at ≤ 1024) × (place.count ≤ place.at)
         × (place.visited ≤ place.at + 1024) × (length plan.old ≡ 3) }
@@ -267,7 +265,7 @@ fn close(
     if under.opens {
         return add_all(added, given, decisions, under.q, levels, plan, place);
     }
-    Step::Went(place)
+    Some(place)
 }
 
 // A record that stays, and its inside rebuilt. Its place in the plan is filled once its members are counted.
@@ -282,7 +280,7 @@ pub fn rebuild_field<'a>(
     decisions: &Decisions,
     plan: &mut PlanRows,
     place: Place,
-) -> Step
+) -> Option<Place>
     requires { Inside (trees_in trees.now).records given.base levels slot
         × Good (set_of dropped.now drops)
         × ResolvedIn (trees_in trees.now).added_records given decisions.now
@@ -296,12 +294,12 @@ pub fn rebuild_field<'a>(
 {
     let at = place.at;
     if 1024 <= at {
-        return Step::Full;
+        return None;
     }
-    let head = head_at(trees[RECORDS], slot);
+    let head = head_at(trees.records, slot);
     if is_leaf(head) {
         put_planned(plan, at, slot as u32, head.id, 0);
-        return Step::Went(Place {
+        return Some(Place {
             next: slot + 1,
             at: at + 1,
             count: place.count + 1,
@@ -324,11 +322,11 @@ pub fn rebuild_field<'a>(
         plan,
         at + 1,
     );
-    let Step::Went(w) = step else {
-        return Step::Full;
+    let Some(w) = step else {
+        return None;
     };
     put_planned(plan, at, slot as u32, head.id, w.count);
-    Step::Went(past(place, w))
+    Some(past(place, w))
 }
 
 // Siblings of the base, rebuilt.
@@ -343,7 +341,7 @@ pub fn rebuild_fields<'a>(
     decisions: &Decisions,
     plan: &mut PlanRows,
     at: usize,
-) -> Step
+) -> Option<Place>
     requires { Readable (trees_in trees.now).records given.base row.levels row.count
         row.slot × (under.q ≤ 4294967296) × Good (set_of dropped.now drops)
         × ResolvedIn (trees_in trees.now).added_records given decisions.now × (at ≤ 1024)
@@ -354,7 +352,7 @@ pub fn rebuild_fields<'a>(
         decisions.now) given.base row.levels row.count row.slot
         (parent under.q) under.opens plan.old at result plan.new }
 {
-    let records = trees[RECORDS];
+    let records = trees.records;
     let levels = row.levels;
     let mut left = row.count;
     let mut here = Place {
@@ -373,13 +371,13 @@ pub fn rebuild_fields<'a>(
         let step = rebuild_field(
             trees, given, k, levels, dropped, drops, decisions, plan, here,
         );
-        let Step::Went(w) = step else {
-            return Step::Full;
+        let Some(w) = step else {
+            return None;
         };
         here = w;
         left -= 1;
     }
-    let added = trees[ADDED_RECORDS];
+    let added = trees.added_records;
     close(under, added, given, decisions, levels, plan, here)
 }
 
@@ -392,7 +390,7 @@ pub fn rebuild<'a>(
     drops: usize,
     decisions: &Decisions,
     plan: &mut PlanRows,
-) -> Step
+) -> Option<Place>
     requires { Based (trees_in trees.now).records given.base roots
         × Good (set_of dropped.now drops)
         × ResolvedIn (trees_in trees.now).added_records given decisions.now

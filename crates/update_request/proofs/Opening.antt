@@ -12,8 +12,8 @@ use Rattle.paper.specs.Decode.{decode}
 use Rattle.paper.specs.Limits.{room}
 use Rattle.paper.specs.Promotions.{known_version}
 use Rattle.laws.proofs.Basics.{bind_is, bind_not}
-use Rattle.record.specs.declared.Check.{Check}
-use Rattle.record.specs.declared.Check.TheVariants as check
+use Rattle.record.specs.Answers.{Check}
+use Rattle.std.specs.Prelude.{Ok, Err}
 use Rattle.record.specs.declared.Refusal.{Refusal}
 use Rattle.record.specs.Says.{refusal_of, checked}
 use Rattle.record.specs.Trees.{Trees, Lists}
@@ -21,16 +21,14 @@ use Rattle.record.proofs.Testing.{checked_refused, checked_ok}
 use Rattle.record_limits.specs.Update.{SizedUpdate}
 use Rattle.record_limits.proofs.Within.{base_most, added_most, deletions_most, additions_most, edits_most}
 use Rattle.tree.specs.Says.{decoded}
-use Rattle.tree.specs.declared.Shaped.{Shaped}
-use Rattle.tree.specs.declared.Shaped.TheVariants as shaped
+use Rattle.tree.specs.Answers.{Shaped}
 use Rattle.tree.proofs.Deciding.{decode_refused, decode_ok}
-use Rattle.update_request.specs.declared.Opened.{Opened}
-use Rattle.update_request.specs.declared.Opened.TheVariants as it
+use Rattle.update_request.specs.Answers.{Opened}
 use Rattle.update_request.specs.Opened.{Forests, both_trees, trees_read, all_lists, listed, readable, opening, opened, Opens}
 
 -- ---- what an answer of the code says of the paper's
 
-pub open_refused : (x : Answer Forests) (w : Opened) (f : Refusal) → w ≡ opened x → w ≡ it.Refused f → x ≡ refused f.number f.list f.place
+pub open_refused : (x : Answer Forests) (w : Opened) (f : Refusal) → w ≡ opened x → w ≡ Err f → x ≡ refused f.number f.list f.place
 unfolding opened
 open_refused (ok t) w f e q = cc
 open_refused (refused n l p) w f e q = let z : f ≡ refusal_of n l p = cc in rw z
@@ -48,33 +46,33 @@ module _ (l : Trees) (lists : Lists) where
   edits_ok = entries_ok 6 16 ok_edit edit_in l.edits l.request_pool
 
   module _ (u : Check) (eu : u ≡ checked deletions_ok) where
-    pub list_stops : (f : Refusal) → u ≡ check.Refused f → check.Refused f ≡ listed l lists
+    pub list_stops : (f : Refusal) → u ≡ Err f → Err f ≡ listed l lists
     unfolding listed ◌>>=◌ checked
     list_stops f q = rw (checked_refused deletions_ok u f eu q)
 
-    module _ (q : u ≡ check.Fine) (v : Check) (ev : v ≡ checked additions_ok) where
-      pub next_stops : (f : Refusal) → v ≡ check.Refused f → check.Refused f ≡ listed l lists
+    module _ (q : u ≡ (Ok tt)) (v : Check) (ev : v ≡ checked additions_ok) where
+      pub next_stops : (f : Refusal) → v ≡ Err f → Err f ≡ listed l lists
       unfolding listed ◌>>=◌ checked
       next_stops f h = rw (checked_ok deletions_ok u eu q, checked_refused additions_ok v f ev h)
 
-      pub list_goes : (w : Check) → v ≡ check.Fine → w ≡ checked edits_ok → w ≡ listed l lists
+      pub list_goes : (w : Check) → v ≡ (Ok tt) → w ≡ checked edits_ok → w ≡ listed l lists
       unfolding listed ◌>>=◌
       list_goes w h e = rw (checked_ok deletions_ok u eu q, checked_ok additions_ok v ev h) e
 
 -- ---- the trees
 
 module _ (l : Trees) (w : Shaped) (ew : w ≡ decoded (decode 0 l.records l.pool)) where
-  pub base_stops : (f : Refusal) → w ≡ shaped.Refused f → it.Refused f ≡ opened (trees_read l)
+  pub base_stops : (f : Refusal) → w ≡ Err f → Err f ≡ opened (trees_read l)
   unfolding trees_read ◌>>=◌ opened
   base_stops f q = rw (decode_refused (decode 0 l.records l.pool) w f ew q)
 
-  module _ (c : ℕ) (q : w ≡ shaped.Roots c) (v : Shaped) (ev : v ≡ decoded (decode 1 l.added_records l.request_pool)) where
-    pub added_stops : (f : Refusal) → v ≡ shaped.Refused f → it.Refused f ≡ opened (trees_read l)
+  module _ (c : ℕ) (q : w ≡ Ok c) (v : Shaped) (ev : v ≡ decoded (decode 1 l.added_records l.request_pool)) where
+    pub added_stops : (f : Refusal) → v ≡ Err f → Err f ≡ opened (trees_read l)
     unfolding trees_read ◌>>=◌ opened
     added_stops f h =
         decode_ok _ (decode 0 l.records l.pool) w c ew q λ t et ec. rw (et, decode_refused (decode 1 l.added_records l.request_pool) v f ev h)
 
-    pub both_read : (c' : ℕ) → v ≡ shaped.Roots c' → it.Roots c c' ≡ opened (trees_read l)
+    pub both_read : (c' : ℕ) → v ≡ Ok c' → Ok (c, c') ≡ opened (trees_read l)
     unfolding trees_read ◌>>=◌ opened
     both_read c' h =
         decode_ok _ (decode 0 l.records l.pool) w c ew q λ t et ec.
@@ -94,28 +92,28 @@ trees_first l lists =
     go (ok t) (refused i l k) u v w = refl
     go (refused i l k) y u v w = refl
 
-open_ok : (P : Type 0) (x : Answer Forests) (w : Opened) (c c' : ℕ) → w ≡ opened x → w ≡ it.Roots c c' → ((t : Forests) → x ≡ ok t → it.Roots c c' ≡ opened (ok t) → P) → P
+open_ok : (P : Type 0) (x : Answer Forests) (w : Opened) (c c' : ℕ) → w ≡ opened x → w ≡ Ok (c, c') → ((t : Forests) → x ≡ ok t → Ok (c, c') ≡ opened (ok t) → P) → P
 unfolding opened
 open_ok P (ok t) w c c' e q f = f t refl (sym q ∙ e)
 open_ok P (refused n l p) w c c' e q f = absurd (differ (sym e ∙ q))
   where
-    differ : it.Refused (refusal_of n l p) ≡ it.Roots c c' → ⊥
+    differ : Err (refusal_of n l p) ≡ Ok (c, c') → ⊥
     differ z = let y : ◌≡◌ {A = ℕ} 0 1 = cc in omega arith
 
 module _ (l : Trees) (lists : Lists) (w : Opened) (ew : w ≡ opened (trees_read l)) where
-  pub contents_stop : (f : Refusal) → w ≡ it.Refused f → it.Refused f ≡ opened (readable l lists)
+  pub contents_stop : (f : Refusal) → w ≡ Err f → Err f ≡ opened (readable l lists)
   unfolding ◌>>=◌ opened
   contents_stop f q = rw (trees_first l lists, open_refused (trees_read l) w f ew q)
 
-  module _ (c c' : ℕ) (q : w ≡ it.Roots c c') (v : Check) (ev : v ≡ listed l lists) where
-    pub lists_stop : (f : Refusal) → v ≡ check.Refused f → it.Refused f ≡ opened (readable l lists)
+  module _ (c c' : ℕ) (q : w ≡ Ok (c, c')) (v : Check) (ev : v ≡ listed l lists) where
+    pub lists_stop : (f : Refusal) → v ≡ Err f → Err f ≡ opened (readable l lists)
     unfolding listed opened
     lists_stop f h =
         open_ok _ (trees_read l) w c c' ew q λ t et eo.
         let z = checked_refused (all_lists l lists) v f ev h in
         sym (ap opened (trees_first l lists ∙ bind_is (trees_read l) _ t et ∙ bind_not (all_lists l lists) _ _ _ _ z))
 
-    pub contents_fine : v ≡ check.Fine → it.Roots c c' ≡ opened (readable l lists)
+    pub contents_fine : v ≡ (Ok tt) → Ok (c, c') ≡ opened (readable l lists)
     unfolding listed
     contents_fine h =
         open_ok _ (trees_read l) w c c' ew q λ t et eo.
@@ -125,17 +123,17 @@ module _ (l : Trees) (lists : Lists) (w : Opened) (ew : w ≡ opened (trees_read
 -- ---- 1, 2 and 25
 
 module _ (l : Trees) (lists : Lists) (v rr rn : ℕ) (g : Bool) (eg : g ≡ room rr rn) where
-  pub no_room : not g ≡ true → Opens l lists v rr rn (it.Refused (refusal_of 1 0 0))
+  pub no_room : not g ≡ true → Opens l lists v rr rn (Err (refusal_of 1 0 0))
   unfolding opening ◌>>=◌ opened
   no_room q = record { says = λ last. rw (← eg, q) }
 
   module _ (q : not g ≡ false) (h : Bool) (sized : SizedUpdate l lists h) where
-    pub no_limits : not h ≡ true → Opens l lists v rr rn (it.Refused (refusal_of 2 0 0))
+    pub no_limits : not h ≡ true → Opens l lists v rr rn (Err (refusal_of 2 0 0))
     unfolding opening ◌>>=◌ opened
     no_limits f = record { says = λ last. rw (← eg, q, ← (sized.says last v rr rn), f) }
 
     module _ (f : not h ≡ false) (k : Bool) (ek : k ≡ known_version v) where
-      pub no_version : not k ≡ true → Opens l lists v rr rn (it.Refused (refusal_of 25 0 0))
+      pub no_version : not k ≡ true → Opens l lists v rr rn (Err (refusal_of 25 0 0))
       unfolding opening ◌>>=◌ opened
       no_version u = record { says = λ last. rw (← eg, q, ← (sized.says last v rr rn), f, ← ek, u) }
 

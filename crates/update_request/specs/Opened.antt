@@ -8,11 +8,11 @@ use Rattle.paper.specs.Lists.{ok_deletion, ok_addition, path_in, ok_edit, edit_i
 use Rattle.paper.specs.Decode.{decode}
 use Rattle.paper.specs.Limits.{room, sized_update}
 use Rattle.paper.specs.Promotions.{known_version}
-use Rattle.record.specs.declared.Check.{Check}
+use Rattle.record.specs.Answers.{Check}
 use Rattle.record.specs.Says.{refusal_of, checked}
 use Rattle.record.specs.Trees.{Trees, Lists, stored_in, lent_in}
-use Rattle.update_request.specs.declared.Opened.{Opened}
-use Rattle.update_request.specs.declared.Opened.TheVariants as it
+use Rattle.update_request.specs.Answers.{Opened}
+use Rattle.std.specs.Prelude.{Ok, Err}
 
 -- The two trees that were read.
 pub record Forests : Type 0 where
@@ -55,8 +55,8 @@ opening l lists last version room_records room_names = do
 
 -- What the code says of it.
 unfoldable pub opened : Answer Forests → Opened
-opened (ok both) = it.Roots (siblings both.base) (siblings both.added)
-opened (refused n l p) = it.Refused (refusal_of n l p)
+opened (ok both) = Ok ((siblings both.base), (siblings both.added))
+opened (refused n l p) = Err (refusal_of n l p)
 
 -- Whatever the last id is.
 pub record Opens (l : Trees) (lists : Lists) (version room_records room_names : ℕ) (r : Opened) : Type 0 where

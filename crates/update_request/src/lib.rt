@@ -6,13 +6,10 @@ ghost use Rattle.paper.specs.Promotions.{known_version};
 ghost use Rattle.record.specs.Trees.{trees_in, lists_in};
 ghost use Rattle.update_request.specs.Opened.{trees_read, listed, readable, opened, Opens};
 
-use record::{
-    ADDED_RECORDS, ADDITIONS, Check, DELETIONS, EDITS, Lists, POOL, RECORDS, REQUEST_POOL, Refusal,
-    Trees,
-};
+use record::{Lists, Refusal, Trees};
 use record_entries::{PathList, check_entries};
 use record_limits::{room, sized_update};
-use tree::{Shaped, check_tree};
+use tree::{check_tree};
 
 // How many roots the base has, and how many the additions tree.
 #[derive(Clone, Copy)]
@@ -22,41 +19,35 @@ pub enum Opened {
 }
 
 // Refusals 3 and 4 of the three lists of entries.
-fn check_lists<'a>(trees: &Trees<'a>, lists: &Lists<'a>) -> Check
+fn check_lists<'a>(trees: &Trees<'a>, lists: &Lists<'a>) -> Result<(), Refusal>
     requires { (length (lists_in lists.now).deletions ≤ 512)
         × (length (lists_in lists.now).additions ≤ 512)
         × (length (trees_in trees.now).edits ≤ 1024) }
     ensures { result ≡ listed (trees_in trees.now) (lists_in lists.now) }
 {
-    let request_pool = trees[REQUEST_POOL];
-    let deletions = check_entries(lists[DELETIONS], request_pool, PathList::Deletions);
-    if let Check::Refused(r) = deletions {
-        return Check::Refused(r);
-    }
-    let additions = check_entries(lists[ADDITIONS], request_pool, PathList::Additions);
-    if let Check::Refused(r) = additions {
-        return Check::Refused(r);
-    }
-    check_entries(trees[EDITS], request_pool, PathList::Edits)
+    let request_pool = trees.request_pool;
+    check_entries(lists.deletions, request_pool, PathList::Deletions)?;
+    check_entries(lists.additions, request_pool, PathList::Additions)?;
+    check_entries(trees.edits, request_pool, PathList::Edits)
 }
 
 // Refusals 3 to 6 of the base, then of the additions tree.
-fn check_trees<'a>(trees: &Trees<'a>) -> Opened
+fn check_trees<'a>(trees: &Trees<'a>) -> Result<(u32, u32), Refusal>
     requires { (length (trees_in trees.now).records ≤ 24576)
         × (length (trees_in trees.now).added_records ≤ 24576) }
     ensures { result ≡ opened (trees_read (trees_in trees.now)) }
 {
-    match check_tree(trees[RECORDS], trees[POOL], 0) {
-        Shaped::Roots(roots) => match check_tree(trees[ADDED_RECORDS], trees[REQUEST_POOL], 1) {
-            Shaped::Roots(columns) => Opened::Roots(roots, columns),
-            Shaped::Refused(r) => Opened::Refused(r),
+    match check_tree(trees.records, trees.pool, 0) {
+        Ok(roots) => match check_tree(trees.added_records, trees.request_pool, 1) {
+            Ok(columns) => Ok((roots, columns)),
+            Err(r) => Err(r),
         },
-        Shaped::Refused(r) => Opened::Refused(r),
+        Err(r) => Err(r),
     }
 }
 
 // Refusals 3 to 6 of both trees, 3 and 4 of the three lists.
-fn check_contents<'a>(trees: &Trees<'a>, lists: &Lists<'a>) -> Opened
+fn check_contents<'a>(trees: &Trees<'a>, lists: &Lists<'a>) -> Result<(u32, u32), Refusal>
     requires { (length (trees_in trees.now).records ≤ 24576)
         × (length (trees_in trees.now).added_records ≤ 24576)
         × (length (lists_in lists.now).deletions ≤ 512)
@@ -66,11 +57,11 @@ fn check_contents<'a>(trees: &Trees<'a>, lists: &Lists<'a>) -> Opened
         (lists_in lists.now)) }
 {
     match check_trees(trees) {
-        Opened::Roots(roots, columns) => match check_lists(trees, lists) {
-            Check::Fine => Opened::Roots(roots, columns),
-            Check::Refused(r) => Opened::Refused(r),
+        Ok((roots, columns)) => match check_lists(trees, lists) {
+            Ok(()) => Ok((roots, columns)),
+            Err(r) => Err(r),
         },
-        Opened::Refused(r) => Opened::Refused(r),
+        Err(r) => Err(r),
     }
 }
 
@@ -88,13 +79,13 @@ pub fn open_update<'a>(
     version: u32,
     room_records: usize,
     room_names: usize,
-) -> Opened
+) -> Result<(u32, u32), Refusal>
     ensures { Opens (trees_in trees.now) (lists_in lists.now) version
         room_records room_names result }
 {
     if !room(room_records, room_names) {
         // refusal 1
-        return Opened::Refused(Refusal {
+        return Err(Refusal {
             number: 1,
             list: 0,
             place: 0,
@@ -102,7 +93,7 @@ pub fn open_update<'a>(
     }
     if !sized_update(trees, lists) {
         // refusal 2
-        return Opened::Refused(Refusal {
+        return Err(Refusal {
             number: 2,
             list: 0,
             place: 0,
@@ -110,7 +101,7 @@ pub fn open_update<'a>(
     }
     if !known_version(version) {
         // refusal 25
-        return Opened::Refused(Refusal {
+        return Err(Refusal {
             number: 25,
             list: 0,
             place: 0,

@@ -14,13 +14,12 @@ use Rattle.paper.specs.Update.{Receiver, receiver, root_taken, member_taken, pla
 use Rattle.laws.proofs.Basics.{bind_is, bind_not}
 use Rattle.laws.proofs.Going.{gone_same}
 use Rattle.record.specs.declared.Refusal.{Refusal}
-use Rattle.record.specs.declared.Check.{Check}
-use Rattle.record.specs.declared.Check.TheVariants as check
+use Rattle.record.specs.Answers.{Check}
+use Rattle.std.specs.Prelude.{Ok, Err}
 use Rattle.update_dropped.specs.declared.Dropped.{Dropped}
 use Rattle.update_dropped.specs.Set.{dropped_ids}
 use Rattle.update_decide.specs.Entry.{parent_place}
-use Rattle.update_schema.specs.declared.Decided.{Decided}
-use Rattle.update_schema.specs.declared.Decided.TheVariants as decided
+use Rattle.update_schema.specs.Answers.{Decided}
 use Rattle.update_dropped.specs.Gathered.{row_ids, Gathered}
 use Rattle.update_schema.specs.Deletions.{DropsAll}
 use Rattle.update_schema.specs.Additions.{one_placed, all_placed, PlacesBy, PlacesAll}
@@ -75,16 +74,16 @@ module _ (t : Forest Field) (ds ds' : List ℕ) (h : (x : ℕ) → among x ds �
       ∙ sym (placed_step t ds' last k p ps f m n)
 
 module _ (t : Forest Field) (ids request deletions : List ℕ) (d : ℕ) (added additions : List ℕ) (total m last : ℕ) (c : Check) (bits : List ℕ) (dc : DropsAll t ids request deletions d c bits) where
-  pub changes_stop : (x : Refusal) (us fs st : List ℕ) → c ≡ check.Refused x → Decides t ids request deletions d added additions total m last (decided.Refused x) bits us fs st
+  pub changes_stop : (x : Refusal) (us fs st : List ℕ) → c ≡ Err x → Decides t ids request deletions d added additions total m last (Err x) bits us fs st
   unfolding changes
   changes_stop x us fs st q =
       let e = (rw q at dc).by in
       record { by = bind_not _ _ x.number x.list x.place e; dropped = λ i z. absurd (differ i z) }
     where
-      differ : (i : ℕ) → decided.Refused x ≡ decided.Last i → ⊥
+      differ : (i : ℕ) → Err x ≡ Ok i → ⊥
       differ i z = let y : ◌≡◌ {A = ℕ} 0 1 = cc in omega arith
 
-  pub changes_go : (s : Dropped) (r : Decided) (kept us fs st : List ℕ) → c ≡ check.Fine → Gathered bits d s → PlacesAll t (dropped_ids s) request added additions total m last r us fs st → kept ≡ bits → Decides t ids request deletions d added additions total m last r kept us fs st
+  pub changes_go : (s : Dropped) (r : Decided) (kept us fs st : List ℕ) → c ≡ (Ok tt) → Gathered bits d s → PlacesAll t (dropped_ids s) request added additions total m last r us fs st → kept ≡ bits → Decides t ids request deletions d added additions total m last r kept us fs st
   unfolding changes all_placed
   changes_go s r kept us fs st q g p k =
       let e = (rw q at dc).by in

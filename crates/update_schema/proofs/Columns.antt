@@ -38,9 +38,8 @@ use Rattle.update_rebuild.specs.Sources.{parent, added_source, added_tree, addit
 use Rattle.update_rebuild.specs.Sources as sources
 use Rattle.update_rebuild.proofs.Paper.{fresh_fields}
 use Rattle.update_schema.specs.declared.Spot.{Spot}
-use Rattle.update_schema.specs.declared.Spotted.{Spotted}
-use Rattle.update_schema.specs.declared.Spotted.TheVariants as spotted
-use Rattle.update_schema.specs.declared.Decided.TheVariants as decided
+use Rattle.update_schema.specs.Answers.{Spotted}
+use Rattle.std.specs.Prelude.{Ok, Err}
 use Rattle.update_schema.specs.Base as given
 use Rattle.update_schema.specs.Additions.{column_size, one_placed, Settled, OneSpotted, Columns, parents_in, all_placed, PlacesAll}
 use Rattle.update_schema.proofs.Deleting.{entry_here}
@@ -144,7 +143,7 @@ module _ (t : Forest Field) (ds request added additions : List ℕ) (total m las
   arrive_none : (pool base edits : List ℕ) → mapped_all (planned_field (lent_trees base pool added request edits)) (from (addition_at added m us fs st) 0 k) ++ arrivals with_id end [] (fields request added (part 1 (kids_at added) m 16 (total - k) slot).trees) ≡ mapped_all (planned_field (lent_trees base pool added request edits)) (from (addition_at added m us fs st) 0 k)
   arrive_none pool base edits = ap (λ (z : List (Addition Field)). mapped_all (planned_field (lent_trees base pool added request edits)) (from (addition_at added m us fs st) 0 k) ++ z) (arrivals_none end _) ∙ append-nil _
 
-  pub place_ends : total ≤ k → PlacesAll t ds request added additions total m last (decided.Last end) us fs st
+  pub place_ends : total ≤ k → PlacesAll t ds request added additions total m last (Ok end) us fs st
   unfolding sources.additions
   place_ends l =
       let w = H.within in
@@ -181,7 +180,7 @@ module _ (t : Forest Field) (ds request added additions : List ℕ) (total m las
         ap₂ (λ (y : List (Option (List ℕ))) (z : Part). placed_all t ds end k y (fields request added z.trees)) (from_step (parent_path request additions) k total l) (part_in 1 (kids_at added) m 16 (total - k) slot H.read (kids_at added slot) (λ z. omega arith) refl)
         ∙ placed_step t ds end k (parent_path request additions k) (from (parent_path request additions) (k + 1) (total - (k + 1))) (field_at request added slot) (fields request added inner.trees) (fields request added (part 1 (kids_at added) m 16 (total - k - 1) inner.next).trees)
 
-    pub place_stops : (r : Spotted) (x : Refusal) (us' fs' st' : List ℕ) → OneSpotted t ds request added additions m end k slot r → r ≡ spotted.Refused x → PlacesAll t ds request added additions total m last (decided.Refused x) us' fs' st'
+    pub place_stops : (r : Spotted) (x : Refusal) (us' fs' st' : List ℕ) → OneSpotted t ds request added additions m end k slot r → r ≡ Err x → PlacesAll t ds request added additions total m last (Err x) us' fs' st'
     place_stops r x us' fs' st' d q = let e = (rw q at d).by in record { by = H.stops x.number x.list x.place (here ∙ bind_not _ _ x.number x.list x.place e) }
 
     -- the column by itself was read too
@@ -277,5 +276,5 @@ module _ (t : Forest Field) (ds request added additions : List ℕ) (total m las
             stops = λ i j v e. H.stops i j v (onward (refused i j v) e ∙ bind_not (refused i j v) _ i j v refl);
           }
 
-    pub place_goes : (r : Spotted) (s : Spot) (a : ℕ) → (length us ≡ 64) × (length fs ≡ 64) × (length st ≡ 64) → Columns request added additions total m → OneSpotted t ds request added additions m end k slot r → r ≡ spotted.At s → a ≡ s.start → Placing t ds request added additions total m last (k + 1) s.next s.last (set us k s.under) (set fs k slot) (set st k a)
+    pub place_goes : (r : Spotted) (s : Spot) (a : ℕ) → (length us ≡ 64) × (length fs ≡ 64) × (length st ≡ 64) → Columns request added additions total m → OneSpotted t ds request added additions m end k slot r → r ≡ Ok s → a ≡ s.start → Placing t ds request added additions total m last (k + 1) s.next s.last (set us k s.under) (set fs k slot) (set st k a)
     place_goes r s a w h d q e = rw e (settled_goes h s (rw q at d).by w)

@@ -24,11 +24,10 @@ use Rattle.laws.proofs.Runs.{from_step, from_done, from_all, from_append, from_s
 use Rattle.laws.proofs.Basics.{bind_is, bind_not}
 use Rattle.record.specs.declared.FieldId.{FieldId}
 use Rattle.record.specs.declared.Refusal.{Refusal}
-use Rattle.record.specs.declared.Found.{Found}
-use Rattle.record.specs.declared.Check.TheVariants as check
+use Rattle.record.specs.Answers.{Found}
+use Rattle.std.specs.Prelude.{Ok, Err}
 use Rattle.record.specs.Says.{found_row, refusal_of}
-use Rattle.update_decide.specs.declared.Dropping.{Dropping}
-use Rattle.update_decide.specs.declared.Dropping.TheVariants as dropping
+use Rattle.update_decide.specs.Answers.{Dropping}
 use Rattle.update_decide.specs.Entry.{Known, dropped_id, drops, Deleted}
 use Rattle.update_schema.specs.Base.{Entries}
 use Rattle.update_dropped.specs.Gathered.{row_ids}
@@ -36,16 +35,16 @@ use Rattle.update_schema.specs.Deletions.{DropsAll}
 
 -- ---- chains and answers
 
-of_refused : (x : Answer ℕ) (f : Refusal) → dropping.Refused f ≡ drops x → x ≡ refused f.number f.list f.place
+of_refused : (x : Answer ℕ) (f : Refusal) → Err f ≡ drops x → x ≡ refused f.number f.list f.place
 unfolding drops
 of_refused (ok i) f e = cc
 of_refused (refused n l p) f e = let z : f ≡ refusal_of n l p = cc in rw z
 
-id_refused : (x : FieldId) (n l p : ℕ) → dropping.Id x ≡ drops (refused n l p) → ⊥
+id_refused : (x : FieldId) (n l p : ℕ) → Ok x ≡ drops (refused n l p) → ⊥
 unfolding drops
 id_refused x n l p e = let y : ◌≡◌ {A = ℕ} 0 1 = cc in omega arith
 
-id_told : (x : FieldId) (i : ℕ) → dropping.Id x ≡ drops (ok i) → x.0 ≡ turned i
+id_told : (x : FieldId) (i : ℕ) → Ok x ≡ drops (ok i) → x.0 ≡ turned i
 unfolding drops
 id_told x i e = let z : x ≡ record { 0 = turned i } = cc in rw z
 
@@ -75,12 +74,12 @@ deleted_step t ids k p ps = go (look_name t p)
     go (some r) = tested (among r.field.id ids) r.field.id (deleted t ids (suc k) ps)
 
 -- what the answer of one deletion says of the paper's
-one_dropped : (P : Type 0) (o : Option Row) (ids : List ℕ) (k : ℕ) (x : FieldId) → Known o → dropping.Id x ≡ drops (dropped_id o ids k) → ((i : ℕ) → dropped_id o ids k ≡ ok i → turned x.0 ≡ i → P) → P
+one_dropped : (P : Type 0) (o : Option Row) (ids : List ℕ) (k : ℕ) (x : FieldId) → Known o → Ok x ≡ drops (dropped_id o ids k) → ((i : ℕ) → dropped_id o ids k ≡ ok i → turned x.0 ≡ i → P) → P
 unfolding dropped_id ◌>>=◌ Known
 one_dropped P none ids k x h e f = absurd (id_refused x _ _ _ e)
 one_dropped P (some r) ids k x h e f = go (among r.field.id ids) refl e f
   where
-    go : (b : Bool) → among r.field.id ids ≡ b → dropping.Id x ≡ drops (fault_if 12 2 k b >>= λ _. ok r.field.id) → ((i : ℕ) → (fault_if 12 2 k b >>= λ _. ok r.field.id) ≡ ok i → turned x.0 ≡ i → P) → P
+    go : (b : Bool) → among r.field.id ids ≡ b → Ok x ≡ drops (fault_if 12 2 k b >>= λ _. ok r.field.id) → ((i : ℕ) → (fault_if 12 2 k b >>= λ _. ok r.field.id) ≡ ok i → turned x.0 ≡ i → P) → P
     go true q a g = absurd (id_refused x _ _ _ a)
     go false q a g = g r.field.id refl (ap turned (id_told x r.field.id a) ∙ turned_twice r.field.id h)
 
@@ -110,7 +109,7 @@ unfolding deleted
 none_left t ids k = refl
 
 module _ (t : Forest Field) (ids request deletions : List ℕ) (total k : ℕ) (bits : List ℕ) (H : Deleting t ids request deletions total k bits) where
-  pub delete_ends : total ≤ k → DropsAll t ids request deletions total check.Fine bits
+  pub delete_ends : total ≤ k → DropsAll t ids request deletions total (Ok tt) bits
   delete_ends l =
       let w = H.within in
       let e : k ≡ total = omega arith in
@@ -121,12 +120,12 @@ module _ (t : Forest Field) (ids request deletions : List ℕ) (total k : ℕ) (
     here : rest t ids request deletions total k ≡ (dropped_id (look_name t p) ids k >>= λ i. rest t ids request deletions total (k + 1) >>= λ ds. ok (i ∷ ds))
     here = ap (λ (y : List (List ℕ)). deleted t ids k y) (from_step (path_of request deletions) k total l) ∙ rw (← ep, add-one k) (deleted_step t ids k p (from (path_of request deletions) (suc k) (total - suc k)))
 
-    pub delete_stops : (x : Refusal) (new : List ℕ) → r ≡ dropping.Refused x → DropsAll t ids request deletions total (check.Refused x) new
+    pub delete_stops : (x : Refusal) (new : List ℕ) → r ≡ Err x → DropsAll t ids request deletions total (Err x) new
     delete_stops x new q =
         let e = of_refused (dropped_id (look_name t p) ids k) x (sym q ∙ d.says (look_name t p) h ef) in
         record { by = H.stops x.number x.list x.place (here ∙ bind_not (dropped_id (look_name t p) ids k) _ x.number x.list x.place e) }
 
-    pub delete_goes : (x : FieldId) (v : ℕ) → r ≡ dropping.Id x → v ≡ x.0 → k < length bits → Deleting t ids request deletions total (k + 1) (set bits k v)
+    pub delete_goes : (x : FieldId) (v : ℕ) → r ≡ Ok x → v ≡ x.0 → k < length bits → Deleting t ids request deletions total (k + 1) (set bits k v)
     delete_goes x v q ev b =
         one_dropped _ (look_name t p) ids k x h (sym q ∙ d.says (look_name t p) h ef) λ i ei ex.
         let step : (u : Answer (List ℕ)) → rest t ids request deletions total (k + 1) ≡ u → rest t ids request deletions total k ≡ (u >>= λ ds. ok (i ∷ ds))

@@ -19,10 +19,10 @@ use Rattle.update_parents.proofs.Receiving.{receiver_is}
 use Rattle.update_parents.proofs.Rows.{found_stands}
 use Rattle.record.specs.declared.FieldId.{FieldId}
 use Rattle.record.specs.declared.Slot.{Slot}
-use Rattle.record.specs.declared.Found.{Found}
-use Rattle.record.specs.declared.Found.TheVariants.{At}
+use Rattle.record.specs.Answers.{Found}
+use Rattle.std.specs.Prelude.{Some}
 use Rattle.record.specs.Says.{found_row}
-use Rattle.update_decide.specs.declared.Going.{Going}
+use Rattle.update_decide.specs.Answers.{Going}
 use Rattle.update_decide.specs.Entry.{Known, goes, root_place, AtRoot, parent_place, Sited, FoundSited, UnderParent}
 use Rattle.update_decide.proofs.Deleting.{at_none}
 use Rattle.update_decide.proofs.Leading.{slot_is}
@@ -57,7 +57,7 @@ module _ (l : Trees) (xs is ks : List ℕ) (n : ℕ) (b : Based l xs is ks n) wh
   pub found_sited : (x : List ℕ) (f : Found) → f ≡ found_row (look_name (plan_fields l xs is ks n) x) → FoundSited l.pool l.records n f
   found_sited x f e = record { at = λ i p q. go i p (look_name (plan_fields l xs is ks n) x) refl (sym q ∙ e) }
     where
-      go : (i : FieldId) (p : Slot) (o : Option Row) → look_name (plan_fields l xs is ks n) x ≡ o → At i p ≡ found_row o → Sited l.pool l.records n p.0 × (ok_bytes l.records p.0 ≡ true)
+      go : (i : FieldId) (p : Slot) (o : Option Row) → look_name (plan_fields l xs is ks n) x ≡ o → Some (i, p) ≡ found_row o → Sited l.pool l.records n p.0 × (ok_bytes l.records p.0 ≡ true)
       go i p none eo q = absurd (at_none i p q)
       go i p (some r) eo q =
           let st = found_there x r eo in

@@ -11,10 +11,9 @@ use Rattle.record.specs.declared.Refusal.{Refusal}
 use Rattle.record.specs.Says.{refusal_of}
 use Rattle.tree.specs.Read.{part, Standing}
 use Rattle.tree.proofs.Steps.{part_full}
-use Rattle.update_decide.specs.declared.Fresh.{Fresh}
-use Rattle.update_decide.specs.declared.Fresh.TheVariants as fresh
+use Rattle.update_decide.specs.Answers.{Fresh}
+use Rattle.std.specs.Prelude.{Ok, Err}
 use Rattle.update_decide.specs.Entry.{freshly}
-use Rattle.update_schema.specs.declared.Spotted.TheVariants as spotted
 use Rattle.update_schema.specs.Additions.{column_size, numbered}
 
 pub column_ends : (s : List ℕ) (m k j : ℕ) → Standing 1 s m 15 k → j ≡ (part 1 (kids_at s) m 15 (kids_at s k) (k + 1)).next → j ≡ k + column_size s m k
@@ -35,21 +34,21 @@ module _ (under last k slot records next d : ℕ) (r : Fresh) (en : next ≡ slo
   same : r ≡ freshly last records k
   same = let z : d ≡ records = omega arith in rw z at er
 
-  pub number_over : (x : Refusal) → r ≡ fresh.Refused x → spotted.Refused x ≡ numbered under last k slot records
+  pub number_over : (x : Refusal) → r ≡ Err x → Err x ≡ numbered under last k slot records
   unfolding freshly numbered
   number_over x q = go (ltb highest (last + records)) (sym q ∙ same)
     where
-      go : (b : Bool) → fresh.Refused x ≡ cond b (fresh.Refused (refusal_of 18 3 k)) (fresh.Ids (turned (suc last)) (last + records))
-          → spotted.Refused x ≡ cond b (spotted.Refused (refusal_of 18 3 k)) (spotted.At (record { under = under; start = turned (suc last); last = last + records; next = slot + records }))
+      go : (b : Bool) → Err x ≡ cond b (Err (refusal_of 18 3 k)) (Ok ((turned (suc last)), (last + records)))
+          → Err x ≡ cond b (Err (refusal_of 18 3 k)) (Ok (record { under = under; start = turned (suc last); last = last + records; next = slot + records }))
       go true e = let z : x ≡ refusal_of 18 3 k = cc in rw z
       go false e = cc
 
-  pub number_spots : (start end : ℕ) → r ≡ fresh.Ids start end → spotted.At (record { under = under; start = start; last = end; next = next }) ≡ numbered under last k slot records
+  pub number_spots : (start end : ℕ) → r ≡ Ok (start, end) → Ok (record { under = under; start = start; last = end; next = next }) ≡ numbered under last k slot records
   unfolding freshly numbered
   number_spots start end q = go (ltb highest (last + records)) (sym q ∙ same)
     where
-      go : (b : Bool) → fresh.Ids start end ≡ cond b (fresh.Refused (refusal_of 18 3 k)) (fresh.Ids (turned (suc last)) (last + records))
-          → spotted.At (record { under = under; start = start; last = end; next = next }) ≡ cond b (spotted.Refused (refusal_of 18 3 k)) (spotted.At (record { under = under; start = turned (suc last); last = last + records; next = slot + records }))
+      go : (b : Bool) → Ok (start, end) ≡ cond b (Err (refusal_of 18 3 k)) (Ok ((turned (suc last)), (last + records)))
+          → Ok (record { under = under; start = start; last = end; next = next }) ≡ cond b (Err (refusal_of 18 3 k)) (Ok (record { under = under; start = turned (suc last); last = last + records; next = slot + records }))
       go true e = cc
       go false e = let z : start ≡ turned (suc last) = cc in let y : end ≡ last + records = cc in rw (z, y, en)
 

@@ -20,19 +20,17 @@ use Rattle.laws.proofs.Words.{turned_twice, turned_below}
 use Rattle.laws.proofs.Fitting.{size_mapped}
 use Rattle.tree.specs.Read.{part}
 use Rattle.record.specs.declared.Refusal.{Refusal}
-use Rattle.record.specs.declared.Check.{Check}
-use Rattle.record.specs.declared.Check.TheVariants as check
+use Rattle.record.specs.Answers.{Check}
+use Rattle.std.specs.Prelude.{Ok, Err}
 use Rattle.record.specs.Says.{refusal_of, checked}
 use Rattle.record.proofs.Testing.{checked_refused, checked_ok}
 use Rattle.record.specs.Trees.{Trees}
 use Rattle.plan.specs.Plan.{plan_fields}
 use Rattle.update_rebuild.specs.Sources.{parent}
 use Rattle.update_parents.specs.Target.{receiving, receiver_at, members_at}
-use Rattle.update_decide.specs.declared.Going.{Going}
-use Rattle.update_decide.specs.declared.Going.TheVariants as going
+use Rattle.update_decide.specs.Answers.{Going}
 use Rattle.update_decide.specs.Entry.{unbarred, goes, parent_place}
-use Rattle.update_schema.specs.declared.Spotted.{Spotted}
-use Rattle.update_schema.specs.declared.Spotted.TheVariants as spotted
+use Rattle.update_schema.specs.Answers.{Spotted}
 use Rattle.update_schema.specs.Base.{Based}
 use Rattle.update_schema.specs.Additions.{column_size, numbered, one_placed, OneSpotted}
 use Rattle.update_schema.proofs.Found.{row_stands}
@@ -44,13 +42,13 @@ Small (ok none) = Unit {0}
 Small (ok (some i)) = i < 4294967296
 Small (refused n l p) = Unit {0}
 
-under_is : (a : Answer (Option ℕ)) (u : ℕ) → Small a → going.Under u ≡ goes a → (a ≡ ok (parent u)) × (u ≤ 4294967296)
+under_is : (a : Answer (Option ℕ)) (u : ℕ) → Small a → Ok u ≡ goes a → (a ≡ ok (parent u)) × (u ≤ 4294967296)
 unfolding Small goes parent
 under_is (ok none) u h e = let z : u ≡ 0 = cc in rw z (refl, omega arith)
 under_is (ok (some i)) u h e = let z : u ≡ suc (turned i) = cc in let y = turned_below i in rw (z, turned_twice i h) (refl, omega arith)
 under_is (refused n l p) u h e = let y : ◌≡◌ {A = ℕ} 0 1 = cc in absurd (omega arith)
 
-under_not : (a : Answer (Option ℕ)) (f : Refusal) → going.Refused f ≡ goes a → a ≡ refused f.number f.list f.place
+under_not : (a : Answer (Option ℕ)) (f : Refusal) → Err f ≡ goes a → a ≡ refused f.number f.list f.place
 unfolding goes
 under_not (ok none) f e = cc
 under_not (ok (some i)) f e = cc
@@ -97,12 +95,12 @@ module _ (l : Trees) (xs is ks : List ℕ) (n : ℕ) (b : Based l xs is ks n) (d
   abbrev inner : Forest Field
   inner = fields l.request_pool l.added_records (part 1 (kids_at l.added_records) m 15 (kids_at l.added_records slot) (slot + 1)).trees
 
-  pub spot_barred : (f : Refusal) → w ≡ check.Refused f → OneSpotted (plan_fields l xs is ks n) ds l.request_pool l.added_records additions m last k slot (spotted.Refused f)
+  pub spot_barred : (f : Refusal) → w ≡ Err f → OneSpotted (plan_fields l xs is ks n) ds l.request_pool l.added_records additions m last k slot (Err f)
   unfolding ◌>>=◌
   spot_barred f q = record { by = one_first (plan_fields l xs is ks n) ds l.request_pool l.added_records last k slot (parent_path l.request_pool additions k) inner ∙ rw (checked_refused (unbarred l.request_pool l.added_records slot k) w f ew q) }
 
-  module _ (ef : w ≡ check.Fine) (g : Going) (eg : g ≡ goes (placed (plan_fields l xs is ks n) ds k (name_of l.request_pool l.added_records slot) (parent_path l.request_pool additions k))) where
-    pub spot_nowhere : (f : Refusal) → g ≡ going.Refused f → OneSpotted (plan_fields l xs is ks n) ds l.request_pool l.added_records additions m last k slot (spotted.Refused f)
+  module _ (ef : w ≡ (Ok tt)) (g : Going) (eg : g ≡ goes (placed (plan_fields l xs is ks n) ds k (name_of l.request_pool l.added_records slot) (parent_path l.request_pool additions k))) where
+    pub spot_nowhere : (f : Refusal) → g ≡ Err f → OneSpotted (plan_fields l xs is ks n) ds l.request_pool l.added_records additions m last k slot (Err f)
     unfolding ◌>>=◌
     spot_nowhere f q =
         record {
@@ -110,7 +108,7 @@ module _ (l : Trees) (xs is ks : List ℕ) (n : ℕ) (b : Based l xs is ks n) (d
               ∙ rw (checked_ok (unbarred l.request_pool l.added_records slot k) w ew ef, under_not (placed (plan_fields l xs is ks n) ds k (name_of l.request_pool l.added_records slot) (parent_path l.request_pool additions k)) f (sym q ∙ eg));
         }
 
-    module _ (u : ℕ) (q : g ≡ going.Under u) where
+    module _ (u : ℕ) (q : g ≡ Ok u) where
       where_to : (placed (plan_fields l xs is ks n) ds k (name_of l.request_pool l.added_records slot) (parent_path l.request_pool additions k) ≡ ok (parent u)) × (u ≤ 4294967296)
       where_to = under_is _ u (small_place l xs is ks n b ds k (name_of l.request_pool l.added_records slot) (parent_path l.request_pool additions k)) (sym q ∙ eg)
 
@@ -124,6 +122,6 @@ module _ (l : Trees) (xs is ks : List ℕ) (n : ℕ) (b : Based l xs is ks n) (d
         where
           go : (c : Bool) → ltb highest (last + column_size l.added_records m slot) ≡ c
               → one_placed (plan_fields l xs is ks n) ds last k (parent_path l.request_pool additions k) (field_at l.request_pool l.added_records slot) inner ≡ (fault_if 18 3 k c >>= λ _. ok (parent u))
-              → OneSpotted (plan_fields l xs is ks n) ds l.request_pool l.added_records additions m last k slot (cond c (spotted.Refused (refusal_of 18 3 k)) (spotted.At (record { under = u; start = turned (suc last); last = last + column_size l.added_records m slot; next = slot + column_size l.added_records m slot })))
+              → OneSpotted (plan_fields l xs is ks n) ds l.request_pool l.added_records additions m last k slot (cond c (Err (refusal_of 18 3 k)) (Ok (record { under = u; start = turned (suc last); last = last + column_size l.added_records m slot; next = slot + column_size l.added_records m slot })))
           go true ec e = record { by = e }
           go false ec e = record { by = record { goes = e; under = where_to.1; start = refl; end = refl; most = let z = ltb-false highest (last + column_size l.added_records m slot) ec in omega arith; next = refl } }

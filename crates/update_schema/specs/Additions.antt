@@ -22,12 +22,10 @@ use Rattle.update_dropped.specs.Set.{dropped_ids}
 use Rattle.update_rebuild.specs.declared.Given.{Given}
 use Rattle.update_rebuild.specs.Sources.{parent, additions}
 use Rattle.update_rebuild.specs.Planned.{drops_in, unders_in, firsts_in, starts_in}
-use Rattle.update_schema.specs.declared.Decided.{Decided}
-use Rattle.update_schema.specs.declared.Decided.TheVariants as decided
+use Rattle.update_schema.specs.Answers.{Decided, Spotted}
+use Rattle.std.specs.Prelude.{Ok, Err}
 use Rattle.update_schema.specs.Base.{Entries}
 use Rattle.update_schema.specs.declared.Spot.{Spot}
-use Rattle.update_schema.specs.declared.Spotted.{Spotted}
-use Rattle.update_schema.specs.declared.Spotted.TheVariants as spotted
 
 -- How many records the column at a slot of the m added records has.
 unfoldable pub column_size : (added : List ℕ) (m slot : ℕ) → ℕ
@@ -36,7 +34,7 @@ column_size added m slot = suc (size (part 1 (kids_at added) m 15 (kids_at added
 -- 18, or the spot of an addition that has its place.
 unfoldable pub numbered : (under last k slot records : ℕ) → Spotted
 numbered under last k slot records =
-    cond (ltb highest (last + records)) (spotted.Refused (refusal_of 18 3 k)) (spotted.At (record { under = under; start = turned (suc last); last = last + records; next = slot + records }))
+    cond (ltb highest (last + records)) (Err (refusal_of 18 3 k)) (Ok (record { under = under; start = turned (suc last); last = last + records; next = slot + records }))
 
 -- One step of the paper's `placed_all`: 13, 14, then 15, 16, 22, 17, then 18.
 unfoldable pub one_placed : Forest Field → List ℕ → (last k : ℕ) → Option (List ℕ) → Field → Forest Field → Answer (Option ℕ)
@@ -57,8 +55,8 @@ pub record Settled (a : Answer (Option ℕ)) (last slot records : ℕ) (s : Spot
   pub next : s.next ≡ slot + records
 
 abbrev pub SpottedBy : Spotted → (a : Answer (Option ℕ)) (last slot records : ℕ) → Type 0
-SpottedBy (spotted.At s) a last slot records = Settled a last slot records s
-SpottedBy (spotted.Refused r) a last slot records = a ≡ refused r.number r.list r.place
+SpottedBy (Ok s) a last slot records = Settled a last slot records s
+SpottedBy (Err r) a last slot records = a ≡ refused r.number r.list r.place
 
 pub record OneSpotted (t : Forest Field) (dropped request added additions : List ℕ) (m last k slot : ℕ) (r : Spotted) : Type 0 where
   pub by : SpottedBy r (one_placed t dropped last k (parent_path request additions k) (field_at request added slot) (fields request added (part 1 (kids_at added) m 15 (kids_at added slot) (slot + 1)).trees)) last slot (column_size added m slot)
@@ -91,8 +89,8 @@ pub record Placings (a : Answer Placed) (request added : List ℕ) (total m give
   pub arrive : (pool base edits : List ℕ) → mapped_all (planned_field (lent_trees base pool added request edits)) (additions added m unders firsts starts total) ≡ arrivals with_id given (parents_in unders total) (fields request added (part 1 (kids_at added) m 16 total 0).trees)
 
 abbrev pub PlacesBy : Decided → Answer Placed → (request added : List ℕ) (total m given : ℕ) (unders firsts starts : List ℕ) → Type 0
-PlacesBy (decided.Last e) a request added total m given unders firsts starts = Placings a request added total m given e unders firsts starts
-PlacesBy (decided.Refused r) a request added total m given unders firsts starts = a ≡ refused r.number r.list r.place
+PlacesBy (Ok e) a request added total m given unders firsts starts = Placings a request added total m given e unders firsts starts
+PlacesBy (Err r) a request added total m given unders firsts starts = a ≡ refused r.number r.list r.place
 
 pub record PlacesAll (t : Forest Field) (dropped request added additions : List ℕ) (total m last : ℕ) (r : Decided) (unders firsts starts : List ℕ) : Type 0 where
   pub by : PlacesBy r (all_placed t dropped request added additions total m last) request added total m last unders firsts starts

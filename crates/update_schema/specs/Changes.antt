@@ -7,8 +7,8 @@ use Rattle.paper.specs.Bytes.{from}
 use Rattle.paper.specs.Lists.{path_of, id_list}
 use Rattle.record_entries.specs.declared.PathList.TheVariants.{Deletions}
 use Rattle.paper.specs.Update.{deleted, Placed}
-use Rattle.update_schema.specs.declared.Decided.{Decided}
-use Rattle.update_schema.specs.declared.Decided.TheVariants as decided
+use Rattle.update_schema.specs.Answers.{Decided}
+use Rattle.std.specs.Prelude.{Ok}
 use Rattle.update_dropped.specs.Gathered.{row_ids}
 use Rattle.record.specs.Trees.{Trees, Lists}
 use Rattle.plan.specs.Table.{fields_in}
@@ -24,7 +24,7 @@ changes t identifiers request deletions d added additions total m last = deleted
 -- The additions as `PlacesBy` has them, behind the deletions; where all is accepted, the dropped ids are in their row.
 pub record Decides (t : Forest Field) (identifiers request deletions : List ℕ) (d : ℕ) (added additions : List ℕ) (total m last : ℕ) (r : Decided) (bits unders firsts starts : List ℕ) : Type 0 where
   pub by : PlacesBy r (changes t identifiers request deletions d added additions total m last) request added total m last unders firsts starts
-  pub dropped : (e : ℕ) → r ≡ decided.Last e → deleted t identifiers 0 (from (path_of request deletions) 0 d) ≡ ok (row_ids bits d)
+  pub dropped : (e : ℕ) → r ≡ Ok e → deleted t identifiers 0 (from (path_of request deletions) 0 d) ≡ ok (row_ids bits d)
 
 -- All that was tested before anything is decided: the base as a plan of itself with its index, and the lists.
 pub record Asked (l : Trees) (lists : Lists) (given : Given) (plan index : List (List ℕ)) : Type 0 where

@@ -6,8 +6,8 @@ use Rattle.paper.specs.Field.{Field}
 use Rattle.paper.specs.Bytes.{from}
 use Rattle.paper.specs.Lists.{path_of, id_list}
 use Rattle.paper.specs.Update.{deleted}
-use Rattle.record.specs.declared.Check.{Check}
-use Rattle.record.specs.declared.Check.TheVariants as check
+use Rattle.record.specs.Answers.{Check}
+use Rattle.std.specs.Prelude.{Ok, Err}
 use Rattle.record.specs.Trees.{Trees, Lists}
 use Rattle.plan.specs.Table.{fields_in}
 use Rattle.update_dropped.specs.Gathered.{row_ids}
@@ -17,8 +17,8 @@ use Rattle.update_schema.specs.Base.{DecisionsRoom}
 
 -- What the paper's deletions answer: the ids in the row, or the refusal.
 abbrev pub DropsBy : Check → Answer (List ℕ) → List ℕ → ℕ → Type 0
-DropsBy check.Fine a bits total = a ≡ ok (row_ids bits total)
-DropsBy (check.Refused r) a bits total = a ≡ refused r.number r.list r.place
+DropsBy (Ok tt) a bits total = a ≡ ok (row_ids bits total)
+DropsBy (Err r) a bits total = a ≡ refused r.number r.list r.place
 
 pub record DropsAll (t : Forest Field) (identifiers request deletions : List ℕ) (total : ℕ) (r : Check) (bits : List ℕ) : Type 0 where
   pub by : DropsBy r (deleted t identifiers 0 (from (path_of request deletions) 0 total)) bits total

@@ -25,17 +25,14 @@ ghost use Rattle.update_schema.specs.Deletions.{DropsIn};
 use index::look_name;
 use index_ids::IndexRows;
 use plan::PlanRows;
-use record::{
-    ADDED_RECORDS, ADDITIONS, Check, DELETIONS, IDENTIFIERS, Lists, POOL, RECORDS, REQUEST_POOL,
-    Refusal, Trees, long, name_at,
-};
+use record::{Lists, Refusal, Trees, long, name_at};
 use record_entries::{has_path, path_at};
 use tree::tree_end;
 use update_decide::{
-    Dropping, Fresh, Going, assign_fresh_ids, check_added, drop_one, place_at_root, place_under,
+    assign_fresh_ids, check_added, drop_one, place_at_root, place_under,
 };
 use update_dropped::{Dropped, gather};
-use update_rebuild::{DROPS, Decisions, FIRSTS, Given, STARTS, UNDERS};
+use update_rebuild::{Decisions, Given};
 
 // An addition that is accepted: where it goes, the bits of its first id, the last id consumed, and the slot behind its column.
 #[derive(Clone, Copy)]
@@ -68,28 +65,28 @@ fn drop_columns<'a>(
     plan: &PlanRows,
     index: &IndexRows,
     decisions: &mut Decisions,
-) -> Check
+) -> Result<(), Refusal>
     requires { Asked (trees_in trees.now) (lists_in lists.now) given plan.now index.now
         × DecisionsRoom decisions.old }
     ensures { DropsIn (trees_in trees.now) (lists_in lists.now) given
         plan.now result decisions.new }
 {
-    let deletions = lists[DELETIONS];
+    let deletions = lists.deletions;
     let mut k = 0;
     while k < given.deletions {
-        let path = path_at(trees[REQUEST_POOL], deletions, k);
+        let path = path_at(trees.request_pool, deletions, k);
         let found = look_name(trees, plan, given.base, index, path);
-        match drop_one(found, lists[IDENTIFIERS], k as u32) {
-            Dropping::Id(id) => {
-                decisions[DROPS][k] = long(id.0);
+        match drop_one(found, lists.identifiers, k as u32) {
+            Ok(id) => {
+                decisions.drops[k] = long(id.0);
             }
-            Dropping::Refused(r) => {
-                return Check::Refused(r);
+            Err(r) => {
+                return Err(r);
             }
         }
         k += 1;
     }
-    Check::Fine
+    Ok(())
 }
 
 // Where the addition k goes, whose column is at a slot of the additions tree: refusals 15, 16, 22, 17.
@@ -103,7 +100,7 @@ fn find_place<'a>(
     slot: usize,
     dropped: &[u32; 64],
     drops: usize,
-) -> Going
+) -> Result<u64, Refusal>
     requires { BasedIn (trees_in trees.now) plan.now n
         × Index (trees_in trees.now) plan.now n index.now
         × AdditionIn (trees_in trees.now) additions.now k slot
@@ -114,14 +111,14 @@ fn find_place<'a>(
         (trees_in trees.now).added_records slot)
         (parent_path (trees_in trees.now).request_pool additions.now k)) }
 {
-    let name = name_at(trees[REQUEST_POOL], trees[ADDED_RECORDS], slot);
+    let name = name_at(trees.request_pool, trees.added_records, slot);
     if has_path(additions, k) {
-        let path = path_at(trees[REQUEST_POOL], additions, k);
+        let path = path_at(trees.request_pool, additions, k);
         let parent = look_name(trees, plan, n, index, path);
         return place_under(
             parent,
-            trees[RECORDS],
-            trees[POOL],
+            trees.records,
+            trees.pool,
             n,
             index,
             name,
@@ -135,20 +132,20 @@ fn find_place<'a>(
 }
 
 // The ids of an addition that has its place: refusal 18.
-fn number(added: &[u8], m: usize, slot: usize, under: u64, place: u32, last: u64) -> Spotted
+fn number(added: &[u8], m: usize, slot: usize, under: u64, place: u32, last: u64) -> Result<Spot, Refusal>
     requires { Standing 1 added.now m 15 slot × (last < 4294967296) }
     ensures { result ≡ numbered under last place slot
         (column_size added.now m slot) }
 {
     let next = tree_end(added, m, slot, 15, 1);
     match assign_fresh_ids(last, next - slot, place) {
-        Fresh::Ids(start, end) => Spotted::At(Spot {
+        Ok((start, end)) => Ok(Spot {
             under,
             start,
             last: end,
             next,
         }),
-        Fresh::Refused(r) => Spotted::Refused(r),
+        Err(r) => Err(r),
     }
 }
 
@@ -163,7 +160,7 @@ fn place_one<'a>(
     slot: usize,
     dropped: &[u32; 64],
     drops: usize,
-) -> Spotted
+) -> Result<Spot, Refusal>
     requires { BasedIn (trees_in trees.now) plan.now given.base
         × Index (trees_in trees.now) plan.now given.base index.now
         × AdditionIn (trees_in trees.now) additions.now k slot
@@ -176,16 +173,14 @@ fn place_one<'a>(
         (trees_in trees.now).added_records additions.now given.added
         given.last k slot result }
 {
-    let added = trees[ADDED_RECORDS];
-    if let Check::Refused(r) = check_added(added, trees[REQUEST_POOL], slot, k as u32) {
-        return Spotted::Refused(r);
-    }
+    let added = trees.added_records;
+    check_added(added, trees.request_pool, slot, k as u32)?;
     let going = find_place(
         trees, additions, given.base, plan, index, k, slot, dropped, drops,
     );
     match going {
-        Going::Under(under) => number(added, given.added, slot, under, k as u32, given.last),
-        Going::Refused(r) => Spotted::Refused(r),
+        Ok(under) => number(added, given.added, slot, under, k as u32, given.last),
+        Err(r) => Err(r),
     }
 }
 
@@ -199,7 +194,7 @@ fn place_columns<'a>(
     dropped: &[u32; 64],
     drops: usize,
     decisions: &mut Decisions,
-) -> Decided
+) -> Result<u64, Refusal>
     requires { BasedIn (trees_in trees.now) plan.now given.base
         × Index (trees_in trees.now) plan.now given.base index.now
         × ColumnsIn (trees_in trees.now) additions.now given
@@ -217,20 +212,20 @@ fn place_columns<'a>(
         match place_one(
             trees, additions, so_far, plan, index, k, slot, dropped, drops,
         ) {
-            Spotted::At(spot) => {
-                decisions[UNDERS][k] = spot.under;
-                decisions[FIRSTS][k] = slot as u64;
-                decisions[STARTS][k] = long(spot.start);
+            Ok(spot) => {
+                decisions.unders[k] = spot.under;
+                decisions.firsts[k] = slot as u64;
+                decisions.starts[k] = long(spot.start);
                 slot = spot.next;
                 last = spot.last;
             }
-            Spotted::Refused(r) => {
-                return Decided::Refused(r);
+            Err(r) => {
+                return Err(r);
             }
         }
         k += 1;
     }
-    Decided::Last(last)
+    Ok(last)
 }
 
 // Deletions one at a time, then additions one at a time: refusals 11 to 18 and 22, or all that the rebuild needs.
@@ -241,21 +236,18 @@ pub fn decide_changes<'a>(
     plan: &PlanRows,
     index: &IndexRows,
     decisions: &mut Decisions,
-) -> Decided
+) -> Result<u64, Refusal>
     requires { Asked (trees_in trees.now) (lists_in lists.now) given plan.now index.now
         × DecisionsRoom decisions.old }
     ensures { DecidesIn (trees_in trees.now) (lists_in lists.now)
         given plan.now result decisions.new }
 {
-    let check = drop_columns(trees, lists, given, plan, index, decisions);
-    if let Check::Refused(r) = check {
-        return Decided::Refused(r);
-    }
+    drop_columns(trees, lists, given, plan, index, decisions)?;
     let mut dropped = Dropped { ids: [0; 64], n: 0 };
-    dropped.n = gather(&decisions[DROPS], given.deletions, &mut dropped.ids);
+    dropped.n = gather(&decisions.drops, given.deletions, &mut dropped.ids);
     place_columns(
         trees,
-        lists[ADDITIONS],
+        lists.additions,
         given,
         plan,
         index,

@@ -14,8 +14,8 @@ use Rattle.plan.specs.Table.{Roomy}
 use Rattle.update_edits.specs.Marks.{as_marked, remarked, remark, Unmarked, RemarkedIn}
 use Rattle.update_edits.proofs.Marked.{remarked_laid}
 use Rattle.update_rebuild.specs.declared.Place.{Place}
-use Rattle.update_rebuild.specs.declared.Step.{Step}
-use Rattle.update_rebuild.specs.declared.Step.TheVariants.{Went, Full}
+use Rattle.update_rebuild.specs.Answers.{Step}
+use Rattle.std.specs.Prelude.{Some, None}
 use Rattle.update_rebuild.specs.Planned.{fits, verdict, Rebuilds}
 use Rattle.update_rebuild.proofs.Whole.{of_fits}
 use Rattle.update_write.proofs.Verdict.{verdict_went, verdict_full}
@@ -43,7 +43,7 @@ verdict_mapped : (g : Source → Source) (n k : ℕ) (t : Forest Source) → ver
 unfolding verdict
 verdict_mapped g n k t = rw (fits_mapped g t, size_mapped g t, siblings_mapped g t)
 
-pub mark_asks : (t : Forest Source) (k n : ℕ) (plan plan' : List (List ℕ)) (r : Step) → Rebuilds t k n plan r plan' → (w : Place) → r ≡ Went w → (w.at ≤ 1024) × (length plan' ≡ 3)
+pub mark_asks : (t : Forest Source) (k n : ℕ) (plan plan' : List (List ℕ)) (r : Step) → Rebuilds t k n plan r plan' → (w : Place) → r ≡ Some w → (w.at ≤ 1024) × (length plan' ≡ 3)
 mark_asks t k n plan plan' r v w d =
     let z = verdict_went n k t r w v.answer d in
     let f = (of_fits t z.0).1 in
@@ -51,18 +51,18 @@ mark_asks t k n plan plan' r v w d =
     (omega arith, (v.laid z.0).rows)
 
 module _ (t : Forest Source) (k n : ℕ) (marks : List ℕ) (plan plan' : List (List ℕ)) (r : Step) (v : Rebuilds t k n plan r plan') where
-  pub full_edited : r ≡ Full → Rebuilds (mapped (remark marks) t) k n plan Full plan'
+  pub full_edited : r ≡ None → Rebuilds (mapped (remark marks) t) k n plan None plan'
   full_edited d =
       record {
         answer = sym d ∙ v.answer ∙ sym (verdict_mapped (remark marks) n k t);
         laid = λ e. let f = verdict_full n k t r v.answer d in absurd (let z : true ≡ false = sym e ∙ fits_mapped (remark marks) t ∙ f in let y : ◌≡◌ {A = ℕ} 0 1 = cc in omega arith);
       }
 
-  module _ (w : Place) (d : r ≡ Went w) where
-    pub unmarked_edited : (edits : ℕ) → edits ≡ 0 → (edits ≡ 0 → Unmarked marks) → Rebuilds (mapped (remark marks) t) k n plan (Went w) plan'
+  module _ (w : Place) (d : r ≡ Some w) where
+    pub unmarked_edited : (edits : ℕ) → edits ≡ 0 → (edits ≡ 0 → Unmarked marks) → Rebuilds (mapped (remark marks) t) k n plan (Some w) plan'
     unmarked_edited edits e u = rw (u e, bare_tree t, ← d) v
 
-    pub marked_edited : (plan'' : List (List ℕ)) → Roomy plan → RemarkedIn marks w.at plan' plan'' → Rebuilds (mapped (remark marks) t) k n plan (Went w) plan''
+    pub marked_edited : (plan'' : List (List ℕ)) → Roomy plan → RemarkedIn marks w.at plan' plan'' → Rebuilds (mapped (remark marks) t) k n plan (Some w) plan''
     marked_edited plan'' room m =
         let z = verdict_went n k t r w v.answer d in
         record {

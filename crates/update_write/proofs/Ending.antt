@@ -24,10 +24,8 @@ use Rattle.paper.specs.Rebuild.{Addition, fresh}
 use Rattle.paper.specs.Sound.{name_bytes, within, sound}
 use Rattle.paper.specs.Outcome.{for_records, for_names, leaves}
 use Rattle.record.specs.declared.Refusal.{Refusal}
-use Rattle.record.specs.declared.Check.{Check}
-use Rattle.record.specs.declared.Check.TheVariants as check
-use Rattle.record.specs.declared.Changed.{Changed}
-use Rattle.record.specs.declared.Changed.TheVariants as changed
+use Rattle.record.specs.Answers.{Check, Changed}
+use Rattle.std.specs.Prelude.{Ok, Err, Some, None}
 use Rattle.record.specs.Says.{refusal_of, changes}
 use Rattle.record.specs.Trees.{Trees}
 use Rattle.record.proofs.Testing.{checked_ok, checked_refused, refuses}
@@ -40,7 +38,6 @@ use Rattle.laws.proofs.RoundTrip.{length_pool}
 use Rattle.laws.proofs.Taken as taken
 use Rattle.tree.specs.Read.{part, got}
 use Rattle.tree.specs.Says.{rooted}
-use Rattle.tree.specs.declared.Shaped.TheVariants.{Roots}
 use Rattle.tree.proofs.Steps.{was_read}
 use Rattle.plan.specs.Plan.{Source, planned_field}
 use Rattle.plan.specs.Draft.{Drawn}
@@ -57,8 +54,7 @@ use Rattle.update_dropped.specs.declared.Dropped.{Dropped}
 use Rattle.update_dropped.specs.Set.{dropped_ids, Good}
 use Rattle.update_rebuild.specs.declared.Given.{Given}
 use Rattle.update_rebuild.specs.declared.Place.{Place}
-use Rattle.update_rebuild.specs.declared.Step.{Step}
-use Rattle.update_rebuild.specs.declared.Step.TheVariants.{Went, Full}
+use Rattle.update_rebuild.specs.Answers.{Step}
 use Rattle.update_rebuild.specs.Sources.{base_source, added_source, source_id, source_kind, added_tree, addition_at, additions, rebuilt_row, rebuilt_base, passed, passed_base}
 use Rattle.update_rebuild.specs.Planned.{unders_in, firsts_in, starts_in, drops_in, ResolvedIn, additions_in, Based, fits, Rebuilds}
 use Rattle.update_edits.specs.Marks.{remark, Unmarked, Carries}
@@ -107,7 +103,7 @@ module _ (l : Trees) (i : List ℕ) (given : Given) (c : ℕ) (decisions : List 
   based = read _ λ u e q.
       let n = h.base_count in
       let z : c ≡ siblings u.trees = h.root_count ∙ ap siblings (sym q) ∙ siblings_mapped _ u.trees in
-      record { whole = omega arith; small = few; rooted = rw (e, z) (ap Roots (sym (zero-add (siblings u.trees)))) }
+      record { whole = omega arith; small = few; rooted = rw (e, z) (ap Ok (sym (zero-add (siblings u.trees)))) }
 
   base_slots_low : (u : Part) → roots 0 (kids_at l.records) given.base given.base 0 ≡ ok u → Each (λ j. j < given.base) u.trees
   base_slots_low u e = each_slot (kids_at l.records) given.base 0 u.trees (taken.roots_take 0 (kids_at l.records) given.base given.base 0 u e).laid
@@ -179,15 +175,15 @@ module _ (l : Trees) (i : List ℕ) (given : Given) (c : ℕ) (decisions : List 
         ∙ sym (outermost_mapped (field_at l.pool l.records) id_of kind_of (row_ids (drops_in decisions) given.deletions) true u.trees)
         ∙ ap (λ (x : Forest Field). length (outermost id_of kind_of (row_ids (drops_in decisions) given.deletions) true x)) (q ∙ ok_is (sym h.base_read ∙ e)))
 
-    over : within (mapped (planned_field l) t) ≡ false → Ending (changed.Refused (refusal_of 19 4 0)) out text
+    over : within (mapped (planned_field l) t) ≡ false → Ending (Err (refusal_of 19 4 0)) out text
     unfolding limited_sounded ◌>>=◌
     over e = record { ends = λ base d edits w. refuses _ (refusal_of 19 4 0) (for_records out ∷ for_names text ∷ []) (rw (← (tree_is base d edits w), e)) }
 
     module _ (y : Step) (plan' : List (List ℕ)) (v : Rebuilds t (passed_base l.records given.base (dropped_ids held)) given.base plan y plan') where
-      pub full_stops : y ≡ Full → Ending (changed.Refused (refusal_of 19 4 0)) out text
+      pub full_stops : y ≡ None → Ending (Err (refusal_of 19 4 0)) out text
       full_stops d = over (within_fits (planned_field l) t ∙ rw (verdict_full given.base _ t y v.answer d))
 
-      module _ (w : Place) (d : y ≡ Went w) where
+      module _ (w : Place) (d : y ≡ Some w) where
         went : (fits t ≡ true) × (w.at ≡ size t) × (w.visited ≡ size t + passed_base l.records given.base (dropped_ids held))
         went = verdict_went given.base _ t y w v.answer d
 
@@ -209,7 +205,7 @@ module _ (l : Trees) (i : List ℕ) (given : Given) (c : ℕ) (decisions : List 
         names_asks = draft_inside l plan' w.at draft
 
         module _ (z : Bool) (k : Summed l.records l.added_records l.edits (sources plan') w.at z) where
-          pub names_stop : not z ≡ true → Ending (changed.Refused (refusal_of 19 4 0)) out text
+          pub names_stop : not z ≡ true → Ending (Err (refusal_of 19 4 0)) out text
           names_stop q =
               let e = summed_over l plan' w.at draft z k (not-true z q) in
               over (within_fits (planned_field l) t ∙ rw went.0 (rw planned at e))
@@ -237,7 +233,7 @@ module _ (l : Trees) (i : List ℕ) (given : Given) (c : ℕ) (decisions : List 
             limited_is base e edits v' last visited = rw (← (tree_is base e edits v'), fitting, planned)
 
             module _ (x : Check) (table index' : List (List ℕ)) (s : Indexing l plan' w.at 4 i x table index') where
-              pub sound_stops : (f : Refusal) → x ≡ check.Refused f → Ending (changed.Refused f) out text
+              pub sound_stops : (f : Refusal) → x ≡ Err f → Ending (Err f) out text
               unfolding sounded ◌>>=◌
               sound_stops f o =
                   record { ends = λ base e edits v'. refuses _ f (for_records out ∷ for_names text ∷ []) (limited_is base e edits v' _ _ ∙ rw (checked_refused (sound 4 (fields_in l plan' w.at) (id_list i)) x f s.answer o)) }
@@ -246,8 +242,8 @@ module _ (l : Trees) (i : List ℕ) (given : Given) (c : ℕ) (decisions : List 
                 pub names_fit : used < 4294967296
                 names_fit = let e = b.bytes in let p = length_pool (fields_in l plan' w.at) in let f = the_plan.sum in omega arith
 
-                pub all_written : x ≡ check.Fine → (bits : ℕ) → bits ≡ turned given.last
-                    → Ending (changed.Done (record { records = w.at; names = used; last_id = bits; visited = w.visited })) out' text'
+                pub all_written : x ≡ (Ok tt) → (bits : ℕ) → bits ≡ turned given.last
+                    → Ending (Ok (record { records = w.at; names = used; last_id = bits; visited = w.visited })) out' text'
                 unfolding sounded ◌>>=◌ changes leaves
                 all_written o bits eb =
                     record {

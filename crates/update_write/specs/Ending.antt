@@ -16,7 +16,7 @@ use Rattle.paper.specs.Rebuild.{rebuilt}
 use Rattle.paper.specs.Entries.{Result}
 use Rattle.paper.specs.Outcome.{for_records, for_names, Answers}
 use Rattle.laws.proofs.Natural.{mapped_all}
-use Rattle.record.specs.declared.Changed.{Changed}
+use Rattle.record.specs.Answers.{Changed}
 use Rattle.record.specs.Says.{changes}
 use Rattle.record.specs.Trees.{Trees}
 use Rattle.plan.specs.Plan.{planned_field}

@@ -15,10 +15,10 @@ use index::index_plan;
 use index_ids::{IndexRows, refresh};
 use plan::{PlanRows, names_fit};
 use plan_write::write_plan;
-use record::{Changed, Check, Refusal, Sizes, Trees, turn_back};
+use record::{Refusal, Sizes, Trees, turn_back};
 use update_dropped::{Dropped, gather};
 use update_edits::{Marks, mark_plan};
-use update_rebuild::{DROPS, Decisions, Given, Step, rebuild};
+use update_rebuild::{Decisions, Given, rebuild};
 
 // The base rebuilt, its columns as the edits leave them.
 fn rebuild_edited<'a>(
@@ -30,7 +30,7 @@ fn rebuild_edited<'a>(
     decisions: &Decisions,
     marks: &Marks,
     plan: &mut PlanRows,
-) -> Step
+) -> Option<Place>
     requires { Based (trees_in trees.now).records given.base roots
         × Good (set_of dropped.now drops)
         × ResolvedIn (trees_in trees.now).added_records given decisions.now
@@ -45,14 +45,14 @@ fn rebuild_edited<'a>(
         given.base plan.old result plan.new }
 {
     let step = rebuild(trees, given, roots, dropped, drops, decisions, plan);
-    let Step::Went(place) = step else {
-        return Step::Full;
+    let Some(place) = step else {
+        return None;
     };
     if given.edits == 0 {
-        return Step::Went(place);
+        return Some(place);
     }
     mark_plan(plan, place.at, marks);
-    Step::Went(place)
+    Some(place)
 }
 
 // Rebuilds the base as it was decided, and writes it: refusal 19, then 7 to 9 of the rebuilt tree; on a refusal no byte changes. What
@@ -68,7 +68,7 @@ pub fn write_rebuilt<'a>(
     index: &mut IndexRows,
     out_records: &mut [u8],
     out_names: &mut [u8],
-) -> Changed
+) -> Result<Sizes, Refusal>
     requires { Rebuildable (trees_in trees.now) identifiers.now given roots decisions.now
         marks.now plan.old index.old out_records.old out_names.old }
     ensures { Ends (trees_in trees.now) identifiers.now given
@@ -77,7 +77,7 @@ pub fn write_rebuilt<'a>(
 {
     // plan
     let mut dropped = Dropped { ids: [0; 64], n: 0 };
-    dropped.n = gather(&decisions[DROPS], given.deletions, &mut dropped.ids);
+    dropped.n = gather(&decisions.drops, given.deletions, &mut dropped.ids);
     let step = rebuild_edited(
         trees,
         given,
@@ -88,9 +88,9 @@ pub fn write_rebuilt<'a>(
         marks,
         plan,
     );
-    let Step::Went(place) = step else {
+    let Some(place) = step else {
         // refusal 19: records or levels
-        return Changed::Refused(Refusal {
+        return Err(Refusal {
             number: 19,
             list: 4,
             place: 0,
@@ -99,7 +99,7 @@ pub fn write_rebuilt<'a>(
     let m = place.at;
     if !names_fit(trees, plan, m) {
         // refusal 19: the name sum
-        return Changed::Refused(Refusal {
+        return Err(Refusal {
             number: 19,
             list: 4,
             place: 0,
@@ -107,13 +107,10 @@ pub fn write_rebuilt<'a>(
     }
     // test, in the table that held the base's index
     refresh(index);
-    let sound = index_plan(trees, plan, m, 4, identifiers, index);
-    if let Check::Refused(r) = sound {
-        return Changed::Refused(r);
-    }
+    index_plan(trees, plan, m, 4, identifiers, index)?;
     // write
     let names = write_plan(trees, plan, m, out_records, out_names);
-    Changed::Done(Sizes {
+    Ok(Sizes {
         records: m as u32,
         names: names as u32,
         last_id: turn_back(given.last),
