@@ -47,6 +47,7 @@ use Rattle.index_short_names.proofs.Seeking.{past_is, found_is}
 use Rattle.index_short_names.proofs.Entered as short
 use Rattle.index_short_names.proofs.Entered.{short_rel, dotless, found_in}
 use Rattle.index.specs.Index.{Falling, at_slot, found_slot, held, ById, ByParent, short_slot}
+use Rattle.plan.specs.declared.PlanRows.{PlanRows}
 
 -- ---- places: `search placing`
 
@@ -192,7 +193,7 @@ pub ruleset named = (found_below_room, by_full, by_short, by_root)
 
 -- ---- by id and by parent, whatever the plan draws on: `search looks`
 
-module _ (plan : List (List ℕ)) (m i : ℕ) (w : FoundSlot) (e : w ≡ slot_before (lowest_below (is_id (numbers plan) (turned i)) 0 m)) where
+module _ (plan : PlanRows) (m i : ℕ) (w : FoundSlot) (e : w ≡ slot_before (lowest_below (is_id (numbers plan) (turned i)) 0 m)) where
   pub finds_id : (r : Found) → r ≡ found_slot (numbers plan) (held w) → ById plan m i r
   finds_id r h = record { finds = λ l p. h ∙ sym (by_id l _ _ _ m p (turned i) w e) }
 

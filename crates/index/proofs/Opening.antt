@@ -34,6 +34,7 @@ use Rattle.plan.specs.Table.{PlanIn, fields_in, Roomy, TakenIn}
 use Rattle.plan.proofs.Rooms.{copied_roomy}
 use Rattle.plan.proofs.Taking.{Based, base_plan}
 use Rattle.index.specs.Index.{Indexing, Index, Readable, BaseIndexed, ById, ByParent}
+use Rattle.plan.specs.declared.PlanRows.{PlanRows}
 
 -- ---- the base as a plan of itself
 
@@ -48,7 +49,7 @@ module _ (l : Trees) (n : ℕ) (h : Readable l n) where
   pub base_few : n ≤ 1024
   base_few = rw h.count (sized_slots l.records l.pool h.limits).0
 
-  module _ (old new : List (List ℕ)) (room : Roomy old) (k : TakenIn l.records n old new) where
+  module _ (old new : PlanRows) (room : Roomy old) (k : TakenIn l.records n old new) where
     based : (t : Forest Field) → decode 0 l.records l.pool ≡ ok t → Based l t new n
     based t e = base_plan 0 l t n old new h.limits e h.count room k
 
@@ -91,7 +92,7 @@ module _ (s pool : List ℕ) (w : Shaped) (ew : w ≡ decoded (only_read s pool)
 -- ---- 7 and 8 of a base that was read
 
 -- The refusal of 2 to 8, or the plan of the tree that lent bytes hold, with its index.
-pub record Opened (records pool : List ℕ) (r : Check) (plan : List (List ℕ)) (m : ℕ) (index : List (List ℕ)) : Type 0 where
+pub record Opened (records pool : List ℕ) (r : Check) (plan : PlanRows) (m : ℕ) (index : List (List ℕ)) : Type 0 where
   pub refusal : (x : Refusal) → r ≡ Err x → read records pool ≡ refused_as x
   pub tree : r ≡ (Ok tt) → read records pool ≡ ok (fields_in (alone records pool) plan m)
   pub planned : r ≡ (Ok tt) → PlanIn (alone records pool) plan m
@@ -102,7 +103,7 @@ module _ (s pool : List ℕ) (w : Shaped) (ew : w ≡ decoded (only_read s pool)
   unfolding only_read ◌>>=◌
   was_read = rw (readable s pool w ew k ed).limits
 
-  pub opened : (r : Check) (old plan index : List (List ℕ)) → BaseIndexed (alone s pool) (length s / 24) [] r old plan index → Opened s pool r plan (length s / 24) index
+  pub opened : (r : Check) (old plan : PlanRows) (index : List (List ℕ)) → BaseIndexed (alone s pool) (length s / 24) [] r old plan index → Opened s pool r plan (length s / 24) index
   unfolding id_list from
   opened r old plan index b =
       let u = fields_in (alone s pool) plan (length s / 24) in
@@ -114,7 +115,7 @@ module _ (s pool : List ℕ) (w : Shaped) (ew : w ≡ decoded (only_read s pool)
         indexed = b.indexed;
       }
 
-pub test_refused : (s pool : List ℕ) (plan : List (List ℕ)) (m : ℕ) (index : List (List ℕ)) (r : Check) → Opened s pool r plan m index → (y : Refusal) → r ≡ Err y → read s pool ≡ refused_as y
+pub test_refused : (s pool : List ℕ) (plan : PlanRows) (m : ℕ) (index : List (List ℕ)) (r : Check) → Opened s pool r plan m index → (y : Refusal) → r ≡ Err y → read s pool ≡ refused_as y
 test_refused s pool plan m index r o = o.refusal
 
 pub ruleset reading = (unread, test_refused)
@@ -134,7 +135,7 @@ module _ (s pool : List ℕ) (y : Refusal) (e : read s pool ≡ refused_as y) wh
   unfolding find_parent looked ◌>>=◌
   parent_refused i = rw e
 
-module _ (s pool : List ℕ) (plan : List (List ℕ)) (m : ℕ) (index : List (List ℕ)) (r : Check) (o : Opened s pool r plan m index) (q : r ≡ (Ok tt)) (h : Found) where
+module _ (s pool : List ℕ) (plan : PlanRows) (m : ℕ) (index : List (List ℕ)) (r : Check) (o : Opened s pool r plan m index) (q : r ≡ (Ok tt)) (h : Found) where
   pub name_looked : (x : List ℕ) → h ≡ found_row (look_name (fields_in (alone s pool) plan m) x) → Ok h ≡ looked (find_name s pool x)
   unfolding find_name looked ◌>>=◌
   name_looked x e = rw (o.tree q, e)

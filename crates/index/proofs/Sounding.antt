@@ -38,6 +38,7 @@ use Rattle.index_full_names.specs.Filed.{UnequalIn}
 use Rattle.index_names.proofs.Rows.{plan_ids, plan_names}
 use Rattle.index_names.proofs.Telling.{ups_told, names_told, tags_told, fulls_are}
 use Rattle.index.specs.Index.{NamesIndexed, Indexing}
+use Rattle.plan.specs.declared.PlanRows.{PlanRows}
 
 -- ---- 8
 
@@ -47,7 +48,7 @@ names_marked l xs kids m r old mid S R z w = (
   (tags_told l xs kids m r _ _ _ _ _ _ (R.wide 3 (omega arith)) (R.wide 4 (omega arith)) (R.wide 5 (omega arith)) S w.marked, (w.within.rooms R, rw (w.within.beyond 6 (omega arith)) z)),
 )
 
-pub names_indexed : (l : Trees) (plan : List (List ℕ)) (m list r : ℕ) (c : Check) (old mid new : List (List ℕ)) → SourcesIn l plan m → Rooms old → Cleared (name_heads old) → MarkedIn (names_in l plan) (walk_in plan m 16 m 0) 0 0 0 0 old mid r → UnequalIn l plan m list c mid new → NamesIndexed l plan m list c old new
+pub names_indexed : (l : Trees) (plan : PlanRows) (m list r : ℕ) (c : Check) (old mid new : List (List ℕ)) → SourcesIn l plan m → Rooms old → Cleared (name_heads old) → MarkedIn (names_in l plan) (walk_in plan m 16 m 0) 0 0 0 0 old mid r → UnequalIn l plan m list c mid new → NamesIndexed l plan m list c old new
 unfolding rule_8
 names_indexed l plan m list r c old mid new S R z w u =
     let q : (i : ℕ) → i < 6 → row new i ≡ row mid i = u.within.below in
@@ -66,10 +67,10 @@ names_indexed l plan m list r c old mid new S R z w u =
 -- ---- 7 to 9: `search sounding`
 
 -- The test of the names leaves the paths of the ids.
-pub ids_chained : (l : Trees) (plan : List (List ℕ)) (m list : ℕ) (a b : Check) (old mid new : List (List ℕ)) → IndexedIn (numbers plan) m list a old mid → a ≡ (Ok tt) → NamesIndexed l plan m list b mid new → IdsChained (numbers plan) new m
+pub ids_chained : (l : Trees) (plan : PlanRows) (m list : ℕ) (a b : Check) (old mid new : List (List ℕ)) → IndexedIn (numbers plan) m list a old mid → a ≡ (Ok tt) → NamesIndexed l plan m list b mid new → IdsChained (numbers plan) new m
 ids_chained l plan m list a b old mid new ea fa eb = rows_kept (numbers plan) mid new m eb.within.below (ea.index fa)
 
-module _ (l : Trees) (plan : List (List ℕ)) (m list : ℕ) (identifiers : List ℕ) (p : PlanIn l plan m) where
+module _ (l : Trees) (plan : PlanRows) (m list : ℕ) (identifiers : List ℕ) (p : PlanIn l plan m) where
   nine : Answer (Unit {0})
   nine = fault 9 5 (place_of (λ i. not (identifies (look_id (fields_in l plan m) i))) 0 (id_list identifiers))
 

@@ -27,13 +27,14 @@ use Rattle.plan.specs.Named.{names_in}
 use Rattle.index_names.specs.Table.{SpeltIn, TaggedIn}
 use Rattle.index_full_names.specs.Filed.{NamesFiled}
 use Rattle.index_short_names.specs.Seek.{seek_in}
+use Rattle.plan.specs.declared.PlanRows.{PlanRows}
 
 -- Places above fall.
 pub record Falling (m : ℕ) (us : List ℕ) : Type 0 where
   pub falls : (k : ℕ) → k < m → get_or us k 0 ≤ k
 
 -- The index of m planned records, over the two tables.
-pub record Index (l : Trees) (plan : List (List ℕ)) (m : ℕ) (index : List (List ℕ)) : Type 0 where
+pub record Index (l : Trees) (plan : PlanRows) (m : ℕ) (index : List (List ℕ)) : Type 0 where
   pub rooms : Rooms index
   pub by_id : IdsChained (numbers plan) index m
   pub raised : Raised (members plan) m (ups_in index)
@@ -42,7 +43,7 @@ pub record Index (l : Trees) (plan : List (List ℕ)) (m : ℕ) (index : List (L
   pub by_name : NamesFiled l plan index m
 
 -- The answer to 8, and what is left: places above, lengths and tags always, the index of full names where there is no fault.
-pub record NamesIndexed (l : Trees) (plan : List (List ℕ)) (m list : ℕ) (r : Check) (old new : List (List ℕ)) : Type 0 where
+pub record NamesIndexed (l : Trees) (plan : PlanRows) (m list : ℕ) (r : Check) (old new : List (List ℕ)) : Type 0 where
   pub answer : r ≡ tested 8 list (repeated same [] 0 (fulls (names_in l plan) [] (trees_of (kids_in (members plan)) m)))
   pub within : Within 3 8 old new
   pub raised : Raised (members plan) m (ups_in new)
@@ -51,7 +52,7 @@ pub record NamesIndexed (l : Trees) (plan : List (List ℕ)) (m list : ℕ) (r :
   pub filed : r ≡ (Ok tt) → NamesFiled l plan new m
 
 -- The answer to 7, 8 and 9 of a planned tree, and the index that is left where there is no fault. Its rows keep their room.
-pub record Indexing (l : Trees) (plan : List (List ℕ)) (m list : ℕ) (identifiers : List ℕ) (r : Check) (old new : List (List ℕ)) : Type 0 where
+pub record Indexing (l : Trees) (plan : PlanRows) (m list : ℕ) (identifiers : List ℕ) (r : Check) (old new : List (List ℕ)) : Type 0 where
   pub answer : r ≡ checked (sound list (fields_in l plan m) (id_list identifiers))
   pub index : r ≡ (Ok tt) → Index l plan m new
   pub rooms : Rooms new
@@ -70,10 +71,10 @@ held None = none
 held (Some s) = some s.0
 
 -- The look-up of an id, and of the record above one: whatever the plan draws on.
-pub record ById (plan : List (List ℕ)) (m id : ℕ) (r : Found) : Type 0 where
+pub record ById (plan : PlanRows) (m id : ℕ) (r : Found) : Type 0 where
   pub finds : (l : Trees) → PlanIn l plan m → r ≡ found_row (look_id (fields_in l plan m) (turned id))
 
-pub record ByParent (plan index : List (List ℕ)) (m id : ℕ) (r : Found) : Type 0 where
+pub record ByParent (plan : PlanRows) (index : List (List ℕ)) (m id : ℕ) (r : Found) : Type 0 where
   pub finds : (l : Trees) → PlanIn l plan m → Raised (members plan) m (ups_in index)
       → r ≡ found_row (look_parent (fields_in l plan m) (turned id))
 

@@ -39,6 +39,7 @@ use Rattle.index_folded_names.specs.declared.Met.TheVariants.{Twice, Past}
 use Rattle.index_folded_names.specs.Met.{matched, met, meeting}
 use Rattle.index_folded_names.proofs.Matching.{At, done, more, matching_at, All, matched_below, dotless}
 use Rattle.index_folded.specs.Told.{is_none, Small, told}
+use Rattle.plan.specs.declared.PlanRows.{PlanRows}
 
 -- ---- one function's answer
 
@@ -186,7 +187,7 @@ module _ (s pool x : List ℕ) where
   unfolding find_folded looked ◌>>=◌
   folded_refused y e = rw e
 
-  pub folded_looked : (plan : List (List ℕ)) (m : ℕ) (index : List (List ℕ)) (r : Check) → Opened s pool r plan m index → (h : Sought) → r ≡ (Ok tt) → h ≡ looked (look_folded (fields_in (alone s pool) plan m) x) → h ≡ looked (find_folded s pool x)
+  pub folded_looked : (plan : PlanRows) (m : ℕ) (index : List (List ℕ)) (r : Check) → Opened s pool r plan m index → (h : Sought) → r ≡ (Ok tt) → h ≡ looked (look_folded (fields_in (alone s pool) plan m) x) → h ≡ looked (find_folded s pool x)
   unfolding find_folded ◌>>=◌
   folded_looked plan m index r o h q e = e ∙ sym (ap looked (ap (λ t. t >>= λ u. look_folded u x) (o.tree q)))
 

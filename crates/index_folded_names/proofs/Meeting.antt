@@ -32,13 +32,14 @@ use Rattle.index_turns.proofs.Fitting.{left_in, left_out, left_inside, mine}
 use Rattle.index_folded_names.specs.declared.Met.{Met}
 use Rattle.index_folded_names.specs.declared.Met.TheVariants.{Twice, Past}
 use Rattle.index_folded_names.specs.Met.{matched, met, meeting}
+use Rattle.plan.specs.declared.PlanRows.{PlanRows}
 
 -- The two halves of a step, where case is forgotten.
 pub own_met : (nm x : List ℕ) (pos k f : ℕ) → pos ≤ length x → f ≡ fits (spelt true nm) (drop pos (spelt true x)) → (me : ℕ) → me ≡ pick (eqb f 1) (k + 1) 0 → seen me ≡ own (left_at (folded x) pos) (folded nm) k
 unfolding spelt
 own_met nm x pos k f q ef me em = mine nm x pos f true q ef k me em
 
-pub left_met : (l : Trees) (plan : List (List ℕ)) (x : List ℕ) (pos k f : ℕ) → pos ≤ length x → f ≡ fits (spelt true (names_in l plan k)) (drop pos (spelt true x)) → (short : Bool) (role : Role) (i : Inside) → Entered l plan short role f x pos k i → left_at (folded x) i.pos ≡ inside (short && skipped role (kinds_in l plan k)) (left_at (folded x) pos) (folded (names_in l plan k))
+pub left_met : (l : Trees) (plan : PlanRows) (x : List ℕ) (pos k f : ℕ) → pos ≤ length x → f ≡ fits (spelt true (names_in l plan k)) (drop pos (spelt true x)) → (short : Bool) (role : Role) (i : Inside) → Entered l plan short role f x pos k i → left_at (folded x) i.pos ≡ inside (short && skipped role (kinds_in l plan k)) (left_at (folded x) pos) (folded (names_in l plan k))
 unfolding spelt
 left_met l plan x pos k f q ef short role i ei = left_inside (names_in l plan k) x pos f true q ef (short && skipped role (kinds_in l plan k)) i.pos ei.goes
 

@@ -15,8 +15,9 @@ use Rattle.plan.specs.Walk.{walk_in}
 use Rattle.index_turns.specs.Turn.{left_is, left_at, inside}
 use Rattle.index_folded_names.specs.declared.Met.{Met}
 use Rattle.index_folded_names.specs.declared.Met.TheVariants.{Twice, Past}
+use Rattle.plan.specs.declared.PlanRows.{PlanRows}
 
-abbrev pub folded_in : Trees → (plan : List (List ℕ)) → ℕ → List ℕ
+abbrev pub folded_in : Trees → (plan : PlanRows) → ℕ → List ℕ
 folded_in l plan k = folded (names_in l plan k)
 
 -- The slots, in slot order, whose name is what is left.
@@ -37,5 +38,5 @@ unfoldable pub meeting : (ℕ → List ℕ) → (ℕ → Kind) → (short : Bool
 meeting name kind short role left one p = met one (matched name kind short role left p.trees) p.next
 
 -- What a walk over all rows answers, by their full names or by their short ones.
-abbrev pub level : Trees → (plan : List (List ℕ)) (m : ℕ) (short : Bool) (x : List ℕ) → Met
+abbrev pub level : Trees → (plan : PlanRows) (m : ℕ) (short : Bool) (x : List ℕ) → Met
 level l plan m short x = meeting (folded_in l plan) (kinds_in l plan) short Member (left_at (folded x) 0) 0 (walk_in plan m 16 m 0)

@@ -36,6 +36,7 @@ use Rattle.index.proofs.Opening.{Opened, reading}
 use Rattle.index.proofs.Looking.{finds_id}
 use Rattle.index_many.specs.Answers.{Searched}
 use Rattle.index_many.specs.Many.{searches, slot_word, met_one, Searchable, rows_of, ByIds}
+use Rattle.plan.specs.declared.PlanRows.{PlanRows}
 
 -- ---- rows
 
@@ -59,7 +60,7 @@ slots_length g k (suc m) = let e = slots_length g (suc k) m in omega arith
 
 -- ---- the loop
 
-module _ (plan : List (List ℕ)) (m : ℕ) (s out : List ℕ) (n : ℕ) where
+module _ (plan : PlanRows) (m : ℕ) (s out : List ℕ) (n : ℕ) where
   abbrev row_at : Trees → ℕ → Option Row
   row_at l j = look_id (fields_in l plan m) (id_at s j)
 
@@ -160,7 +161,7 @@ module _ (s pool ids out : List ℕ) where
       pub base_refused : (y : Refusal) → read s pool ≡ refused_as y → Ends (Err y) out
       base_refused y e = stops y (reads ∙ bind_not (read s pool) _ _ _ _ e)
 
-      module _ (plan : List (List ℕ)) (m : ℕ) (index : List (List ℕ)) (r : Check) (o : Opened s pool r plan m index) (q : r ≡ (Ok tt)) where
+      module _ (plan : PlanRows) (m : ℕ) (index : List (List ℕ)) (r : Check) (o : Opened s pool r plan m index) (q : r ≡ (Ok tt)) where
         pub searchable : Searchable plan m index ids out
         searchable =
             record { few = (o.planned q).few; chained = (o.indexed q).by_id; asked = whole_most 4 1024 ids (sym eb ∙ not-false b t); room = room }

@@ -9,15 +9,16 @@ use Rattle.index_names.specs.declared.Prefix.{Prefix}
 use Rattle.index_names.specs.Hash.{mix, hash_on, tag}
 use Rattle.index_names.specs.Full.{full_at}
 use Rattle.index_names.specs.Told.{Marked, Spelt, Tagged}
+use Rattle.plan.specs.declared.PlanRows.{PlanRows}
 
 -- The full name of a slot.
-abbrev pub full_in : Trees → (plan index : List (List ℕ)) → ℕ → List ℕ
+abbrev pub full_in : Trees → (plan : PlanRows) (index : List (List ℕ)) → ℕ → List ℕ
 full_in l plan index = full_at (names_in l plan) (ups_in index)
 
-abbrev pub SpeltIn : Trees → (plan : List (List ℕ)) (m : ℕ) (index : List (List ℕ)) → Type 0
+abbrev pub SpeltIn : Trees → (plan : PlanRows) (m : ℕ) (index : List (List ℕ)) → Type 0
 SpeltIn l plan m index = Spelt l (sources plan) m (ups_in index) (lens_in index)
 
-abbrev pub TaggedIn : Trees → (plan : List (List ℕ)) (m : ℕ) (index : List (List ℕ)) → Type 0
+abbrev pub TaggedIn : Trees → (plan : PlanRows) (m : ℕ) (index : List (List ℕ)) → Type 0
 TaggedIn l plan m index = Tagged l (sources plan) m (ups_in index) (tags_in index)
 
 -- What is kept of one slot is put into the three rows of the names, and no other is written.

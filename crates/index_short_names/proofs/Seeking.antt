@@ -30,6 +30,7 @@ use Rattle.index_short_names.specs.declared.Turn.{Turn}
 use Rattle.index_short_names.specs.declared.Sighting.{Sighting}
 use Rattle.index_short_names.specs.declared.Sighting.TheVariants.{Found, Past}
 use Rattle.index_short_names.specs.Seek.{Turned, seek_in, outcome, sighting}
+use Rattle.plan.specs.declared.PlanRows.{PlanRows}
 
 -- ---- small things: `search small`
 
@@ -63,7 +64,7 @@ found_is none m j e = absurd (let z : ◌≡◌ {A = ℕ} 0 1 = cc in omega arit
 found_is (some k) m j e = let z : j ≡ record { 0 = k } = cc in ap some (sym (ap (λ (x : Slot). x.0) z))
 
 -- The step, from its two halves.
-pub turned : (l : Trees) (plan : List (List ℕ)) (role : Role) (x : List ℕ) (pos k f me : ℕ) (i : Inside) → pos ≤ length x → f ≡ fits (spelt false (names_in l plan k)) (drop pos (spelt false x)) → Entered l plan true role f x pos k i → me ≡ pick (eqb f 1) (k + 1) 0 → Turned (names_in l plan) (kinds_in l plan) role x pos k (record { role = i.role; pos = i.pos; me = me })
+pub turned : (l : Trees) (plan : PlanRows) (role : Role) (x : List ℕ) (pos k f me : ℕ) (i : Inside) → pos ≤ length x → f ≡ fits (spelt false (names_in l plan k)) (drop pos (spelt false x)) → Entered l plan true role f x pos k i → me ≡ pick (eqb f 1) (k + 1) 0 → Turned (names_in l plan) (kinds_in l plan) role x pos k (record { role = i.role; pos = i.pos; me = me })
 unfolding spelt
 turned l plan role x pos k f me i q ef ei em =
     record {

@@ -21,6 +21,7 @@ use Rattle.index_ids.specs.Chain.{lowest_below}
 use Rattle.index_ids.specs.Ids.{is_id}
 use Rattle.index_ids.specs.Path.{IndexedIn}
 use Rattle.index_timed.specs.Timed.{counts, each_round, all_rounds, id_row, timed}
+use Rattle.plan.specs.declared.PlanRows.{PlanRows}
 
 module _ (w : FoundSlot) (c : ℕ) where
   pub count_same : w ≡ None → c ≡ counts w c
@@ -75,7 +76,7 @@ module _ (s ids : List ℕ) (rounds : ℕ) (b : Bool) (eb : b ≡ whole 24 1024 
     pub timed_bytes : n * 24 ≤ length s
     timed_bytes = omega arith
 
-    module _ (plan old index : List (List ℕ)) (t : TakenIn s n (replicate 3 (replicate 1024 0)) plan) (r : Check) (x : IndexedIn (numbers plan) n 0 r old index) where
+    module _ (plan : PlanRows) (old index : List (List ℕ)) (t : TakenIn s n (replicate 3 (replicate 1024 0)) plan) (r : Check) (x : IndexedIn (numbers plan) n 0 r old index) where
       same_row : numbers plan ≡ id_row s
       same_row = t.numbers_set ∙ rw en
 

@@ -22,6 +22,7 @@ use Rattle.record.specs.Trees.{Trees}
 use Rattle.plan.specs.Named.{names_in, kinds_in}
 use Rattle.index_ids.specs.Chain.{pick}
 use Rattle.index_turns.specs.Turn.{spelt, strip, left_at, fits, deeper, inside, own, Entered, seen}
+use Rattle.plan.specs.declared.PlanRows.{PlanRows}
 
 -- ---- names as they are compared
 
@@ -276,7 +277,7 @@ pub ruleset small = (deep_skips, deep_goes, deep_ends, own_yes, own_no, either_a
 pub fit_named : (b : Bool) (nm y x : List ℕ) (pos f : ℕ) → nm ≡ y → f ≡ fits (spelt b nm) (drop pos (spelt b x)) → f ≡ fits (spelt b y) (drop pos (spelt b x))
 fit_named b nm y x pos f e h = h ∙ rw e
 
-pub goes_named : (l : Trees) (plan : List (List ℕ)) (short skip : Bool) (role rl : Role) (kd : Kind) (nm x : List ℕ) (f pos k deep : ℕ) → kd ≡ kinds_in l plan k → nm ≡ names_in l plan k → skip ≡ skipped role kd → rl ≡ first kd → deep ≡ deeper (short && skip) f pos (length nm) (length x) → Entered l plan short role f x pos k (record { role = rl; pos = deep })
+pub goes_named : (l : Trees) (plan : PlanRows) (short skip : Bool) (role rl : Role) (kd : Kind) (nm x : List ℕ) (f pos k deep : ℕ) → kd ≡ kinds_in l plan k → nm ≡ names_in l plan k → skip ≡ skipped role kd → rl ≡ first kd → deep ≡ deeper (short && skip) f pos (length nm) (length x) → Entered l plan short role f x pos k (record { role = rl; pos = deep })
 goes_named l plan short skip role rl kd nm x f pos k deep ek en es er ed = record { members = er ∙ ap first ek; goes = ed ∙ rw (es, ek, en) }
 
 pub room_named : (nm y x : List ℕ) (f pos : ℕ) → nm ≡ y → (f ≡ 2 → pos + length y < length x) → f ≡ 2 → pos + length nm < length x

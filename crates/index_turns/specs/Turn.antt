@@ -9,6 +9,7 @@ use Rattle.paper.specs.Rows.{skipped}
 use Rattle.record.specs.Trees.{Trees}
 use Rattle.plan.specs.Named.{names_in, kinds_in}
 use Rattle.index_turns.specs.declared.Inside.{Inside}
+use Rattle.plan.specs.declared.PlanRows.{PlanRows}
 
 -- A name as it is compared: as it is, or folded.
 unfoldable pub spelt : (folding : Bool) → List ℕ → List ℕ
@@ -57,6 +58,6 @@ seen zero = none
 seen (suc k) = some k
 
 -- What is inside the record at slot k for a search; full names skip no record.
-pub record Entered (l : Trees) (plan : List (List ℕ)) (short : Bool) (role : Role) (f : ℕ) (x : List ℕ) (pos k : ℕ) (r : Inside) : Type 0 where
+pub record Entered (l : Trees) (plan : PlanRows) (short : Bool) (role : Role) (f : ℕ) (x : List ℕ) (pos k : ℕ) (r : Inside) : Type 0 where
   pub members : r.role ≡ first (kinds_in l plan k)
   pub goes : r.pos ≡ deeper (short && skipped role (kinds_in l plan k)) f pos (length (names_in l plan k)) (length x)

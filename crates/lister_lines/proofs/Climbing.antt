@@ -12,13 +12,14 @@ use Rattle.plan.specs.Named.{names_in}
 use Rattle.index_names.specs.Table.{full_in, SpeltIn}
 use Rattle.index_names.proofs.Telling.{full_root, full_under}
 use Rattle.lister_lines.specs.Digits.{Put}
+use Rattle.plan.specs.declared.PlanRows.{PlanRows}
 
 -- Runs that do not meet may change places.
 sets_apart : (F G l : List ℕ) (i j : ℕ) → i + length F ≤ j → sets (sets l i F) j G ≡ sets (sets l j G) i F
 sets_apart [] G l i j h = refl
 sets_apart (x ∷ F) G l i j h = sets_apart F G (set l i x) (suc i) j (omega arith) ∙ ap (λ (z : List ℕ). sets z (suc i) F) (sym (sets_before G l i j x (omega arith)))
 
-pub record Climbing (l : Trees) (plan : List (List ℕ)) (m : ℕ) (index : List (List ℕ)) (slot start : ℕ) (out₀ : List ℕ) (stop here end : ℕ) (out : List ℕ) : Type 0 where
+pub record Climbing (l : Trees) (plan : PlanRows) (m : ℕ) (index : List (List ℕ)) (slot start : ℕ) (out₀ : List ℕ) (stop here end : ℕ) (out : List ℕ) : Type 0 where
   pub spelt : SpeltIn l plan m index
   pub stops : stop ≡ start + length (full_in l plan index slot)
   pub most : stop ≤ start + 65535
@@ -28,7 +29,7 @@ pub record Climbing (l : Trees) (plan : List (List ℕ)) (m : ℕ) (index : List
   pub whole : sets out₀ start (full_in l plan index slot) ≡ sets out start (full_in l plan index here)
   pub long : length out ≡ length out₀
 
-module _ (l : Trees) (plan : List (List ℕ)) (m : ℕ) (index : List (List ℕ)) (slot start : ℕ) (out₀ : List ℕ) where
+module _ (l : Trees) (plan : PlanRows) (m : ℕ) (index : List (List ℕ)) (slot start : ℕ) (out₀ : List ℕ) where
   pub climb_starts : (len : ℕ) → slot < m → SpeltIn l plan m index → (len ≡ get_or (lens_in index) slot 0) × (len < 65536) → start + 65535 ≤ length out₀ → Climbing l plan m index slot start out₀ (start + len) slot (start + len) out₀
   climb_starts len q sp e h =
       let g = sp.len slot q in

@@ -34,6 +34,7 @@ use Rattle.index_names.proofs.Marking.{length_fulls, length_ups}
 use Rattle.index_names.proofs.Telling.{fulls_are}
 use Rattle.index.proofs.Opening.{Opened, reading}
 use Rattle.lister_lines.specs.Text.{above, line_start, line_at, joined, refusal_text, Shown}
+use Rattle.plan.specs.declared.PlanRows.{PlanRows}
 
 lines_append : (a b : List Row) → lines (a ++ b) ≡ lines a ++ lines b
 unfolding lines
@@ -122,7 +123,7 @@ module _ (l : Trees) (xs is : List ℕ) where
 
 -- ---- a planned tree
 
-plan_listed : (l : Trees) (plan : List (List ℕ)) (m : ℕ) (index : List (List ℕ)) → PlanIn l plan m → Raised (members plan) m (ups_in index) → lines (rows top (fields_in l plan m)) ≡ joined (line_at l plan index) m
+plan_listed : (l : Trees) (plan : PlanRows) (m : ℕ) (index : List (List ℕ)) → PlanIn l plan m → Raised (members plan) m (ups_in index) → lines (rows top (fields_in l plan m)) ≡ joined (line_at l plan index) m
 unfolding line_at
 plan_listed l plan m index p rs =
     let T = trees_of (kids_in (members plan)) m in
@@ -141,7 +142,7 @@ module _ (records pool : List ℕ) (at : ℕ) (out : List ℕ) (n : ℕ) (out' :
   unfolding lister
   refusal_listed x e h = rw e h
 
-  pub tree_listed : (r : Check) (plan : List (List ℕ)) (m : ℕ) (index : List (List ℕ)) → Opened records pool r plan m index → r ≡ (Ok tt) → Shown (joined (line_at (alone records pool) plan index) m) at out n out' → Shown (lister records pool) at out n out'
+  pub tree_listed : (r : Check) (plan : PlanRows) (m : ℕ) (index : List (List ℕ)) → Opened records pool r plan m index → r ≡ (Ok tt) → Shown (joined (line_at (alone records pool) plan index) m) at out n out' → Shown (lister records pool) at out n out'
   unfolding lister listing
   tree_listed r plan m index o q h = rw (o.tree q, plan_listed (alone records pool) plan m index (o.planned q) (o.indexed q).raised) h
 

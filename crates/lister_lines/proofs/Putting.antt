@@ -20,6 +20,7 @@ use Rattle.index_names.specs.Table.{full_in}
 use Rattle.lister_lines.specs.declared.Digits.{Digits}
 use Rattle.lister_lines.specs.Digits.{Ends, Put}
 use Rattle.lister_lines.specs.Text.{above, line_start, line_at, refusal_text}
+use Rattle.plan.specs.declared.PlanRows.{PlanRows}
 
 pub put_whole : (text : List ℕ) (d : Digits) (at : ℕ) (out out' : List ℕ) → Ends text d → out' ≡ sets out at (take (10 - d.start) (drop d.start d.bytes)) → Put text at out (at + (10 - d.start)) out'
 put_whole text d at out out' h e =
@@ -79,7 +80,7 @@ unfolding line_start
 put_numbers is k u out a o₁ b o₂ c o₃ f g h =
     put_then _ _ _ _ _ _ _ _ f (put_cons _ _ _ _ _ _ (put_then _ _ _ _ _ _ _ _ g (put_cons _ _ _ _ _ _ (put_then _ _ _ _ _ _ _ _ h (put_byte _ _ 32)))))
 
-pub put_line : (l : Trees) (plan index : List (List ℕ)) (k u : ℕ) (out : List ℕ) (a : ℕ) (o₁ : List ℕ) (b : ℕ) (o₂ : List ℕ)
+pub put_line : (l : Trees) (plan : PlanRows) (index : List (List ℕ)) (k u : ℕ) (out : List ℕ) (a : ℕ) (o₁ : List ℕ) (b : ℕ) (o₂ : List ℕ)
     → u ≡ get_or (ups_in index) k 0 → Put (line_start (numbers plan) k u) 0 out a o₁ → Put (full_in l plan index k) a o₁ b o₂
     → Put (line_at l plan index k) 0 out (b + 1) (set o₂ b 10)
 unfolding line_at

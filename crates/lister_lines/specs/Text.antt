@@ -9,6 +9,7 @@ use Rattle.plan.specs.Table.{numbers}
 use Rattle.index_ids.specs.Ids.{id_in}
 use Rattle.index_ids.specs.Table.{ups_in}
 use Rattle.index_names.specs.Table.{full_in}
+use Rattle.plan.specs.declared.PlanRows.{PlanRows}
 
 -- The id of the record before a place; none at place 0.
 abbrev pub above : (ids : List ℕ) → ℕ → Option ℕ
@@ -20,7 +21,7 @@ unfoldable pub line_start : (ids : List ℕ) (slot up : ℕ) → List ℕ
 line_start ids slot up =
     decimal slot ++ (32 ∷ (signed (id_in ids slot) ++ (32 ∷ (parent_text (above ids up) ++ (32 ∷ [])))))
 
-unfoldable pub line_at : Trees → (plan index : List (List ℕ)) (slot : ℕ) → List ℕ
+unfoldable pub line_at : Trees → (plan : PlanRows) (index : List (List ℕ)) (slot : ℕ) → List ℕ
 line_at trees plan index slot =
     line_start (numbers plan) slot (get_or (ups_in index) slot 0) ++ (full_in trees plan index slot ++ (10 ∷ []))
 

@@ -24,11 +24,12 @@ use Rattle.plan.specs.Plan.{Source, slot_of, bits_of, planned_field, source_in, 
 use Rattle.plan.specs.Draft.{Drawn}
 use Rattle.plan.specs.Sources.{own_source}
 use Rattle.plan.specs.Table.{sources, numbers, members, Roomy, PlanIn, DraftIn, fields_in, planned_at, LaidIn, CopiedIn}
+use Rattle.plan.specs.declared.PlanRows.{PlanRows}
 
 -- ---- laying
 
 -- Nothing is laid.
-pub laid_none : (i : ℕ) (plan : List (List ℕ)) → length plan ≡ 3 → LaidIn empty i plan plan
+pub laid_none : (i : ℕ) (plan : PlanRows) → length plan ≡ 3 → LaidIn empty i plan plan
 unfolding preorder counts
 laid_none i plan e = record { sources_set = refl; numbers_set = refl; members_set = refl; rows = e }
 
@@ -40,7 +41,7 @@ mapped_then f t u i j l l₁ l₂ e h g =
     let d : j ≡ i + length (map f (preorder t)) = omega arith in
     g ∙ rw (h, d, preorder_then t u, map_append f (preorder t) (preorder u)) (sets_append (map f (preorder t)) (map f (preorder u)) l i)
 
-pub laid_then : (t u : Forest Source) (i j : ℕ) (p p₁ p₂ : List (List ℕ)) → j ≡ i + size t → LaidIn t i p p₁ → LaidIn u j p₁ p₂ → LaidIn (t then u) i p p₂
+pub laid_then : (t u : Forest Source) (i j : ℕ) (p p₁ p₂ : PlanRows) → j ≡ i + size t → LaidIn t i p p₁ → LaidIn u j p₁ p₂ → LaidIn (t then u) i p p₂
 laid_then t u i j p p₁ p₂ e h g =
     let q = length_counts t in
     let d : j ≡ i + length (counts t) = omega arith in
@@ -59,7 +60,7 @@ stored_last x xs l l₁ i h = rw (h, nil xs, add-one i) (sets_before xs l i (suc
     nil [] = refl
     nil (x ∷ l) = ap (λ r. x ∷ r) (nil l)
 
-pub laid_last : (a : Source) (m : Forest Source) (i c : ℕ) (p p₁ : List (List ℕ)) → c ≡ siblings m → LaidIn m (i + 1) p p₁ → LaidIn (node a m empty) i p (planned_at p₁ i a.slot a.id c)
+pub laid_last : (a : Source) (m : Forest Source) (i c : ℕ) (p p₁ : PlanRows) → c ≡ siblings m → LaidIn m (i + 1) p p₁ → LaidIn (node a m empty) i p (planned_at p₁ i a.slot a.id c)
 unfolding preorder counts
 laid_last a m i c p p₁ e h =
     record {
@@ -70,7 +71,7 @@ laid_last a m i c p p₁ e h =
     }
 
 -- Records that stand in a row of a list, copied as they stand there.
-pub copied_laid : (s : List ℕ) (p : Part) (n c k i d : ℕ) (plan plan' : List (List ℕ)) → Full (kids_at s) n c k p → d ≡ size p.trees → CopiedIn s k d plan i plan' → LaidIn (mapped (own_source s) p.trees) i plan plan'
+pub copied_laid : (s : List ℕ) (p : Part) (n c k i d : ℕ) (plan plan' : PlanRows) → Full (kids_at s) n c k p → d ≡ size p.trees → CopiedIn s k d plan i plan' → LaidIn (mapped (own_source s) p.trees) i plan plan'
 copied_laid s p n c k i d plan plan' u e h =
     let q : preorder (mapped (own_source s) p.trees) ≡ from (own_source s) k d = preorder_mapped (own_source s) p.trees ∙ rw (u.slots, ← e) (map_from (own_source s) itself k d) in
     record {
@@ -105,7 +106,7 @@ module _ (l : Trees) where
 
 -- ---- what was laid is read back
 
-module _ (t : Forest Source) (plan plan' : List (List ℕ)) (m : ℕ) (room : Roomy plan) (h : LaidIn t 0 plan plan') (em : m ≡ size t) (few : m ≤ 1024) where
+module _ (t : Forest Source) (plan plan' : PlanRows) (m : ℕ) (room : Roomy plan) (h : LaidIn t 0 plan plan') (em : m ≡ size t) (few : m ≤ 1024) where
   laid_mapped : (f : Source → ℕ) (l l' : List ℕ) → length l ≡ 1024 → l' ≡ sets l 0 (map f (preorder t)) → (j : ℕ) → j < size t → get_or l' j 0 ≡ get_or (map f (preorder t)) j 0
   laid_mapped f l l' el e j b =
       let p = length_preorder t in
@@ -137,5 +138,5 @@ module _ (t : Forest Source) (plan plan' : List (List ℕ)) (m : ℕ) (room : Ro
     laid_draft l s = record { few = few; sits = λ i b. rw (laid_slot i (omega arith)) (drawn_at l t s i (omega arith)); shaped = rw laid_roots }
 
 -- A draft whose name sum is within the limit is a plan.
-pub draft_plan : (l : Trees) (plan : List (List ℕ)) (m : ℕ) → DraftIn l plan m → name_bytes (fields_in l plan m) ≤ 32768 → PlanIn l plan m
+pub draft_plan : (l : Trees) (plan : PlanRows) (m : ℕ) → DraftIn l plan m → name_bytes (fields_in l plan m) ≤ 32768 → PlanIn l plan m
 draft_plan l plan m h e = record { few = h.few; sits = h.sits; shaped = h.shaped; sum = e }

@@ -10,11 +10,12 @@ use Rattle.tree.specs.Read.{itself}
 use Rattle.plan.specs.Plan.{Source, slot_of, bits_of}
 use Rattle.plan.specs.Sources.{id_bits}
 use Rattle.plan.specs.Table.{sources, numbers, members, Roomy, LaidIn, CopiedIn}
+use Rattle.plan.specs.declared.PlanRows.{PlanRows}
 
 pub roomy_fresh : Roomy (replicate 3 (replicate 1024 0))
 roomy_fresh = let e = length-replicate {A = ℕ} 1024 0 in record { rows = length-replicate {A = List ℕ} 3 (replicate 1024 0); sources_room = e; numbers_room = e; members_room = e }
 
-module _ (i : ℕ) (plan plan' : List (List ℕ)) where
+module _ (i : ℕ) (plan plan' : PlanRows) where
   stored_roomy : (xs is ks : List ℕ) → sources plan' ≡ sets (sources plan) i xs → numbers plan' ≡ sets (numbers plan) i is → members plan' ≡ sets (members plan) i ks → length plan' ≡ 3 → Roomy plan → Roomy plan'
   stored_roomy xs is ks ex ei ek e r =
       record {

@@ -29,6 +29,7 @@ use Rattle.plan.specs.Sources.{source_len}
 use Rattle.plan.specs.Table.{sources, numbers, members, DraftIn, fields_in}
 use Rattle.plan.proofs.Sourcing.{len_source}
 use Rattle.plan.proofs.Walks.{roots_are}
+use Rattle.plan.specs.declared.PlanRows.{PlanRows}
 
 -- The field of the planned record at a place, and its name's length.
 abbrev pub field_in : Trees → (slots ids : List ℕ) → ℕ → Field
@@ -81,7 +82,7 @@ module _ (ks : List ℕ) (m : ℕ) (h : fine (roots 4 (kids_in ks) m m 0) ≡ tr
   unfolding plan_slots p
   plan_counts = whole.sizes ∙ ap (λ (z : ℕ). from (kids_in ks) 0 z) plan_size
 
-module _ (plan : List (List ℕ)) (m : ℕ) (h : fine (roots 4 (kids_in (members plan)) m m 0) ≡ true) (l : Trees) where
+module _ (plan : PlanRows) (m : ℕ) (h : fine (roots 4 (kids_in (members plan)) m m 0) ≡ true) (l : Trees) where
   fields_mapped : fields_in l plan m ≡ mapped (field_in l (sources plan) (numbers plan)) (plan_slots (members plan) m)
   unfolding plan_fields plan_tree
   fields_mapped = mapped_mapped (source_in (sources plan) (numbers plan)) (planned_field l) (plan_slots (members plan) m)
@@ -114,7 +115,7 @@ pub name_planned : (l : Trees) (a : Source) → (planned_field l a).name ≡ (so
 unfolding planned_field
 name_planned l a = refl
 
-pub draft_sum : (l : Trees) (plan : List (List ℕ)) (m : ℕ) → DraftIn l plan m → name_bytes (fields_in l plan m) ≡ sum_from (len_in l.records l.added_records l.edits (sources plan)) 0 m
+pub draft_sum : (l : Trees) (plan : PlanRows) (m : ℕ) → DraftIn l plan m → name_bytes (fields_in l plan m) ≡ sum_from (len_in l.records l.added_records l.edits (sources plan)) 0 m
 draft_sum l plan m d =
     sym (fields_names plan m d.shaped l)
     ∙ lengths (field_in l (sources plan) (numbers plan)) (len_in l.records l.added_records l.edits (sources plan)) 0 m

@@ -15,6 +15,7 @@ use Rattle.plan.specs.Table.{sources, numbers, members, PlanIn, DraftIn, fields_
 use Rattle.plan.proofs.Sourcing.{sits_in}
 use Rattle.plan.proofs.Standing.{len_in, draft_sum}
 use Rattle.plan.proofs.Laying.{draft_plan}
+use Rattle.plan.specs.declared.PlanRows.{PlanRows}
 
 -- What is left from place i on gives the whole sum.
 pub record Adding (base added edits xs : List ℕ) (m i sum : ℕ) : Type 0 where
@@ -51,7 +52,7 @@ pub ruleset summing = (sum_starts, sum_goes, sum_ends, source_inside)
 
 -- ---- for callers
 
-module _ (l : Trees) (plan : List (List ℕ)) (m : ℕ) (d : DraftIn l plan m) where
+module _ (l : Trees) (plan : PlanRows) (m : ℕ) (d : DraftIn l plan m) where
   pub draft_inside : InsideIn l plan m
   draft_inside = record { few = d.few; all = λ i b. sits_in l (get_or (sources plan) i 0) (d.sits i b) }
 

@@ -28,31 +28,32 @@ use Rattle.plan.specs.Draft.{Drawn}
 use Rattle.plan.specs.Sources.{id_bits, own_source}
 use Rattle.plan.specs.Table.{sources, numbers, members, Roomy, PlanIn, fields_in, planned_at, CopiedIn, TakenIn}
 use Rattle.plan.proofs.Laying.{copied_laid, laid_fields, laid_draft, draft_plan}
+use Rattle.plan.specs.declared.PlanRows.{PlanRows}
 
 -- ---- the loop: `search copying`
 
 -- A store into each of the three rows.
-pub planned_three : (plan : List (List ℕ)) (at source id kids : ℕ) → length plan ≡ 3 → let p₁ = set plan 0 (set (sources plan) at source) in let p₂ = set p₁ 1 (set (numbers p₁) at id) in set p₂ 2 (set (members p₂) at kids) ≡ planned_at plan at source id kids
+pub planned_three : (plan : PlanRows) (at source id kids : ℕ) → length plan ≡ 3 → let p₁ = set plan 0 (set (sources plan) at source) in let p₂ = set p₁ 1 (set (numbers p₁) at id) in set p₂ 2 (set (members p₂) at kids) ≡ planned_at plan at source id kids
 planned_three (xs ∷ is ∷ ks ∷ []) at source id kids e = refl
 planned_three [] at source id kids e = absurd (omega arith)
 planned_three (xs ∷ []) at source id kids e = absurd (omega arith)
 planned_three (xs ∷ is ∷ []) at source id kids e = absurd (omega arith)
 planned_three (xs ∷ is ∷ ks ∷ l ∷ ls) at source id kids e = absurd (omega arith)
 
-pub record Copying (s : List ℕ) (k n : ℕ) (plan : List (List ℕ)) (at i : ℕ) (plan' : List (List ℕ)) : Type 0 where
+pub record Copying (s : List ℕ) (k n : ℕ) (plan : PlanRows) (at i : ℕ) (plan' : PlanRows) : Type 0 where
   pub within : i ≤ n
   pub copied : CopiedIn s k i plan at plan'
 
 one_more : (g : ℕ → ℕ) (l l' : List ℕ) (at k i v : ℕ) → l' ≡ sets l at (from g k i) → v ≡ g (k + i) → set l' (at + i) v ≡ sets l at (from g k (i + 1))
 one_more g l l' at k i v e q = rw (e, q) (from_more g l at k i)
 
-module _ (s : List ℕ) (k n : ℕ) (plan : List (List ℕ)) (at : ℕ) where
+module _ (s : List ℕ) (k n : ℕ) (plan : PlanRows) (at : ℕ) where
   pub copy_starts : length plan ≡ 3 → Copying s k n plan at 0 plan
   unfolding from
   copy_starts e = record { within = omega arith; copied = record { sources_set = refl; numbers_set = refl; members_set = refl; rows = e } }
 
-  module _ (i : ℕ) (p : List (List ℕ)) (h : Copying s k n plan at i p) where
-    pub copy_goes : (v w : ℕ) (p' : List (List ℕ)) → i < n → v ≡ id_bits s (k + i) → w ≡ kids_at s (k + i) → p' ≡ planned_at p (at + i) (k + i) v w → Copying s k n plan at (i + 1) p'
+  module _ (i : ℕ) (p : PlanRows) (h : Copying s k n plan at i p) where
+    pub copy_goes : (v w : ℕ) (p' : PlanRows) → i < n → v ≡ id_bits s (k + i) → w ≡ kids_at s (k + i) → p' ≡ planned_at p (at + i) (k + i) v w → Copying s k n plan at (i + 1) p'
     copy_goes v w p' l ev ew e =
         let c = h.copied in
         record {
@@ -129,11 +130,11 @@ all_drawn lt s kids n k empty l h = tt
 all_drawn lt s kids n k (node j m u) l h = (rw l.0 (h k l.1), all_drawn lt s kids n (suc k) m l.3 h, all_drawn lt s kids n (suc (k + size m)) u l.4 h)
 
 -- Bytes that passed 2 and decode, taken as a plan, are a plan, and it plans the tree that they decode to.
-pub record Based (l : Trees) (t : Forest Field) (table : List (List ℕ)) (n : ℕ) : Type 0 where
+pub record Based (l : Trees) (t : Forest Field) (table : PlanRows) (n : ℕ) : Type 0 where
   pub plan : PlanIn l table n
   pub tree : fields_in l table n ≡ t
 
-pub base_plan : (list : ℕ) (l : Trees) (t : Forest Field) (n : ℕ) (plan plan' : List (List ℕ)) → sized l.records l.pool ≡ true → decode list l.records l.pool ≡ ok t → n ≡ slots l.records
+pub base_plan : (list : ℕ) (l : Trees) (t : Forest Field) (n : ℕ) (plan plan' : PlanRows) → sized l.records l.pool ≡ true → decode list l.records l.pool ≡ ok t → n ≡ slots l.records
     → Roomy plan → TakenIn l.records n plan plan' → Based l t plan' n
 unfolding decode fields name_sum
 base_plan list l t n plan plan' z e en room h =

@@ -4,6 +4,7 @@ use Rattle.paper.specs.declared.Kind.{Kind}
 use Rattle.record.specs.Trees.{Trees}
 use Rattle.plan.specs.Plan.{source_field, Sits}
 use Rattle.plan.specs.Table.{sources}
+use Rattle.plan.specs.declared.PlanRows.{PlanRows}
 
 -- The name of the planned record at a place, and its kind.
 unfoldable pub name_in : Trees → List ℕ → ℕ → List ℕ
@@ -18,11 +19,11 @@ pub record Sources (l : Trees) (xs : List ℕ) (m : ℕ) : Type 0 where
   pub sits : (k : ℕ) → k < m → Sits l (get_or xs k 0)
 
 -- The same, said of a plan's table.
-abbrev pub names_in : Trees → (plan : List (List ℕ)) → ℕ → List ℕ
+abbrev pub names_in : Trees → (plan : PlanRows) → ℕ → List ℕ
 names_in l plan = name_in l (sources plan)
 
-abbrev pub kinds_in : Trees → (plan : List (List ℕ)) → ℕ → Kind
+abbrev pub kinds_in : Trees → (plan : PlanRows) → ℕ → Kind
 kinds_in l plan = kind_in l (sources plan)
 
-abbrev pub SourcesIn : Trees → (plan : List (List ℕ)) (m : ℕ) → Type 0
+abbrev pub SourcesIn : Trees → (plan : PlanRows) (m : ℕ) → Type 0
 SourcesIn l plan m = Sources l (sources plan) m

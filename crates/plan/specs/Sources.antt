@@ -5,7 +5,8 @@ use Rattle.paper.specs.declared.Kind.{Kind}
 use Rattle.paper.specs.Sound.{name_bytes}
 use Rattle.paper.specs.Bytes.{rec_at, kind_at}
 use Rattle.paper.specs.Lists.{edit_at}
-use Rattle.record.specs.Trees.{lent_trees, trees_in, slice_at}
+use Rattle.record.specs.declared.Trees.{Trees as LentTrees}
+use Rattle.record.specs.Trees.{lent_trees, trees_in}
 use Rattle.plan.specs.Plan.{Source, plan_fields, source_field, by_source, edited_slot, mark_of, low_part, renaming, widening, marked_flags, marked_code}
 use Rattle.plan.specs.Draft.{Draft}
 
@@ -28,9 +29,9 @@ unfoldable pub source_code : (base added edits : List ℕ) → ℕ → ℕ
 source_code base added edits x =
     by_source x (rec_at base x).code (rec_at added (x - 1024)).code (marked_code base edits (mark_of x) (edited_slot x))
 
--- The pool in which a source's name lies, by its number in `Trees`, and where there.
-abbrev pub pool_of : ℕ → ℕ
-pool_of x = by_source x 1 3 (cond (ltb (low_part (mark_of x)) 2) 1 3)
+-- The pool in which a source's name lies, and where there.
+abbrev pub pool_of : LentTrees → ℕ → Bor (List ℕ)
+pool_of lent x = by_source x lent.pool lent.request_pool (cond (ltb (low_part (mark_of x)) 2) lent.pool lent.request_pool)
 
 abbrev pub name_from : (base added edits : List ℕ) → ℕ → ℕ
 name_from base added edits x =
@@ -38,10 +39,10 @@ name_from base added edits x =
     (cond (ltb (low_part (mark_of x)) 2) (rec_at base (edited_slot x)).name_at (edit_at edits (renaming (mark_of x))).name_at)
 
 -- A slice is a source's name: the very part of the pool that holds it.
-pub record NameAt (slices : List (Bor (List ℕ))) (x : ℕ) (r : Bor (List ℕ)) : Type 0 where
-  pub name : r.now ≡ (source_field (trees_in slices) x).name
-  pub pool : r.ref_ptr.0 ≡ (slice_at slices (pool_of x)).ref_ptr.0
-  pub offset : r.ref_ptr.1 ≡ (slice_at slices (pool_of x)).ref_ptr.1 + name_from (trees_in slices).records (trees_in slices).added_records (trees_in slices).edits x
+pub record NameAt (lent : LentTrees) (x : ℕ) (r : Bor (List ℕ)) : Type 0 where
+  pub name : r.now ≡ (source_field (trees_in lent) x).name
+  pub pool : r.ref_ptr.0 ≡ (pool_of lent x).ref_ptr.0
+  pub offset : r.ref_ptr.1 ≡ (pool_of lent x).ref_ptr.1 + name_from (trees_in lent).records (trees_in lent).added_records (trees_in lent).edits x
 
 -- A source stands in its list, and the edits that rename and widen it in theirs.
 pub record In (base added edits : List ℕ) (x : ℕ) : Type 0 where

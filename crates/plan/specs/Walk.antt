@@ -5,6 +5,7 @@ use Rattle.paper.specs.Forest.{Forest}
 use Rattle.paper.specs.Layout.{Part, nothing, before}
 use Rattle.plan.specs.Plan.{kids_in}
 use Rattle.plan.specs.Table.{members}
+use Rattle.plan.specs.declared.PlanRows.{PlanRows}
 
 unfoldable pub walk_with : (ℕ → ℕ) → (n : ℕ) → (ℕ → ℕ → Part) → (c k : ℕ) → Part
 walk_with kids n inner zero k = nothing k
@@ -20,5 +21,5 @@ abbrev pub trees_of : (ℕ → ℕ) → ℕ → Forest ℕ
 trees_of kids n = (walk kids n 16 n 0).trees
 
 -- The trees of a row, as far as there are levels and records.
-abbrev pub walk_in : (plan : List (List ℕ)) (m levels count slot : ℕ) → Part
+abbrev pub walk_in : (plan : PlanRows) (m levels count slot : ℕ) → Part
 walk_in plan m = walk (kids_in (members plan)) m

@@ -9,7 +9,7 @@ ghost use Rattle.plan.specs.Plan.{edited_slot, mark_of, low_part, marked_flags, 
 ghost use Rattle.plan.specs.Sources.{source_kind, marked_len, source_len, source_flags, source_code};
 ghost use Rattle.plan.specs.Sources.{NameAt, In, Summed};
 ghost use Rattle.plan.specs.Named.{names_in, SourcesIn};
-ghost use Rattle.plan.specs.Table.{sources, InsideIn, planned_at, CopiedIn, TakenIn};
+ghost use Rattle.plan.specs.Table.{sources, InsideIn, Roomy, planned_at, CopiedIn, TakenIn};
 
 use paper::{Kind, is_required};
 use record::{Trees, code_at, flags_at, id_bits_at, kids_at, kind_at, name_at, name_len_at};
@@ -19,17 +19,29 @@ use record_entries::{new_code_at, new_name_at, new_name_len};
 // the base, one from 1,024 to 2,047 a slot of the additions tree, one from 2,048 on a slot of the base as edits leave it:
 // 2,048 + slot + 1,024 * mark. The mark is 1 if the column is relaxed, 2 * (k + 1) more if edit k renames it, and 256 * (k + 1)
 // more if edit k widens it.
-pub type PlanRows = [[u32; 1024]; 3];
+#[derive(Clone, Copy)]
+pub struct PlanRows {
+    pub sources: [u32; 1024],
+    pub numbers: [u32; 1024],
+    pub members: [u32; 1024],
+}
 
-pub const SOURCES: usize = 0;
-
-pub const NUMBERS: usize = 1;
-
-pub const MEMBERS: usize = 2;
+impl PlanRows {
+    // Rows of zeros.
+    pub fn empty() -> PlanRows
+        ensures { Roomy result }
+    {
+        PlanRows {
+            sources: [0; 1024],
+            numbers: [0; 1024],
+            members: [0; 1024],
+        }
+    }
+}
 
 // A record planned at a place; the other places stay.
 pub fn put_planned(plan: &mut PlanRows, at: usize, source: u32, id: u32, members: u32)
-    requires { (at < 1024) × (length plan.old ≡ 3) }
+    requires { at < 1024 }
     ensures { plan.new ≡ planned_at plan.old at source id members }
 {
     plan.sources[at] = source;
@@ -40,12 +52,11 @@ pub fn put_planned(plan: &mut PlanRows, at: usize, source: u32, id: u32, members
 // So many records of a list from a slot on, planned as they stand from place `at` on; the rest of the rows stays.
 pub fn copy_records(records: &[u8], slot: usize, count: usize, plan: &mut PlanRows, at: usize)
     requires { ((slot + count) * 24 ≤ length records.now) × (slot + count ≤ 1024)
-        × (at + count ≤ 1024) × (length plan.old ≡ 3) }
+        × (at + count ≤ 1024) }
     ensures { CopiedIn records.now slot count plan.old at
         plan.new }
 {
-    let mut i = 0;
-    while i < count {
+    for i in 0..count {
         let k = slot + i;
         put_planned(
             plan,
@@ -54,13 +65,12 @@ pub fn copy_records(records: &[u8], slot: usize, count: usize, plan: &mut PlanRo
             id_bits_at(records, k),
             kids_at(records, k),
         );
-        i += 1;
     }
 }
 
 // The base as a plan of itself: each place holds its own slot, id and count; the rest of the rows stays.
 pub fn take_base(records: &[u8], n: usize, plan: &mut PlanRows)
-    requires { (n * 24 ≤ length records.now) × (n ≤ 1024) × (length plan.old ≡ 3) }
+    requires { (n * 24 ≤ length records.now) × (n ≤ 1024) }
     ensures { TakenIn records.now n plan.old plan.new }
 {
     copy_records(records, 0, n, plan, 0);
@@ -262,11 +272,9 @@ pub fn names_fit<'a>(trees: &Trees<'a>, plan: &PlanRows, m: usize) -> bool
         (trees_in trees.now).added_records (trees_in trees.now).edits
         (sources plan.now) m result }
 {
-    let mut i = 0;
     let mut sum = 0;
-    while i < m {
+    for i in 0..m {
         sum += planned_name_len(trees, plan.sources[i]);
-        i += 1;
     }
     sum <= 32768
 }
@@ -276,10 +284,5 @@ pub fn put_bytes(out: &mut [u8], at: usize, src: &[u8])
     requires { at + length src.now ≤ length out.old }
     ensures { out.new ≡ sets out.old at src.now }
 {
-    let n = src.len();
-    let mut i = 0;
-    while i < n {
-        out[at + i] = src[i];
-        i += 1;
-    }
+    out[at..at + src.len()].copy_from_slice(src);
 }

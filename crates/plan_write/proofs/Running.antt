@@ -18,6 +18,7 @@ use Rattle.plan.specs.Plan.{source_field, source_in, Sits}
 use Rattle.plan.specs.Table.{sources, numbers}
 use Rattle.plan.proofs.Standing.{name_planned}
 use Rattle.plan_write.specs.Run.{joined, Starts, field_of, names_left, Ran}
+use Rattle.plan.specs.declared.PlanRows.{PlanRows}
 
 -- ---- whether a name joins
 
@@ -63,11 +64,11 @@ parts pool start end n l =
     let e : end + n - start ≡ end - start + n = omega arith in
     rw e (sym (take-add (end - start) n (drop start pool) ∙ rw (drop-drop (end - start) start pool, d)))
 
-pub left_step : (l : Trees) (plan : List (List ℕ)) (m i : ℕ) → i < m → names_left l plan m i ≡ (source_field l (get_or (sources plan) i 0)).name ++ names_left l plan m (i + 1)
+pub left_step : (l : Trees) (plan : PlanRows) (m i : ℕ) → i < m → names_left l plan m i ≡ (source_field l (get_or (sources plan) i 0)).name ++ names_left l plan m (i + 1)
 unfolding encode_names
 left_step l plan m i b = rw (from_step (field_of l plan) i m b, name_planned l (source_in (sources plan) (numbers plan) i))
 
-pub record Running (l : Trees) (plan : List (List ℕ)) (m i start end next : ℕ) : Type 0 where
+pub record Running (l : Trees) (plan : PlanRows) (m i start end next : ℕ) : Type 0 where
   pub since : i ≤ next
   pub within : next ≤ m
   pub ordered : start ≤ end
@@ -88,7 +89,7 @@ module _ (l : Trees) (x : ℕ) (s : Sits l x) (b : x < 1024) where
   unfolding source_field field_at name_of
   base_name = rw (lt-ltb x 1024 b)
 
-module _ (l : Trees) (plan : List (List ℕ)) (m i start : ℕ) (s : Starts l plan m i start) where
+module _ (l : Trees) (plan : PlanRows) (m i start : ℕ) (s : Starts l plan m i start) where
   pub run_starts : Running l plan m i start start i
   run_starts =
       let x = get_or (sources plan) i 0 in

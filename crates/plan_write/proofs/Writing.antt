@@ -21,11 +21,12 @@ use Rattle.plan_write.specs.Written.{planned_row, Over, Written}
 use Rattle.plan_write.specs.Run.{Starts, field_of, names_left, Ran}
 use Rattle.plan_write.proofs.Rows.{row_source}
 use Rattle.plan_write.proofs.Running.{left_step}
+use Rattle.plan.specs.declared.PlanRows.{PlanRows}
 
 pub row_put : (l l' row r : List ℕ) (i : ℕ) → r ≡ row → l' ≡ sets l i r → l' ≡ sets l i row
 row_put l l' row r i e q = q ∙ rw e
 
-module _ (l : Trees) (plan : List (List ℕ)) (m : ℕ) (p : PlanIn l plan m) (i : ℕ) (b : i < m) where
+module _ (l : Trees) (plan : PlanRows) (m : ℕ) (p : PlanIn l plan m) (i : ℕ) (b : i < m) where
   pub place_small : i < 1024
   place_small = let f = p.few in omega arith
 
@@ -33,30 +34,30 @@ module _ (l : Trees) (plan : List (List ℕ)) (m : ℕ) (p : PlanIn l plan m) (i
   source_sits = p.sits i b
 
 -- All names together are within the limit.
-names_small : (l : Trees) (plan : List (List ℕ)) (m : ℕ) → PlanIn l plan m → length (names_left l plan m 0) ≤ 32768
+names_small : (l : Trees) (plan : PlanRows) (m : ℕ) → PlanIn l plan m → length (names_left l plan m 0) ≤ 32768
 names_small l plan m p = let e = fields_names plan m p.shaped l in let b = p.sum in let a = ap (λ (z : List Field). length (encode_names z)) (from_all (field_of l plan) m) in omega arith
 
 -- ---- records
 
-abbrev kids : List (List ℕ) → ℕ → ℕ
+abbrev kids : PlanRows → ℕ → ℕ
 kids plan = kids_in (members plan)
 
-abbrev rows_left : Trees → (plan : List (List ℕ)) (m i at : ℕ) → List ℕ
+abbrev rows_left : Trees → (plan : PlanRows) (m i at : ℕ) → List ℕ
 rows_left l plan m i at = encode_records at (from (field_of l plan) i (m - i)) (from (kids plan) i (m - i))
 
-row_step : (l : Trees) (plan : List (List ℕ)) (m i at : ℕ) → i < m
+row_step : (l : Trees) (plan : PlanRows) (m i at : ℕ) → i < m
     → rows_left l plan m i at ≡ rec_bytes at (field_of l plan i) (kids plan i) ++ rows_left l plan m (i + 1) (at + length (source_field l (get_or (sources plan) i 0)).name)
 unfolding encode_records
 row_step l plan m i at b = rw (from_step (field_of l plan) i m b, from_step (kids plan) i m b, name_planned l (source_in (sources plan) (numbers plan) i))
 
-pub record Rowing (l : Trees) (plan : List (List ℕ)) (m : ℕ) (out₀ : List ℕ) (i at : ℕ) (out : List ℕ) : Type 0 where
+pub record Rowing (l : Trees) (plan : PlanRows) (m : ℕ) (out₀ : List ℕ) (i at : ℕ) (out : List ℕ) : Type 0 where
   pub within : i ≤ m
   pub small : at ≤ 32768
   pub rows : sets out₀ 0 (rows_left l plan m 0 0) ≡ sets out (i * 24) (rows_left l plan m i at)
   pub used : length (names_left l plan m 0) ≡ at + length (names_left l plan m i)
   pub long : length out ≡ length out₀
 
-module _ (l : Trees) (plan : List (List ℕ)) (m : ℕ) (p : PlanIn l plan m) (out₀ : List ℕ) where
+module _ (l : Trees) (plan : PlanRows) (m : ℕ) (p : PlanIn l plan m) (out₀ : List ℕ) where
   pub rows_start : Rowing l plan m out₀ 0 0 out₀
   rows_start = let d : 0 * 24 ≡ 0 = omega arith in record { within = omega arith; small = omega arith; rows = rw d; used = omega arith; long = refl }
 
@@ -102,14 +103,14 @@ pub ruleset rowing = (place_small, source_sits, rows_start, rows_room, rows_go, 
 
 -- ---- names
 
-pub record Naming (l : Trees) (plan : List (List ℕ)) (m : ℕ) (out₀ : List ℕ) (i at : ℕ) (out : List ℕ) : Type 0 where
+pub record Naming (l : Trees) (plan : PlanRows) (m : ℕ) (out₀ : List ℕ) (i at : ℕ) (out : List ℕ) : Type 0 where
   pub within : i ≤ m
   pub small : at ≤ 32768
   pub pool : sets out₀ 0 (names_left l plan m 0) ≡ sets out at (names_left l plan m i)
   pub used : length (names_left l plan m 0) ≡ at + length (names_left l plan m i)
   pub long : length out ≡ length out₀
 
-module _ (l : Trees) (plan : List (List ℕ)) (m : ℕ) (p : PlanIn l plan m) (out₀ : List ℕ) where
+module _ (l : Trees) (plan : PlanRows) (m : ℕ) (p : PlanIn l plan m) (out₀ : List ℕ) where
   pub names_start : Naming l plan m out₀ 0 0 out₀
   names_start = record { within = omega arith; small = omega arith; pool = refl; used = omega arith; long = refl }
 
@@ -156,7 +157,7 @@ module _ (l : Trees) (plan : List (List ℕ)) (m : ℕ) (p : PlanIn l plan m) (o
         let na = ap (λ (z : List Field). length (encode_names z)) (from_all f m) in
         (sym po ∙ rw ef (sets_front (encode_names (from f 0 m)) out₀ (omega arith)), rw ef (omega arith))
 
-module _ (l : Trees) (plan : List (List ℕ)) (m i : ℕ) (p : PlanIn l plan m) (b : i < m) (x : ℕ) (ex : x ≡ get_or (sources plan) i 0) where
+module _ (l : Trees) (plan : PlanRows) (m i : ℕ) (p : PlanIn l plan m) (b : i < m) (x : ℕ) (ex : x ≡ get_or (sources plan) i 0) where
   pub sits_there : Sits l x
   sits_there = rw ex (p.sits i b)
 
@@ -168,6 +169,6 @@ module _ (l : Trees) (plan : List (List ℕ)) (m i : ℕ) (p : PlanIn l plan m) 
 
 pub ruleset naming = (place_small, sits_there, names_start, name_room, name_goes, run_room, run_put, names_end, first_in, run_begins)
 
-pub both : (l : Trees) (plan : List (List ℕ)) (m used : ℕ) (out names out' names' : List ℕ) → Over (record_bytes (fields_in l plan m)) out out' → Over (pool_bytes (fields_in l plan m)) names names'
+pub both : (l : Trees) (plan : PlanRows) (m used : ℕ) (out names out' names' : List ℕ) → Over (record_bytes (fields_in l plan m)) out out' → Over (pool_bytes (fields_in l plan m)) names names'
     → used ≡ length (pool_bytes (fields_in l plan m)) → Written (fields_in l plan m) out names used out' names'
 both l plan m used out names out' names' r q u = record { rows = r; pool = q; bytes = u }

@@ -8,6 +8,7 @@ use Rattle.record.specs.Trees.{Trees}
 use Rattle.plan.specs.Plan.{by_source, edited_slot, mark_of, marked_flags, marked_code}
 use Rattle.plan.specs.Sources.{marked_len}
 use Rattle.plan.specs.Table.{sources, numbers, members}
+use Rattle.plan.specs.declared.PlanRows.{PlanRows}
 
 -- The record at a slot of a list, with another id, count, name offset, name length, flags and type code.
 unfoldable pub row_of : List ℕ → (k id kids at len flags code : ℕ) → List ℕ
@@ -26,7 +27,7 @@ source_row base added edits x id kids at =
     (marked_flags base (mark_of x) (edited_slot x)) (marked_code base edits (mark_of x) (edited_slot x)))
 
 -- The bytes that the record at a place becomes, its name at offset `at` of the answer.
-abbrev pub planned_row : Trees → (plan : List (List ℕ)) (i at : ℕ) → List ℕ
+abbrev pub planned_row : Trees → (plan : PlanRows) (i at : ℕ) → List ℕ
 planned_row l plan i at =
     source_row l.records l.added_records l.edits (get_or (sources plan) i 0) (get_or (numbers plan) i 0) (get_or (members plan) i 0) at
 

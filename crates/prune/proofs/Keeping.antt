@@ -24,6 +24,7 @@ use Rattle.prune_columns.specs.declared.Step.{Step}
 use Rattle.prune_columns.specs.Split.{projected}
 use Rattle.prune_columns.specs.Projected.{marked, Kept}
 use Rattle.prune.proofs.Parts.{Below, laid_below, Within, projected_within}
+use Rattle.plan.specs.declared.PlanRows.{PlanRows}
 
 mapped_below : {B : Type 0} (f g : ℕ → B) (n : ℕ) (t : Forest ℕ) → Below n t → ((j : ℕ) → j < n → f j ≡ g j) → mapped f t ≡ mapped g t
 unfolding mapped
@@ -40,11 +41,11 @@ abbrev pub kept_trees : (s marks : List ℕ) → Bool → ℕ → Forest ℕ
 kept_trees s marks full c = projected (marked marks) (kind_at s) full Member (row_of s 16 c 0).trees
 
 -- What was planned is a plan of them.
-pub record Keeps (s p marks : List ℕ) (full : Bool) (c : ℕ) (plan : List (List ℕ)) (m : ℕ) : Type 0 where
+pub record Keeps (s p marks : List ℕ) (full : Bool) (c : ℕ) (plan : PlanRows) (m : ℕ) : Type 0 where
   pub planned : PlanIn (alone s p) plan m
   pub tree : fields_in (alone s p) plan m ≡ fields p s (kept_trees s marks full c)
 
-pub keeps : (s p marks : List ℕ) (full : Bool) (c : ℕ) (plan plan' : List (List ℕ)) (a : Step) → Opened s p c → Roomy plan → Kept s marks full Member 16 c 0 plan 0 a plan' → Keeps s p marks full c plan' a.at
+pub keeps : (s p marks : List ℕ) (full : Bool) (c : ℕ) (plan plan' : PlanRows) (a : Step) → Opened s p c → Roomy plan → Kept s marks full Member 16 c 0 plan 0 a plan' → Keeps s p marks full c plan' a.at
 unfolding fields
 keeps s p marks full c plan plan' a o room k =
     let l = alone s p in

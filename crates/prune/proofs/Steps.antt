@@ -53,6 +53,7 @@ use Rattle.prune_marks.specs.Marks.{Unmarked, Marks}
 use Rattle.prune.specs.Steps.{opened, Tested, Decides}
 use Rattle.prune.proofs.Bridge.{unless, pruned_fields}
 use Rattle.prune.proofs.Keeping.{kept_trees, Keeps, keeps}
+use Rattle.plan.specs.declared.PlanRows.{PlanRows}
 
 -- ---- open: 1 to 6
 
@@ -86,7 +87,7 @@ module _ (next : ℕ) where
   fine_20 none w j e d = refl
   fine_20 (some k) w j e d = let z : ◌≡◌ {A = ℕ} 0 1 = cc in absurd (omega arith)
 
-module _ (s : List ℕ) (c : ℕ) (plan index : List (List ℕ)) (h : Tested s c plan index) (sel marks : List ℕ) (m : Marks sel (numbers plan) (slots s) marks) (full : Bool) (w : Walked) (e : Checked s marks full 16 c 0 Member w) where
+module _ (s : List ℕ) (c : ℕ) (plan : PlanRows) (index : List (List ℕ)) (h : Tested s c plan index) (sel marks : List ℕ) (m : Marks sel (numbers plan) (slots s) marks) (full : Bool) (w : Walked) (e : Checked s marks full 16 c 0 Member w) where
   decides : (r : Check) → r ≡ tested 20 0 (first_direct (marked marks) (kind_at s) full Member 0 (row_of s 16 c 0).trees) → Decides s sel full c r marks
   decides r d = record { chosen = λ k l. m.exactly k l ∙ rw (h.own_ids k l); answer = d }
 
@@ -110,7 +111,7 @@ get_or_from g k zero j l = absurd (omega arith)
 get_or_from g k (suc m) zero l = let e : k + 0 ≡ k = omega arith in rw e
 get_or_from g k (suc m) (suc j) l = let e : k + suc j ≡ suc k + j = omega arith in rw e (get_or_from g (suc k) m j (omega arith))
 
-taken_id : (s : List ℕ) (n : ℕ) (old plan : List (List ℕ)) (k : ℕ) → TakenIn s n old plan → Roomy plan → n ≤ 1024 → k < n → get_or (numbers plan) k 0 ≡ id_bits s k
+taken_id : (s : List ℕ) (n : ℕ) (old plan : PlanRows) (k : ℕ) → TakenIn s n old plan → Roomy plan → n ≤ 1024 → k < n → get_or (numbers plan) k 0 ≡ id_bits s k
 taken_id s n old plan k h room few l =
     let ids = from (id_bits s) 0 n in
     let m = length_from (id_bits s) 0 n in
@@ -175,7 +176,7 @@ module _ {s p sel : List ℕ} {lr ln c : ℕ} (h : Passed s p sel lr ln c) where
   pub plan_row : Row s 16 c 0 0
   plan_row = record { there = h.tree.there; room = omega arith }
 
-  module _ {r : Check} {old plan index : List (List ℕ)} (b : BaseIndexed (alone s p) (slots s) [] r old plan index) where
+  module _ {r : Check} {old plan : PlanRows} {index : List (List ℕ)} (b : BaseIndexed (alone s p) (slots s) [] r old plan index) where
     base_is : fields_in (alone s p) plan (slots s) ≡ base s p c
     base_is = ok_is (sym b.tree ∙ h.tree.tree)
 
@@ -187,7 +188,7 @@ module _ {s p sel : List ℕ} {lr ln c : ℕ} (h : Passed s p sel lr ln c) where
     unfolding after_6 prune ◌>>=◌
     stop_8 full out names y f = refuses _ y (for_records out ∷ for_names names ∷ []) (h.whole full ∙ rw (checked_refused (sound 0 (base s p c) []) r y sound_is f))
 
-    module _ (marks : List ℕ) (full : Bool) {a : Step} {plan' : List (List ℕ)} (k : Kept s marks full Member 16 c 0 plan 0 a plan') where
+    module _ (marks : List ℕ) (full : Bool) {a : Step} {plan' : PlanRows} (k : Kept s marks full Member 16 c 0 plan 0 a plan') where
       kept : Keeps s p marks full c plan' a.at
       kept = keeps s p marks full c plan plan' a h.tree b.roomy k
 
@@ -233,7 +234,7 @@ module _ {s p sel : List ℕ} {lr ln c : ℕ} (h : Passed s p sel lr ln c) where
         pub stop_20 : (out names : List ℕ) (y : Refusal) → x ≡ Err y → Answering (prune_entry s p sel full lr ln) out names (Err y) out names
         stop_20 out names y i = refuses _ y (for_records out ∷ for_names names ∷ []) (whole_is ∙ chain_stops 20 0 _ x _ y g.answer i)
 
-        pub all_written : {a : Step} {plan' : List (List ℕ)} {m : ℕ} {out names out' names' : List ℕ} → x ≡ (Ok tt) → Kept s marks full Member 16 c 0 plan 0 a plan' → Written (fields_in (alone s p) plan' a.at) out names m out' names'
+        pub all_written : {a : Step} {plan' : PlanRows} {m : ℕ} {out names out' names' : List ℕ} → x ≡ (Ok tt) → Kept s marks full Member 16 c 0 plan 0 a plan' → Written (fields_in (alone s p) plan' a.at) out names m out' names'
             → Answering (prune_entry s p sel full lr ln) out names (Ok (record { records = a.at; names = m; last_id = 0; visited = 0 })) out' names'
         all_written {a} {plan'} {m} {out} {names} {out'} {names'} i k v =
             let q = kept marks full k in

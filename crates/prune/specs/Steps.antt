@@ -17,6 +17,7 @@ use Rattle.index_ids.specs.Path.{IdsChained}
 use Rattle.prune_columns.specs.Split.{first_direct}
 use Rattle.prune_columns.specs.Projected.{marked}
 use Rattle.prune_marks.specs.Marks.{DistinctIds}
+use Rattle.plan.specs.declared.PlanRows.{PlanRows}
 
 -- open: the part of the entry up to 6.
 unfoldable pub opened : (records pool selected : List ℕ) (room_records room_names : ℕ) → Answer (Forest Field)
@@ -26,7 +27,7 @@ opened records pool selected room_records room_names = do
   decode 0 records pool
 
 -- test: the roots stand there, and the base's own ids stand in its plan, all distinct, with their index.
-pub record Tested (records : List ℕ) (count : ℕ) (plan index : List (List ℕ)) : Type 0 where
+pub record Tested (records : List ℕ) (count : ℕ) (plan : PlanRows) (index : List (List ℕ)) : Type 0 where
   pub there : There records 16 count 0
   pub own_ids : (k : ℕ) → k < slots records → get_or (numbers plan) k 0 ≡ (rec_at records k).id
   pub distinct : DistinctIds (numbers plan) (slots records)

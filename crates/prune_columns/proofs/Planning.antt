@@ -17,9 +17,10 @@ use Rattle.tree_walk.specs.There.{row_of, There}
 use Rattle.tree_walk.proofs.Standing.{there_row, there_full, there_past}
 use Rattle.prune_columns.specs.declared.Step.{Step}
 use Rattle.prune_columns.specs.Projected.{Planned, Spot, KeptWhole, Span, Copied}
+use Rattle.plan.specs.declared.PlanRows.{PlanRows}
 
 -- Trees that stand in a row, copied.
-pub copied_planned : (s : List ℕ) (p : Part) (c k e : ℕ) (plan : List (List ℕ)) (i : ℕ) (r : Step) (plan' : List (List ℕ)) → i ≤ k → Full (kids_at s) (slots s) c k p → e ≡ p.next → Copied s k e c plan i r plan' → Planned s p.trees p.next plan i r plan'
+pub copied_planned : (s : List ℕ) (p : Part) (c k e : ℕ) (plan : PlanRows) (i : ℕ) (r : Step) (plan' : PlanRows) → i ≤ k → Full (kids_at s) (slots s) c k p → e ≡ p.next → Copied s k e c plan i r plan' → Planned s p.trees p.next plan i r plan'
 copied_planned s p c k e plan i r plan' l f q h =
     let n = f.next in
     let d : e - k ≡ size p.trees = omega arith in
@@ -72,7 +73,7 @@ module _ (s : List ℕ) (lv k i : ℕ) (h : Spot s lv k i) where
       let r = h.room in
       record { ordered = omega arith; bytes = omega arith; few = omega arith; room = r }
 
-  pub whole_planned : (m past : ℕ) (plan : List (List ℕ)) (r : Step) (plan' : List (List ℕ)) → m ≡ kids_at s k → past ≡ (row_of s lv m (k + 1)).next → Copied s k past 1 plan i r plan' → KeptWhole s lv k plan i r plan'
+  pub whole_planned : (m past : ℕ) (plan : PlanRows) (r : Step) (plan' : PlanRows) → m ≡ kids_at s k → past ≡ (row_of s lv m (k + 1)).next → Copied s k past 1 plan i r plan' → KeptWhole s lv k plan i r plan'
   unfolding alone
   whole_planned m past plan r plan' em ep c = copied_planned s alone 1 k past plan i r plan' h.room alone_full (ep ∙ rw em) c
 

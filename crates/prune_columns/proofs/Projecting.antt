@@ -28,6 +28,7 @@ use Rattle.plan.specs.Sources.{own_source}
 use Rattle.plan.proofs.Laying.{laid_none, laid_then, laid_last}
 use Rattle.prune_columns.proofs.Tables.{moved, laid_before}
 use Rattle.prune_columns.proofs.Planning.{copied_planned}
+use Rattle.plan.specs.declared.PlanRows.{PlanRows}
 
 -- ---- forests
 
@@ -80,11 +81,11 @@ module _ (picks : ℕ → Bool) (kind : ℕ → Kind) (full : Bool) where
 
 -- ---- plans
 
-planned_none : (s : List ℕ) (k i : ℕ) (plan : List (List ℕ)) → i ≤ k → length plan ≡ 3 → Planned s empty k plan i (record { next = k; at = i; count = 0 }) plan
+planned_none : (s : List ℕ) (k i : ℕ) (plan : PlanRows) → i ≤ k → length plan ≡ 3 → Planned s empty k plan i (record { next = k; at = i; count = 0 }) plan
 unfolding mapped size siblings
 planned_none s k i plan l n = record { next = refl; at = omega arith; count = refl; room = l; laid = laid_none i plan n }
 
-planned_then : (s : List ℕ) (t u : Forest ℕ) (past past' i : ℕ) (plan plan₁ plan₂ : List (List ℕ)) (a r : Step) → Planned s t past plan i a plan₁ → Planned s u past' plan₁ a.at r plan₂
+planned_then : (s : List ℕ) (t u : Forest ℕ) (past past' i : ℕ) (plan plan₁ plan₂ : PlanRows) (a r : Step) → Planned s t past plan i a plan₁ → Planned s u past' plan₁ a.at r plan₂
     → Planned s (t then u) past' plan i (record { next = r.next; at = r.at; count = a.count + r.count }) plan₂
 planned_then s t u past past' i plan plan₁ plan₂ a r h g =
     let e = size_then t u in
@@ -103,7 +104,7 @@ planned_then s t u past past' i plan plan₁ plan₂ a r h g =
     }
 
 -- A record put before what its type yielded.
-planned_node : (s : List ℕ) (k : ℕ) (y : Forest ℕ) (past i : ℕ) (plan plan₁ plan₂ : List (List ℕ)) (a r : Step) → Planned s y past plan (i + 1) a plan₁ → Stored s k a plan₁ i r plan₂ → Planned s (node k y empty) past plan i r plan₂
+planned_node : (s : List ℕ) (k : ℕ) (y : Forest ℕ) (past i : ℕ) (plan plan₁ plan₂ : PlanRows) (a r : Step) → Planned s y past plan (i + 1) a plan₁ → Stored s k a plan₁ i r plan₂ → Planned s (node k y empty) past plan i r plan₂
 unfolding mapped size siblings
 planned_node s k y past i plan plan₁ plan₂ a r h g =
     let ha = h.at in
@@ -117,7 +118,7 @@ planned_node s k y past i plan plan₁ plan₂ a r h g =
     })
 
 -- Nothing was planned.
-planned_nothing : (s : List ℕ) (y : Forest ℕ) (past i j : ℕ) (plan plan₁ : List (List ℕ)) (a : Step) → Planned s y past plan j a plan₁ → y ≡ empty → i ≤ a.next → Planned s empty past plan i (record { next = a.next; at = i; count = 0 }) plan₁
+planned_nothing : (s : List ℕ) (y : Forest ℕ) (past i j : ℕ) (plan plan₁ : PlanRows) (a : Step) → Planned s y past plan j a plan₁ → y ≡ empty → i ≤ a.next → Planned s empty past plan i (record { next = a.next; at = i; count = 0 }) plan₁
 unfolding mapped size siblings
 planned_nothing s y past i j plan plan₁ a h e l =
     let g = rw e at h in
@@ -129,7 +130,7 @@ module _ (s marks : List ℕ) (full : Bool) (lv k i : ℕ) (h : Spot s lv k i) w
   pub inside_asks : Behind s lv k (i + 1)
   inside_asks = let r = h.room in record { record_in = h.record_in; inside = h.inside; room = omega arith }
 
-  pub selected_kept : (plan plan₁ plan₂ : List (List ℕ)) (a r : Step) → KeptInside s marks full lv k plan (i + 1) a plan₁ → Stored s k a plan₁ i r plan₂ → KeptYield s marks full lv k plan i r plan₂
+  pub selected_kept : (plan plan₁ plan₂ : PlanRows) (a r : Step) → KeptInside s marks full lv k plan (i + 1) a plan₁ → Stored s k a plan₁ i r plan₂ → KeptYield s marks full lv k plan i r plan₂
   selected_kept plan plan₁ plan₂ a r p q = planned_node s k _ _ i plan plan₁ plan₂ a r p q
 
   module _ (x : Bool) (ex : x ≡ marked marks k) where
@@ -142,7 +143,7 @@ module _ (s marks : List ℕ) (full : Bool) (lv k i : ℕ) (h : Spot s lv k i) w
     held_one b o eb eo = rw (one_node (marked marks) (kind_at s) full k inner, eb, eo)
 
     module _ (kd : Kind) (ek : kd ≡ kind_at s k) (q : Bool) (eq : q ≡ is_struct kd) (e : x ≡ true) where
-      pub field_whole : (plan plan₁ : List (List ℕ)) (r : Step) → (full || not q) ≡ true → KeptWhole s lv k plan i r plan₁ → KeptOne s marks full lv k plan i r plan₁
+      pub field_whole : (plan plan₁ : PlanRows) (r : Step) → (full || not q) ≡ true → KeptWhole s lv k plan i r plan₁ → KeptOne s marks full lv k plan i r plan₁
       unfolding inner
       field_whole plan plan₁ r t p = rw (held_one true (some inner) (sym ex ∙ e) (all full q (sym (eq ∙ ap is_struct ek)) t)) p
         where
@@ -151,7 +152,7 @@ module _ (s marks : List ℕ) (full : Bool) (lv k i : ℕ) (h : Spot s lv k i) w
           all false true d t = absurd (true≢false (sym t))
           all false false d t = rw d
 
-      pub field_struct : (plan plan₁ : List (List ℕ)) (r : Step) → (full || not q) ≡ false → KeptYield s marks full lv k plan i r plan₁ → KeptOne s marks full lv k plan i r plan₁
+      pub field_struct : (plan plan₁ : PlanRows) (r : Step) → (full || not q) ≡ false → KeptYield s marks full lv k plan i r plan₁ → KeptOne s marks full lv k plan i r plan₁
       field_struct plan plan₁ r t p = rw (held_one true (some (yield_at s marks full lv k)) (sym ex ∙ e) (only full q (sym (eq ∙ ap is_struct ek)) t)) p
         where
           only : (full q : Bool) → is_struct (kind_at s k) ≡ q → (full || not q) ≡ false → held full true (kind_at s k) inner (yield_at s marks full lv k) ≡ some (yield_at s marks full lv k)
@@ -159,7 +160,7 @@ module _ (s marks : List ℕ) (full : Bool) (lv k i : ℕ) (h : Spot s lv k i) w
           only false true d t = rw d
           only false false d t = absurd (true≢false t)
 
-    module _ (e : x ≡ false) (plan plan₁ : List (List ℕ)) (a : Step) (p : KeptInside s marks full lv k plan (i + 1) a plan₁) where
+    module _ (e : x ≡ false) (plan plan₁ : PlanRows) (a : Step) (p : KeptInside s marks full lv k plan (i + 1) a plan₁) where
       pub field_nothing : a.count ≡ 0 → KeptOne s marks full lv k plan i (record { next = a.next; at = i; count = 0 }) plan₁
       field_nothing z =
           let y = no_siblings (yield_at s marks full lv k) (sym p.count ∙ z) in
@@ -168,7 +169,7 @@ module _ (s marks : List ℕ) (full : Bool) (lv k i : ℕ) (h : Spot s lv k i) w
           let m = h.room in
           rw (held_one false none (sym ex ∙ e) (ap yielding y)) (planned_nothing s _ _ i (i + 1) plan plan₁ a p y (omega arith))
 
-      pub field_yields : (plan₂ : List (List ℕ)) (r : Step) → (a.count ≡ 0 → ⊥) → Stored s k a plan₁ i r plan₂ → KeptOne s marks full lv k plan i r plan₂
+      pub field_yields : (plan₂ : PlanRows) (r : Step) → (a.count ≡ 0 → ⊥) → Stored s k a plan₁ i r plan₂ → KeptOne s marks full lv k plan i r plan₂
       unfolding siblings
       field_yields plan₂ r z q =
           rw (held_one false (some (yield_at s marks full lv k)) (sym ex ∙ e) (some_yield (yield_at s marks full lv k) (λ w. z (p.count ∙ w)))) (planned_node s k _ _ i plan plan₁ plan₂ a r p q)
@@ -185,18 +186,18 @@ pub row_spot : (s : List ℕ) (lv c k i : ℕ) → Row s lv c k i → 0 < c → 
 row_spot s lv c k i h l = record { record_in = record_left s lv c k h.there l; inside = inner_there s lv c k h.there l (kids_at s k) refl; room = h.room }
 
 -- Whatever plans the siblings that are left plans them all.
-pub record Going (s marks : List ℕ) (full : Bool) (lv c k : ℕ) (plan : List (List ℕ)) (i left next place kept : ℕ) (plan' : List (List ℕ)) : Type 0 where
+pub record Going (s marks : List ℕ) (full : Bool) (lv c k : ℕ) (plan : PlanRows) (i left next place kept : ℕ) (plan' : PlanRows) : Type 0 where
   pub row : Row s lv left next place
   pub few : kept ≤ place
   pub rows : length plan' ≡ 3
-  pub go : (r : Step) (plan₂ : List (List ℕ)) → Kept s marks full Member lv left next plan' place r plan₂ → Kept s marks full Member lv c k plan i (record { next = r.next; at = r.at; count = kept + r.count }) plan₂
+  pub go : (r : Step) (plan₂ : PlanRows) → Kept s marks full Member lv left next plan' place r plan₂ → Kept s marks full Member lv c k plan i (record { next = r.next; at = r.at; count = kept + r.count }) plan₂
 
-module _ (s marks : List ℕ) (full : Bool) (lv c k : ℕ) (plan : List (List ℕ)) (i : ℕ) where
+module _ (s marks : List ℕ) (full : Bool) (lv c k : ℕ) (plan : PlanRows) (i : ℕ) where
   pub going_starts : Row s lv c k i → length plan ≡ 3 → Going s marks full lv c k plan i c k i 0 plan
   going_starts h n =
       record { row = h; few = omega arith; rows = n; go = λ r plan₂ p. let a = p.count in record { next = p.next; at = p.at; count = omega arith; room = p.room; laid = p.laid } }
 
-  module _ (left next place kept : ℕ) (plan' : List (List ℕ)) (h : Going s marks full lv c k plan i left next place kept plan') where
+  module _ (left next place kept : ℕ) (plan' : PlanRows) (h : Going s marks full lv c k plan i left next place kept plan') where
     pub going_done : left ≤ 0 → Kept s marks full Member lv c k plan i (record { next = next; at = place; count = kept }) plan'
     going_done l =
         let e : Kept s marks full Member lv left next plan' place (record { next = next; at = place; count = 0 }) plan'
@@ -216,7 +217,7 @@ module _ (s marks : List ℕ) (full : Bool) (lv c k : ℕ) (plan : List (List �
       pub going_asks : Spot s (lv - 1) next place
       going_asks = row_spot s lv left next place h.row l
 
-      module _ (plan₁ : List (List ℕ)) (a : Step) (p : KeptOne s marks full (lv - 1) next plan' place a plan₁) where
+      module _ (plan₁ : PlanRows) (a : Step) (p : KeptOne s marks full (lv - 1) next plan' place a plan₁) where
         -- the first sibling, then the rest
         pub going_fits : kept + a.count < 4294967296
         going_fits =
@@ -260,7 +261,7 @@ module _ (s marks : List ℕ) (full : Bool) (lv k i : ℕ) (h : Behind s lv k i)
   pub type_row : Row s lv m (k + 1) i
   type_row = record { there = rw em h.inside; room = h.room }
 
-  pub type_none : (plan : List (List ℕ)) → length plan ≡ 3 → m ≡ 0 → KeptInside s marks full lv k plan i (record { next = k + 1; at = i; count = 0 }) plan
+  pub type_none : (plan : PlanRows) → length plan ≡ 3 → m ≡ 0 → KeptInside s marks full lv k plan i (record { next = k + 1; at = i; count = 0 }) plan
   type_none plan n e = rw (none_there s lv (kids_at s k) (k + 1) (omega arith), none_kept (marked marks) (kind_at s) full (first (kind_at s k))) (planned_none s (k + 1) i plan h.room n)
 
   pub type_some : (m ≡ 0 → ⊥) → 0 < m
@@ -270,7 +271,7 @@ module _ (s marks : List ℕ) (full : Bool) (lv k i : ℕ) (h : Behind s lv k i)
       go zero d = absurd (d refl)
       go (suc z) d = omega arith
 
-  module _ (kd : Kind) (ek : kd ≡ kind_at s k) (q : Bool) (eq : q ≡ is_map kd) (plan plan₁ : List (List ℕ)) (a : Step) where
+  module _ (kd : Kind) (ek : kd ≡ kind_at s k) (q : Bool) (eq : q ≡ is_map kd) (plan plan₁ : PlanRows) (a : Step) where
     kept_as : (r : Role) → first kd ≡ r → Kept s marks full r lv m (k + 1) plan i a plan₁ → KeptInside s marks full lv k plan i a plan₁
     kept_as r er p = rw (← ek, er, ← em) p
 
@@ -304,7 +305,7 @@ module _ (s marks : List ℕ) (full : Bool) (lv k i : ℕ) (h : Behind s lv k i)
 
 pub ruleset typing = (type_row, type_none, type_some, type_map, type_list, type_fields)
 
-pub list_kept : (s marks : List ℕ) (full : Bool) (lv c k : ℕ) (plan : List (List ℕ)) (i : ℕ) (plan₁ : List (List ℕ)) (a : Step) → Kept s marks full Member lv c k plan i a plan₁ → Kept s marks full Element lv c k plan i a plan₁
+pub list_kept : (s marks : List ℕ) (full : Bool) (lv c k : ℕ) (plan : PlanRows) (i : ℕ) (plan₁ : PlanRows) (a : Step) → Kept s marks full Member lv c k plan i a plan₁ → Kept s marks full Element lv c k plan i a plan₁
 list_kept s marks full lv c k plan i plan₁ a p = rw (as_element (marked marks) (kind_at s) full (row_of s lv c k).trees) p
 
 -- ---- a map
@@ -322,7 +323,7 @@ module _ (s marks : List ℕ) (full : Bool) (lv c k i : ℕ) (h : Row s lv c k i
   pub map_row : Row s lv (c - 1) v (i + (v - k))
   map_row = let a = key_past in let r = h.room in record { there = value_there; room = omega arith }
 
-  module _ (plan plan₁ : List (List ℕ)) (a : Step) (p : Kept s marks full Member lv (c - 1) v plan (i + (v - k)) a plan₁) where
+  module _ (plan plan₁ : PlanRows) (a : Step) (p : Kept s marks full Member lv (c - 1) v plan (i + (v - k)) a plan₁) where
     whole_next : a.next ≡ (row_of s lv c k).next
     whole_next = p.next ∙ rest_next s lv c k h.there l m em v ev
 
@@ -358,7 +359,7 @@ module _ (s marks : List ℕ) (full : Bool) (lv c k i : ℕ) (h : Row s lv c k i
         record { ordered = e; bytes = omega arith; few = omega arith; room = h.room }
 
     -- the value keeps something
-    pub map_value : (r : Step) (plan₂ : List (List ℕ)) → 0 < a.count → KeptWhole s (lv - 1) k plan₁ i r plan₂ → Kept s marks full Key lv c k plan i (record { next = a.next; at = a.at; count = a.count + 1 }) plan₂
+    pub map_value : (r : Step) (plan₂ : PlanRows) → 0 < a.count → KeptWhole s (lv - 1) k plan₁ i r plan₂ → Kept s marks full Key lv c k plan i (record { next = a.next; at = a.at; count = a.count + 1 }) plan₂
     unfolding size siblings
     map_value r plan₂ z q =
         let T = tree_at s (lv - 1) k in
@@ -389,7 +390,7 @@ module _ (s marks : List ℕ) (full : Bool) (lv c k i : ℕ) (h : Row s lv c k i
       untouched = moved i (i + (v - k)) plan plan₁ (rw no_values at p.laid)
 
       -- a chosen key keeps all
-      pub map_whole : (r : Step) (plan₂ : List (List ℕ)) → x ≡ true → Copied s k a.next c plan₁ i r plan₂ → Kept s marks full Key lv c k plan i r plan₂
+      pub map_whole : (r : Step) (plan₂ : PlanRows) → x ≡ true → Copied s k a.next c plan₁ i r plan₂ → Kept s marks full Key lv c k plan i r plan₂
       unfolding size ◌then◌
       map_whole r plan₂ e q =
           let e₁ : projected (marked marks) (kind_at s) full Key (row_of s lv c k).trees ≡ (row_of s lv c k).trees = kept_key ∙ rw (no_values, ← ex, e, shape) in

@@ -10,9 +10,10 @@ use Rattle.laws.proofs.Preorder.{length_preorder, length_counts, preorder_then, 
 use Rattle.laws.proofs.Runs.{sets_before, map_append}
 use Rattle.plan.specs.Plan.{Source, slot_of, bits_of}
 use Rattle.plan.specs.Table.{sources, numbers, members, LaidIn}
+use Rattle.plan.specs.declared.PlanRows.{PlanRows}
 
 -- Nothing is laid wherever that is.
-pub moved : (i j : ℕ) (plan plan₁ : List (List ℕ)) → LaidIn empty j plan plan₁ → LaidIn empty i plan plan₁
+pub moved : (i j : ℕ) (plan plan₁ : PlanRows) → LaidIn empty j plan plan₁ → LaidIn empty i plan plan₁
 unfolding preorder counts
 moved i j plan plan₁ h = record { sources_set = h.sources_set; numbers_set = h.numbers_set; members_set = h.members_set; rows = h.rows }
 
@@ -21,7 +22,7 @@ runs : (xs ys l : List ℕ) (i j : ℕ) → j ≡ i + length xs → sets (sets l
 runs [] ys l i j e = let q : j ≡ i = omega arith in rw q
 runs (x ∷ xs) ys l i j e = rw (sets_before ys l i j x (omega arith)) (runs xs ys (set l i x) (suc i) j (omega arith))
 
-pub laid_before : (t u : Forest Source) (i j : ℕ) (p p₁ p₂ : List (List ℕ)) → j ≡ i + size t → LaidIn u j p p₁ → LaidIn t i p₁ p₂ → LaidIn (t then u) i p p₂
+pub laid_before : (t u : Forest Source) (i j : ℕ) (p p₁ p₂ : PlanRows) → j ≡ i + size t → LaidIn u j p p₁ → LaidIn t i p₁ p₂ → LaidIn (t then u) i p p₂
 laid_before t u i j p p₁ p₂ e h g =
     let n = length_preorder t in
     let q = length-map (preorder t) slot_of in

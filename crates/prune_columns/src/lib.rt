@@ -122,7 +122,7 @@ fn copy_trees(
     plan: &mut PlanRows,
     at: usize,
 ) -> Step
-    requires { Span records.now slot past at × (length plan.old ≡ 3) }
+    requires { Span records.now slot past at }
     ensures { Copied records.now slot past count plan.old at result
         plan.new }
 {
@@ -137,8 +137,7 @@ fn copy_trees(
 
 // The record at `slot`, planned at place `at` with what its type yielded, which stands behind that place.
 fn put_record(records: &[u8], slot: usize, inside: Step, plan: &mut PlanRows, at: usize) -> Step
-    requires { (slot * 24 + 24 ≤ length records.now) × (slot < 1024) × (at ≤ slot)
-        × (length plan.old ≡ 3) }
+    requires { (slot * 24 + 24 ≤ length records.now) × (slot < 1024) × (at ≤ slot) }
     ensures { Stored records.now slot inside plan.old at result
         plan.new }
 {
@@ -158,7 +157,7 @@ fn put_record(records: &[u8], slot: usize, inside: Step, plan: &mut PlanRows, at
 
 // The record at `slot` with all its inside.
 fn project_whole(records: &[u8], slot: usize, levels: usize, plan: &mut PlanRows, at: usize) -> Step
-    requires { Spot records.now levels slot at × (length plan.old ≡ 3) }
+    requires { Spot records.now levels slot at }
     ensures { KeptWhole records.now levels slot plan.old at result
         plan.new }
 {
@@ -179,7 +178,7 @@ pub fn project_fields(
     plan: &mut PlanRows,
     at: usize,
 ) -> Step
-    requires { Row records.now levels count slot at × (length plan.old ≡ 3) }
+    requires { Row records.now levels count slot at }
     ensures { Kept records.now marks.now full Member levels count slot
         plan.old at result plan.new }
 {
@@ -213,7 +212,7 @@ fn project_field(
     plan: &mut PlanRows,
     at: usize,
 ) -> Step
-    requires { Spot records.now levels slot at × (length plan.old ≡ 3) }
+    requires { Spot records.now levels slot at }
     ensures { KeptOne records.now marks.now full levels slot
         plan.old at result plan.new }
 {
@@ -245,7 +244,7 @@ fn project_selected_struct(
     plan: &mut PlanRows,
     at: usize,
 ) -> Step
-    requires { Spot records.now levels slot at × (length plan.old ≡ 3) }
+    requires { Spot records.now levels slot at }
     ensures { KeptYield records.now marks.now full levels slot
         plan.old at result plan.new }
 {
@@ -264,7 +263,7 @@ fn project_type(
     plan: &mut PlanRows,
     at: usize,
 ) -> Step
-    requires { Behind records.now levels slot at × (length plan.old ≡ 3) }
+    requires { Behind records.now levels slot at }
     ensures { KeptInside records.now marks.now full levels slot
         plan.old at result plan.new }
 {
@@ -298,7 +297,7 @@ fn project_list(
     plan: &mut PlanRows,
     at: usize,
 ) -> Step
-    requires { Row records.now levels count slot at × (length plan.old ≡ 3) }
+    requires { Row records.now levels count slot at }
     ensures { Kept records.now marks.now full Element levels count
         slot plan.old at result plan.new }
 {
@@ -317,7 +316,7 @@ fn project_map(
     plan: &mut PlanRows,
     at: usize,
 ) -> Step
-    requires { (0 < count) × Row records.now levels count slot at × (length plan.old ≡ 3) }
+    requires { (0 < count) × Row records.now levels count slot at }
     ensures { Kept records.now marks.now full Key levels count slot
         plan.old at result plan.new }
 {

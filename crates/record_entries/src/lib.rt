@@ -252,8 +252,7 @@ fn check_rules(entries: &[u8], n: usize, number: u32, list: PathList) -> Result<
     requires { (n * width_of list ≤ length entries.now) × (n ≤ 64) }
     ensures { result ≡ tested 3 number (lowest (rule_of list entries.now) 0 n) }
 {
-    let mut i = 0;
-    while i < n {
+    for i in 0..n {
         if !entry_ok(entries, i, list) {
             return Err(Refusal {
                 number: 3,
@@ -261,19 +260,23 @@ fn check_rules(entries: &[u8], n: usize, number: u32, list: PathList) -> Result<
                 place: i as u32,
             });
         }
-        i += 1;
     }
     Ok(())
 }
 
 // The lowest of n entries that points past the end of the request pool: refusal 4.
-fn check_paths(entries: &[u8], n: usize, number: u32, pool: usize, list: PathList) -> Result<(), Refusal>
+fn check_paths(
+    entries: &[u8],
+    n: usize,
+    number: u32,
+    pool: usize,
+    list: PathList,
+) -> Result<(), Refusal>
     requires { (n * width_of list ≤ length entries.now) × (n ≤ 64) }
     ensures { result ≡ tested 4 number
         (lowest (inside_of list pool entries.now) 0 n) }
 {
-    let mut k = 0;
-    while k < n {
+    for k in 0..n {
         if !is_inside(entries, pool, k, list) {
             return Err(Refusal {
                 number: 4,
@@ -281,7 +284,6 @@ fn check_paths(entries: &[u8], n: usize, number: u32, pool: usize, list: PathLis
                 place: k as u32,
             });
         }
-        k += 1;
     }
     Ok(())
 }

@@ -35,11 +35,9 @@ fn name_sum(recs: &[u8], n: usize) -> usize
     requires { (n * 24 ≤ length recs.now) × (n ≤ 1024) }
     ensures { result ≡ sum_from (name_lens recs.now) 0 n }
 {
-    let mut i = 0;
     let mut sum = 0;
-    while i < n {
+    for i in 0..n {
         sum += name_len_at(recs, i);
-        i += 1;
     }
     sum
 }

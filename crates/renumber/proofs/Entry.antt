@@ -49,6 +49,7 @@ use Rattle.renumber_identifiers.specs.Mapped.{Findable, Located, Applicable, App
 use Rattle.renumber_identifiers.proofs.Mapping.{located_small, located_bytes}
 use Rattle.renumber.specs.Opening.{opened}
 use Rattle.renumber.proofs.NewIds.{new_plan, new_fields}
+use Rattle.plan.specs.declared.PlanRows.{PlanRows}
 
 -- ---- 1 to 6: `search opening`
 
@@ -95,7 +96,7 @@ opens_first true false x f = refl
 opens_first true true x f = refl
 
 -- The new ids stand in the plan's second row, the other rows stay.
-new_row : (plan : List (List ℕ)) (new : List ℕ) → length plan ≡ 3 → (P : List ℕ → List ℕ → List ℕ → Type 0) → P (sources plan) new (members plan) → P (sources (set plan 1 new)) (numbers (set plan 1 new)) (members (set plan 1 new))
+new_row : (plan : PlanRows) (new : List ℕ) → length plan ≡ 3 → (P : List ℕ → List ℕ → List ℕ → Type 0) → P (sources plan) new (members plan) → P (sources (set plan 1 new)) (numbers (set plan 1 new)) (members (set plan 1 new))
 new_row plan new e P h = rw (get_or-set_other plan 1 0 new [] (λ z. omega arith), get_or-set_same plan 1 new [] (omega arith), get_or-set_other plan 1 2 new [] (λ z. omega arith)) h
 
 module _ (records pool identifiers : List ℕ) (lr ln li : ℕ) where
@@ -137,7 +138,7 @@ module _ (records pool identifiers : List ℕ) (lr ln li : ℕ) where
       pub numbers_left : (is : List ℕ) (first : ℕ) → first ≤ 4294967295 - slots records → Room records 16 c 0 is first
       numbers_left is first l = let a = o.all in let e = few in record { there = o.there; numbers = omega arith }
 
-      module _ (r : Check) (zeros plan index : List (List ℕ)) (b : BaseIndexed (alone records pool) (slots records) identifiers r zeros plan index) where
+      module _ (r : Check) (zeros plan : PlanRows) (index : List (List ℕ)) (b : BaseIndexed (alone records pool) (slots records) identifiers r zeros plan index) where
         abbrev tree : Forest Field
         tree = fields_in (alone records pool) plan (slots records)
 

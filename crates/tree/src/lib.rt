@@ -20,23 +20,16 @@ use paper::{Role, first_role, next_role};
 use record::{Refusal, check_bounds, check_bytes, equal, kids_at, kind_at, name_at, sift};
 use record_limits::sized;
 
-// Where a walk over a row of trees ends, or why it stops.
-#[derive(Clone, Copy)]
-pub enum Walked {
-    End(usize),
-    Refused(Refusal),
-}
-
-// How many roots a tree has, or why it is turned down.
-#[derive(Clone, Copy)]
-pub enum Shaped {
-    Roots(u32),
-    Refused(Refusal),
-}
-
 // Where `count` trees from `slot` on end, with `levels` levels left for them, or refusal 5. A loop over the siblings, which goes on
 // inside the last of them.
-pub fn row_end(recs: &[u8], n: usize, slot: usize, count: u32, levels: usize, list: u32) -> Result<usize, Refusal>
+pub fn row_end(
+    recs: &[u8],
+    n: usize,
+    slot: usize,
+    count: u32,
+    levels: usize,
+    list: u32,
+) -> Result<usize, Refusal>
     requires { (n * 24 ≤ length recs.now) × (n ≤ 1024) × (slot ≤ n) }
     ensures { result ≡ ended (row list (kids_at recs.now) n levels count slot) }
 {
@@ -74,14 +67,7 @@ pub fn row_end(recs: &[u8], n: usize, slot: usize, count: u32, levels: usize, li
             spare -= 1;
             continue;
         }
-        match row_end(recs, n, at + 1, kids, spare - 1, list) {
-            Ok(next) => {
-                at = next;
-            }
-            Err(r) => {
-                return Err(r);
-            }
-        }
+        at = row_end(recs, n, at + 1, kids, spare - 1, list)?;
         left -= 1;
     }
     Ok(at)
@@ -123,15 +109,8 @@ pub fn check_shape(recs: &[u8], n: usize, list: u32) -> Result<u32, Refusal>
             count += 1;
             continue;
         }
-        match row_end(recs, n, slot + 1, kids, 15, list) {
-            Ok(next) => {
-                slot = next;
-                count += 1;
-            }
-            Err(r) => {
-                return Err(r);
-            }
-        }
+        slot = row_end(recs, n, slot + 1, kids, 15, list)?;
+        count += 1;
     }
     Ok(count)
 }
@@ -202,14 +181,7 @@ pub fn check_labels(
             continue;
         }
         let inside = inside_role(recs, at);
-        match check_labels(recs, pool, n, at + 1, kids, levels - 1, inside, list) {
-            Ok(next) => {
-                at = next;
-            }
-            Err(r) => {
-                return Err(r);
-            }
-        }
+        at = check_labels(recs, pool, n, at + 1, kids, levels - 1, inside, list)?;
         part = next_role(part);
         left -= 1;
     }
@@ -245,18 +217,23 @@ fn labels_fit(recs: &[u8], pool: &[u8], n: usize, nested: bool) -> bool
     if !nested {
         return true;
     }
-    let mut slot = 0;
-    while slot < n {
+    for slot in 0..n {
         if !inside_fits(recs, pool, slot) {
             return false;
         }
-        slot += 1;
     }
     true
 }
 
 // Where the roots end, or refusal 6. Where the loop does not see all fit, the walk tells.
-fn label_roots(recs: &[u8], pool: &[u8], n: usize, count: u32, nested: bool, list: u32) -> Result<usize, Refusal>
+fn label_roots(
+    recs: &[u8],
+    pool: &[u8],
+    n: usize,
+    count: u32,
+    nested: bool,
+    list: u32,
+) -> Result<usize, Refusal>
     requires { Planted list pool.now recs.now n count × (nested ≡ false → lowest (flat recs.now) 0 n ≡ none) }
     ensures { Labelled pool.now recs.now list n 16 count 0 Member result }
 {
@@ -275,13 +252,9 @@ pub fn check_tree(recs: &[u8], pool: &[u8], list: u32) -> Result<u32, Refusal>
     let sifted = sift(recs, n, pool.len());
     check_bytes(recs, sifted.fine, n, list)?;
     check_bounds(recs, sifted.fine, n, pool.len(), list)?;
-    match check_shape(recs, n, list) {
-        Ok(count) => match label_roots(recs, pool, n, count, sifted.nested, list) {
-            Ok(_) => Ok(count),
-            Err(r) => Err(r),
-        },
-        Err(r) => Err(r),
-    }
+    let count = check_shape(recs, n, list)?;
+    label_roots(recs, pool, n, count, sifted.nested, list)?;
+    Ok(count)
 }
 
 // Refusals 2 to 6, or the number of roots, of a tree that is only read.

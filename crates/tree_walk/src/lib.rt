@@ -10,10 +10,5 @@ use paper::Kind;
 pub fn is_map(k: Kind) -> bool
     ensures { result ≡ is_map k }
 {
-    match k {
-        Kind::Primitive => false,
-        Kind::Structure => false,
-        Kind::Listing => false,
-        Kind::Mapping => true,
-    }
+    k == Kind::Mapping
 }

@@ -49,6 +49,8 @@ use Rattle.update_schema.specs.Additions.{parents_in}
 use Rattle.update_write.specs.Ending.{sounded, limited_sounded, Rebuildable, rebuilt_tree, visited_in, Ends}
 use Rattle.update.specs.Updating.{given_in, Passed, Decidable, Settled, Settles}
 use Rattle.update.proofs.Settling.{Contents, contents}
+use Rattle.plan.specs.declared.PlanRows.{PlanRows}
+use Rattle.update_rebuild.specs.declared.Decisions.{Decisions}
 
 abbrev result_of : ℕ → Schema → Result
 result_of visits u = record { tree = u.tree; identifiers = []; last = turned u.last; visited = visits }
@@ -93,14 +95,14 @@ module _ (l : Trees) (lists : Lists) (version rr rn : ℕ) (w : Opened) (o : Ope
   own : Contents l lists through.passed.base through.passed.added
   own = contents l lists through.passed.base through.passed.added through.passed.read
 
-  pub test_asks : (plan index : List (List ℕ)) → Roomy plan → Fresh index → Readable l (slots l.records) × ((length lists.identifiers ≤ 256) × (Roomy plan × Fresh index))
+  pub test_asks : (plan : PlanRows) (index : List (List ℕ)) → Roomy plan → Fresh index → Readable l (slots l.records) × ((length lists.identifiers ≤ 256) × (Roomy plan × Fresh index))
   test_asks plan index p i = (
     record { limits = update_sized _ _ true (sym limits) refl; count = refl; decodes = rw own.base_read },
     (identifiers_most _ _ true (sym limits) refl, (p, i)),
   )
 
-  pub decide_asks : (x : Check) (plan plan' index : List (List ℕ)) → BaseIndexed l (slots l.records) lists.identifiers x plan plan' index → x ≡ (Ok tt)
-      → (g last : ℕ) → (g ≡ turned last) × (g < 4294967296) → (decisions : List (List ℕ)) → DecisionsRoom decisions → (marks : List ℕ) → Unmarked marks → Decidable l lists g columns plan' index decisions marks
+  pub decide_asks : (x : Check) (plan plan' : PlanRows) (index : List (List ℕ)) → BaseIndexed l (slots l.records) lists.identifiers x plan plan' index → x ≡ (Ok tt)
+      → (g last : ℕ) → (g ≡ turned last) × (g < 4294967296) → (decisions : Decisions) → DecisionsRoom decisions → (marks : List ℕ) → Unmarked marks → Decidable l lists g columns plan' index decisions marks
   decide_asks x plan plan' index b d g last eg decisions r marks u =
       record {
         passed = through.passed;
@@ -177,7 +179,7 @@ module _ (l : Trees) (lists : Lists) (last version : ℕ) (out text : List ℕ) 
       unfolding ◌>>=◌
       goes = entry_is ∙ rw (opened_as.opens last)
 
-      module _ (x : Check) (plan plan' index : List (List ℕ)) (b : BaseIndexed l (slots l.records) lists.identifiers x plan plan' index) where
+      module _ (x : Check) (plan plan' : PlanRows) (index : List (List ℕ)) (b : BaseIndexed l (slots l.records) lists.identifiers x plan plan' index) where
         pub test_stops : (y : Refusal) → x ≡ Err y → EndsSo (Err y) out text
         unfolding update planned ◌>>=◌
         test_stops y d =
@@ -188,7 +190,7 @@ module _ (l : Trees) (lists : Lists) (last version : ℕ) (out text : List ℕ) 
           goes_at : entry ≡ carried g base added
           goes_at = goes ∙ ap (λ (z : ℕ). carried z base added) (sym eg.0)
 
-          module _ (y : Decided) (decisions' : List (List ℕ)) (marks' : List ℕ) (v : Settles l lists g version y decisions' marks') where
+          module _ (y : Decided) (decisions' : Decisions) (marks' : List ℕ) (v : Settles l lists g version y decisions' marks') where
             pub decide_stops : (f : Refusal) → y ≡ Err f → EndsSo (Err f) out text
             unfolding update ◌>>=◌
             decide_stops f z = refuses _ f buffers (goes_at ∙ rw (v.refusal base added opened_as.passed.read f z))

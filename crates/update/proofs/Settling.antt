@@ -44,6 +44,8 @@ use Rattle.update_dropped.specs.Gathered.{row_ids}
 use Rattle.update_schema.specs.Additions.{ColumnsIn, parents_in, all_placed, Placings}
 use Rattle.update_schema.specs.Changes.{changes, Asked, Decides, DecidesIn}
 use Rattle.update.specs.Updating.{given_in, Decidable, planned_in, Settled, Settles}
+use Rattle.plan.specs.declared.PlanRows.{PlanRows}
+use Rattle.update_rebuild.specs.declared.Decisions.{Decisions}
 
 -- ---- what was read
 
@@ -100,7 +102,7 @@ chain_ok x f g a b e q = let z : f a ≡ ok b = rw e at q in rw (e, z)
 abbrev plan_from : List ℕ → Placed → List Edited → Plan
 plan_from ds a es = record { dropped = ds; parents = a.parents; last = a.last; edits = es }
 
-module _ (l : Trees) (lists : Lists) (last version columns : ℕ) (plan index decisions : List (List ℕ)) (marks : List ℕ) (h : Decidable l lists last columns plan index decisions marks) where
+module _ (l : Trees) (lists : Lists) (last version columns : ℕ) (plan : PlanRows) (index : List (List ℕ)) (decisions : Decisions) (marks : List ℕ) (h : Decidable l lists last columns plan index decisions marks) where
   abbrev n : ℕ
   n = slots l.records
 
@@ -133,7 +135,7 @@ module _ (l : Trees) (lists : Lists) (last version columns : ℕ) (plan index de
   paths_are = length_from (parent_path l.request_pool lists.additions) 0 a
 
   module _ (g : Given) (eg : g ≡ given_in l lists last version) where
-    pub count_stops : (decisions' : List (List ℕ)) → (columns ≡ g.additions → ⊥) → Settles l lists last version (Err (refusal_of 10 3 0)) decisions' marks
+    pub count_stops : (decisions' : Decisions) → (columns ≡ g.additions → ⊥) → Settles l lists last version (Err (refusal_of 10 3 0)) decisions' marks
     unfolding planned ◌>>=◌
     count_stops decisions' other =
         record {
@@ -231,7 +233,7 @@ module _ (l : Trees) (lists : Lists) (last version columns : ℕ) (plan index de
           let s = rw (base_is base o.base_read) at h.is_sound in
           rw (s, k, (row_is base added e).1)
 
-      module _ (y : Decided) (decisions' : List (List ℕ)) (v : DecidesIn l lists g plan y decisions') where
+      module _ (y : Decided) (decisions' : Decisions) (v : DecidesIn l lists g plan y decisions') where
         at_tree : (base : Forest Field) → decode 0 l.records l.pool ≡ ok base
             → Decides base (id_list lists.identifiers) l.request_pool lists.deletions d l.added_records lists.additions a m last y
             (drops_in decisions') (unders_in decisions') (firsts_in decisions') (starts_in decisions')

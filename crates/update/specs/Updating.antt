@@ -27,6 +27,8 @@ use Rattle.std.specs.Prelude.{Ok, Err}
 use Rattle.update_schema.specs.Base.{DecisionsRoom}
 use Rattle.update_dropped.specs.Gathered.{row_ids}
 use Rattle.update_schema.specs.Additions.{parents_in}
+use Rattle.plan.specs.declared.PlanRows.{PlanRows}
+use Rattle.update_rebuild.specs.declared.Decisions.{Decisions}
 
 -- How much is lent, the last id, and the format version.
 abbrev pub given_in : Trees → Lists → (last version : ℕ) → Given
@@ -50,7 +52,7 @@ pub record Passed (l : Trees) (lists : Lists) : Type 0 where
   pub read : readable l lists ≡ ok (both_trees base added)
 
 -- The base, as a plan of itself, passed 7 to 9; so many columns are added; there is room for what is decided, and no mark yet.
-pub record Decidable (l : Trees) (lists : Lists) (last columns : ℕ) (plan index decisions : List (List ℕ)) (marks : List ℕ) : Type 0 where
+pub record Decidable (l : Trees) (lists : Lists) (last columns : ℕ) (plan : PlanRows) (index : List (List ℕ)) (decisions : Decisions) (marks : List ℕ) : Type 0 where
   pub passed : Passed l lists
   pub count : columns ≡ siblings passed.added
   pub low : last < 4294967296
@@ -66,7 +68,7 @@ abbrev pub planned_in : Trees → Lists → (last version : ℕ) (base added : F
 planned_in l lists last version base added = planned (schema base last) (request_in (lent_in l lists version 0 0) added)
 
 -- The paper's plan is in the decisions and the marks: the dropped ids, the places, the trees that arrive, and the edits.
-pub record Settled (l : Trees) (lists : Lists) (last version : ℕ) (base added : Forest Field) (decisions : List (List ℕ)) (marks : List ℕ) (consumed : ℕ) : Type 0 where
+pub record Settled (l : Trees) (lists : Lists) (last version : ℕ) (base added : Forest Field) (decisions : Decisions) (marks : List ℕ) (consumed : ℕ) : Type 0 where
   pub edits : List Edited
   pub is : planned_in l lists last version base added
       ≡ ok (record {
@@ -82,7 +84,7 @@ pub record Settled (l : Trees) (lists : Lists) (last version : ℕ) (base added 
       ≡ arrivals with_id last (parents_in (unders_in decisions) (entries 8 lists.additions)) added
 
 -- The base's 7 to 9 were passed, so this is 10 to 18 and 22, then 23, 24, 13 and 26 of the edits.
-pub record Settles (l : Trees) (lists : Lists) (last version : ℕ) (r : Decided) (decisions : List (List ℕ)) (marks : List ℕ) : Type 0 where
+pub record Settles (l : Trees) (lists : Lists) (last version : ℕ) (r : Decided) (decisions : Decisions) (marks : List ℕ) : Type 0 where
   pub accepted : (base added : Forest Field) → readable l lists ≡ ok (both_trees base added) → (consumed : ℕ) → r ≡ Ok consumed
       → Settled l lists last version base added decisions marks consumed
   pub unmarked : entries 16 l.edits ≡ 0 → Unmarked marks

@@ -41,6 +41,8 @@ use Rattle.update_rebuild.specs.Planned.{drops_in}
 use Rattle.update_schema.proofs.Deleting.{entry_here}
 use Rattle.update_schema.proofs.Rising.{base_tree, rises}
 use Rattle.update_edited.specs.Editing.{Editable, all_edited, EditsLeft, EditsBy, EditsIn}
+use Rattle.plan.specs.declared.PlanRows.{PlanRows}
+use Rattle.update_rebuild.specs.declared.Decisions.{Decisions}
 
 -- ---- edits ask of the dropped ids only which are among them
 
@@ -122,7 +124,7 @@ module _ (l : Trees) (version n total : ℕ) (t : Forest Field) (ds : List ℕ) 
 
 -- ---- what was tested gives each edit what it asks
 
-module _ (l : Trees) (given : Given) (plan index : List (List ℕ)) (marks₀ : List ℕ) (h : Editable l given plan index marks₀) where
+module _ (l : Trees) (given : Given) (plan : PlanRows) (index : List (List ℕ)) (marks₀ : List ℕ) (h : Editable l given plan index marks₀) where
   abbrev n : ℕ
   n = given.base
 
@@ -185,12 +187,12 @@ module _ (l : Trees) (given : Given) (plan index : List (List ℕ)) (marks₀ : 
 
   -- ---- behind the deletions
 
-  pub none_asked : (decisions : List (List ℕ)) → given.edits ≡ 0 → EditsIn l given plan decisions (Ok tt) marks₀
+  pub none_asked : (decisions : Decisions) → given.edits ≡ 0 → EditsIn l given plan decisions (Ok tt) marks₀
   none_asked decisions e =
       let ds = row_ids (drops_in decisions) given.deletions in
       record { by = edit_ends l given.version n given.edits t ds 0 marks₀ (all_begin ds) (omega arith); unmarked = λ _. h.unmarked }
 
-  pub behind : (decisions : List (List ℕ)) (drops : Dropped) (c : Check) (marks' : List ℕ) → (given.edits ≡ 0 → ⊥) → Gathered (drops_in decisions) given.deletions drops
+  pub behind : (decisions : Decisions) (drops : Dropped) (c : Check) (marks' : List ℕ) → (given.edits ≡ 0 → ⊥) → Gathered (drops_in decisions) given.deletions drops
       → EditsBy c (all_edited l given plan (dropped_ids drops)) l n marks' → EditsIn l given plan decisions c marks'
   behind decisions drops c marks' asked g a =
       record {

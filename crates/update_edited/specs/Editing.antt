@@ -15,9 +15,11 @@ use Rattle.update_edits.specs.Marks.{Unmarked, Carries}
 use Rattle.update_rebuild.specs.declared.Given.{Given}
 use Rattle.update_rebuild.specs.Planned.{drops_in}
 use Rattle.update_schema.specs.Base.{BasedIn, Entries}
+use Rattle.plan.specs.declared.PlanRows.{PlanRows}
+use Rattle.update_rebuild.specs.declared.Decisions.{Decisions}
 
 -- The base as a plan of itself with its index, the list of edits, and no mark yet.
-pub record Editable (l : Trees) (given : Given) (plan index : List (List ℕ)) (marks : List ℕ) : Type 0 where
+pub record Editable (l : Trees) (given : Given) (plan : PlanRows) (index : List (List ℕ)) (marks : List ℕ) : Type 0 where
   pub based : BasedIn l plan given.base
   pub indexed : Index l plan given.base index
   pub edits_there : Entries Edits l.request_pool l.edits given.edits
@@ -25,7 +27,7 @@ pub record Editable (l : Trees) (given : Given) (plan index : List (List ℕ)) (
   pub unmarked : Unmarked marks
 
 -- What the paper decides of all edits.
-abbrev pub all_edited : Trees → Given → (plan : List (List ℕ)) (dropped : List ℕ) → Answer (List Edited)
+abbrev pub all_edited : Trees → Given → (plan : PlanRows) (dropped : List ℕ) → Answer (List Edited)
 all_edited l given plan dropped =
     edited_all (fields_in l plan given.base) dropped 0 [] (from (edit_of given.version l.request_pool l.edits) 0 given.edits)
 
@@ -40,6 +42,6 @@ EditsBy (Ok tt) a l n marks = EditsLeft l n marks a
 EditsBy (Err r) a l n marks = a ≡ refused r.number r.list r.place
 
 -- The same behind the deletions, whose ids are in their row. Without edits there is no mark.
-pub record EditsIn (l : Trees) (given : Given) (plan decisions : List (List ℕ)) (r : Check) (marks : List ℕ) : Type 0 where
+pub record EditsIn (l : Trees) (given : Given) (plan : PlanRows) (decisions : Decisions) (r : Check) (marks : List ℕ) : Type 0 where
   pub by : EditsBy r (all_edited l given plan (row_ids (drops_in decisions) given.deletions)) l given.base marks
   pub unmarked : given.edits ≡ 0 → Unmarked marks

@@ -30,6 +30,7 @@ use Rattle.plan.specs.Sources.{own_source}
 use Rattle.plan.specs.Table.{sources, numbers, LaidIn}
 use Rattle.update_edits.specs.Marks.{marked, remarked, remark, Carries, RemarkedIn}
 use Rattle.update_edits.proofs.Marking.{source_stays}
+use Rattle.plan.specs.declared.PlanRows.{PlanRows}
 
 -- ---- the table
 
@@ -47,7 +48,7 @@ run_over xs ys l e h =
     sets_front ys (sets l 0 xs) (let q = length-sets l 0 xs in omega arith)
     ∙ rw (sets_front xs l h, e, drop-append_seam xs (drop (length xs) l), ← e) (sym (sets_front ys l (omega arith)))
 
-module _ (marks : List ℕ) (t : Forest Source) (m : ℕ) (plan p p' : List (List ℕ)) where
+module _ (marks : List ℕ) (t : Forest Source) (m : ℕ) (plan p p' : PlanRows) where
   -- The records that were laid stand there with their marks.
   pub remarked_laid : m ≡ size t → m ≤ length (sources plan) → LaidIn t 0 plan p → RemarkedIn marks m p p' → LaidIn (mapped (remark marks) t) 0 plan p'
   remarked_laid em h d r =

@@ -10,19 +10,20 @@ use Rattle.paper.specs.Bytes.{from}
 use Rattle.laws.proofs.Runs.{length_from, from_more}
 use Rattle.plan.specs.Table.{sources}
 use Rattle.update_edits.specs.Marks.{remarked, RemarkedIn}
+use Rattle.plan.specs.declared.PlanRows.{PlanRows}
 
 -- What a run leaves behind it.
 get_or_sets_behind : (vs l : List ℕ) (i j : ℕ) → i + length vs ≤ j → get_or (sets l i vs) j 0 ≡ get_or l j 0
 get_or_sets_behind [] l i j h = refl
 get_or_sets_behind (v ∷ vs) l i j h = get_or_sets_behind vs (set l i v) (suc i) j (omega arith) ∙ get_or-set_other l i j v 0 (λ e. omega arith)
 
-pub record Remarking (marks : List ℕ) (m : ℕ) (plan : List (List ℕ)) (i : ℕ) (plan' : List (List ℕ)) : Type 0 where
+pub record Remarking (marks : List ℕ) (m : ℕ) (plan : PlanRows) (i : ℕ) (plan' : PlanRows) : Type 0 where
   pub within : i ≤ m
   pub most : m ≤ 1024
   pub set : RemarkedIn marks i plan plan'
 
 -- one store into the first row
-stored_first : (marks : List ℕ) (plan p : List (List ℕ)) (i v : ℕ) → RemarkedIn marks i plan p → v ≡ remarked marks (get_or (sources p) i 0) → RemarkedIn marks (i + 1) plan (set p 0 (set (sources p) i v))
+stored_first : (marks : List ℕ) (plan p : PlanRows) (i v : ℕ) → RemarkedIn marks i plan p → v ≡ remarked marks (get_or (sources p) i 0) → RemarkedIn marks (i + 1) plan (set p 0 (set (sources p) i v))
 stored_first marks plan (xs ∷ is ∷ ks ∷ []) i v h e =
     let g : ℕ → ℕ = λ j. remarked marks (get_or (sources plan) j 0) in
     let z : get_or xs i 0 ≡ get_or (sources plan) i 0 = ap (λ (l : List ℕ). get_or l i 0) h.sources_set ∙ get_or_sets_behind (from g 0 i) (sources plan) 0 i (let q = length_from g 0 i in omega arith) in
@@ -40,12 +41,12 @@ stored_first marks plan (xs ∷ is ∷ ks ∷ l ∷ ls) i v h e = absurd (let q 
 
 -- ---- the loop: `search remarking`
 
-module _ (marks : List ℕ) (m : ℕ) (plan : List (List ℕ)) where
+module _ (marks : List ℕ) (m : ℕ) (plan : PlanRows) where
   pub remark_starts : m ≤ 1024 → length plan ≡ 3 → Remarking marks m plan 0 plan
   unfolding from
   remark_starts l e = record { within = omega arith; most = l; set = record { sources_set = refl; numbers_same = refl; members_same = refl; rows = e } }
 
-  module _ (i : ℕ) (p : List (List ℕ)) (h : Remarking marks m plan i p) where
+  module _ (i : ℕ) (p : PlanRows) (h : Remarking marks m plan i p) where
     pub remark_goes : (v : ℕ) → i < m → v ≡ remarked marks (get_or (sources p) i 0) → Remarking marks m plan (i + 1) (set p 0 (set (sources p) i v))
     remark_goes v l e = record { within = omega arith; most = h.most; set = stored_first marks plan p i v h.set e }
 

@@ -11,6 +11,7 @@ use Rattle.record_entries.specs.Rule.{what_of}
 use Rattle.plan.specs.Plan.{Source, low_part, source_field, Sits}
 use Rattle.plan.specs.Table.{sources, numbers, members}
 use Rattle.update_edits.specs.Edit.{Tells}
+use Rattle.plan.specs.declared.PlanRows.{PlanRows}
 
 -- A mark with the edit k, which keeps what other edits left.
 abbrev pub mark_with : What → (k mark : ℕ) → ℕ
@@ -47,7 +48,7 @@ pub record Carries (l : Trees) (n : ℕ) (marks : List ℕ) (decided : List Edit
   pub told : Tells l.records n marks decided
 
 -- The first m sources are as their marks have them, and all else is as it was.
-pub record RemarkedIn (marks : List ℕ) (m : ℕ) (plan plan' : List (List ℕ)) : Type 0 where
+pub record RemarkedIn (marks : List ℕ) (m : ℕ) (plan plan' : PlanRows) : Type 0 where
   pub sources_set : sources plan' ≡ sets (sources plan) 0 (from (λ i. remarked marks (get_or (sources plan) i 0)) 0 m)
   pub numbers_same : numbers plan' ≡ numbers plan
   pub members_same : members plan' ≡ members plan

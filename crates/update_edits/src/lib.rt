@@ -269,7 +269,7 @@ fn marked_source(marks: &Marks, source: u32) -> u32
 
 // The first m sources of a plan as their marks have them; all else stays.
 pub fn mark_plan(plan: &mut PlanRows, m: usize, marks: &Marks)
-    requires { (m ≤ 1024) × (length plan.old ≡ 3) }
+    requires { (m ≤ 1024) }
     ensures { RemarkedIn marks.now m plan.old plan.new }
 {
     let mut i = 0;

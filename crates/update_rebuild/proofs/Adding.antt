@@ -8,23 +8,24 @@ use Rattle.paper.specs.Bytes.{turned, from}
 use Rattle.laws.proofs.Runs.{from_more}
 use Rattle.plan.specs.Table.{sources, numbers, members, planned_at}
 use Rattle.update_rebuild.specs.Planned.{AddedIn}
+use Rattle.plan.specs.declared.PlanRows.{PlanRows}
 
 -- The bits count on, and start again at 0.
 bits_on : (id k d c x : ℕ) → c ≡ id → x ≡ (c + d) % 4294967296 → x ≡ turned (turned id + (k + d - k))
 unfolding turned
 bits_on id k d c x ec ex = omega arith
 
-pub record Adding (kids : ℕ → ℕ) (k n id : ℕ) (plan : List (List ℕ)) (at i : ℕ) (plan' : List (List ℕ)) : Type 0 where
+pub record Adding (kids : ℕ → ℕ) (k n id : ℕ) (plan : PlanRows) (at i : ℕ) (plan' : PlanRows) : Type 0 where
   pub within : i ≤ n
   pub added : AddedIn kids k i (turned id) plan at plan'
 
-module _ (kids : ℕ → ℕ) (k n id : ℕ) (plan : List (List ℕ)) (at : ℕ) where
+module _ (kids : ℕ → ℕ) (k n id : ℕ) (plan : PlanRows) (at : ℕ) where
   pub add_starts : length plan ≡ 3 → Adding kids k n id plan at 0 plan
   unfolding from
   add_starts e = record { within = omega arith; added = record { sources_set = refl; numbers_set = refl; members_set = refl; rows = e } }
 
-  module _ (i : ℕ) (p₁ : List (List ℕ)) (h : Adding kids k n id plan at i p₁) where
-    pub add_goes : (m c x : ℕ) (p₂ : List (List ℕ)) → i < n → m ≡ kids (k + i) → c ≡ id → x ≡ (c + i) % 4294967296 → p₂ ≡ planned_at p₁ (at + i) (1024 + (k + i)) x m → Adding kids k n id plan at (i + 1) p₂
+  module _ (i : ℕ) (p₁ : PlanRows) (h : Adding kids k n id plan at i p₁) where
+    pub add_goes : (m c x : ℕ) (p₂ : PlanRows) → i < n → m ≡ kids (k + i) → c ≡ id → x ≡ (c + i) % 4294967296 → p₂ ≡ planned_at p₁ (at + i) (1024 + (k + i)) x m → Adding kids k n id plan at (i + 1) p₂
     add_goes m c x p₂ l em ec ex e =
         let a = h.added in
         record {

@@ -19,6 +19,7 @@ use Rattle.std.specs.Prelude.{Some, None}
 use Rattle.update_rebuild.specs.Sources.{parent, added_tree, addition_at, additions}
 use Rattle.update_rebuild.specs.Planned.{Planned, Resolved}
 use Rattle.update_rebuild.proofs.Onward.{Onward, onward_starts, onward_same, onward_goes, onward_stops, onward_done, went_whole, full_over}
+use Rattle.plan.specs.declared.PlanRows.{PlanRows}
 
 -- ---- equal places are equal parents
 
@@ -66,23 +67,23 @@ module _ (added : List ℕ) (n : ℕ) (unders firsts starts : List ℕ) (total q
   unfolding additions arriving_from
   rest_all = rw (from_all at_place total)
 
-  module _ (past lv i c v : ℕ) (plan : List (List ℕ)) where
+  module _ (past lv i c v : ℕ) (plan : PlanRows) where
     -- whatever plans what arrives from the j-th addition on plans all that arrives
-    pub record Rest (j : ℕ) (here : Place) (plan' : List (List ℕ)) : Type 0 where
+    pub record Rest (j : ℕ) (here : Place) (plan' : PlanRows) : Type 0 where
       pub on : Onward (Planned all 0 past lv i c v plan) (arriving_from j) 0 here.next lv here.at here.count here.visited plan'
       pub seen : here.visited ≤ here.at + 1024
 
     pub all_starts : i ≤ 1024 → c ≤ i → v ≤ i + 1024 → length plan ≡ 3 → Rest 0 (record { next = past; at = i; count = c; visited = v }) plan
     all_starts h g s e = record { on = onward_same (onward_starts h g e) rest_all refl; seen = s }
 
-    module _ (j : ℕ) (here : Place) (p₁ : List (List ℕ)) (h : Rest j here p₁) where
+    module _ (j : ℕ) (here : Place) (p₁ : PlanRows) (h : Rest j here p₁) where
       pub all_skips : Resolved added n unders firsts total → q ≤ 4294967296 → j < total → (get_or unders j 0 ≡ q → ⊥) → Rest (j + 1) here p₁
       all_skips r hq l d = record { on = onward_same h.on (rest_other j l (r.under j l) hq d) refl; seen = h.seen }
 
       pub all_done : total ≤ j → Planned all 0 past lv i c v plan (Some here) p₁
       all_done l = onward_done h.on (rest_none j l) refl
 
-      module _ (k id : ℕ) (r : Step) (p₂ : List (List ℕ)) (l : j < total) (e : get_or unders j 0 ≡ q) (ek : k ≡ get_or firsts j 0) (ei : id ≡ get_or starts j 0 % 4294967296) (p : Planned (added_tree added n k id) 0 here.next lv here.at here.count here.visited p₁ r p₂) where
+      module _ (k id : ℕ) (r : Step) (p₂ : PlanRows) (l : j < total) (e : get_or unders j 0 ≡ q) (ek : k ≡ get_or firsts j 0) (ei : id ≡ get_or starts j 0 % 4294967296) (p : Planned (added_tree added n k id) 0 here.next lv here.at here.count here.visited p₁ r p₂) where
         first : arriving_from j ≡ added_tree added n k id then arriving_from (j + 1)
         first = rw (ek, ei, low_tree added n (get_or firsts j 0) (get_or starts j 0)) (rest_here j l e)
 

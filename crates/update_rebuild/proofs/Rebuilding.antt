@@ -27,14 +27,15 @@ use Rattle.std.specs.Prelude.{Some, None}
 use Rattle.update_rebuild.specs.Sources.{base_source, parent, rebuilt_row, rebuilt_one, passed}
 use Rattle.update_rebuild.specs.Planned.{Readable, Inside, Planned, HeadOf, StandsAt, closing, RowPlanned, OnePlanned}
 use Rattle.update_rebuild.proofs.Onward.{went_whole, full_over, planned_none, Onward, onward_passes, onward_goes, onward_stops}
+use Rattle.plan.specs.declared.PlanRows.{PlanRows}
 
 -- ---- the end of a row
 
-pub closing_open : (adds : List (Addition Source)) (q : Option ℕ) {b : Bool} {past lv i c v : ℕ} {plan plan' : List (List ℕ)} {r : Step} → b ≡ true → Planned (arriving adds q) 0 past lv i c v plan r plan' → Planned (closing adds q b) 0 past lv i c v plan r plan'
+pub closing_open : (adds : List (Addition Source)) (q : Option ℕ) {b : Bool} {past lv i c v : ℕ} {plan plan' : PlanRows} {r : Step} → b ≡ true → Planned (arriving adds q) 0 past lv i c v plan r plan' → Planned (closing adds q b) 0 past lv i c v plan r plan'
 unfolding closing
 closing_open adds q e h = rw e h
 
-pub closing_shut : (adds : List (Addition Source)) (q : Option ℕ) {b : Bool} {lv : ℕ} {here : Place} {plan : List (List ℕ)} → b ≡ false → here.at ≤ 1024 → length plan ≡ 3 → Planned (closing adds q b) 0 here.next lv here.at here.count here.visited plan (Some here) plan
+pub closing_shut : (adds : List (Addition Source)) (q : Option ℕ) {b : Bool} {lv : ℕ} {here : Place} {plan : PlanRows} → b ≡ false → here.at ≤ 1024 → length plan ≡ 3 → Planned (closing adds q b) 0 here.next lv here.at here.count here.visited plan (Some here) plan
 unfolding closing
 closing_shut adds q e l rows = rw e (planned_none l rows)
 
@@ -89,17 +90,17 @@ leaf_is : (b : Bool) (m : ℕ) → (not b && eqb m 0) ≡ true → (m ≡ 0) × 
 leaf_is true m e = absurd (let z : ◌≡◌ {A = ℕ} 0 1 = cc in omega arith)
 leaf_is false m e = (eqb-true m 0 e, refl)
 
-module _ (records dropped : List ℕ) (adds : List (Addition Source)) (n lv k : ℕ) (plan : List (List ℕ)) (i c v : ℕ) where
-  pub one_wide : (p₁ : List (List ℕ)) → 1024 ≤ i → OnePlanned records dropped adds n lv k plan i c v None p₁
+module _ (records dropped : List ℕ) (adds : List (Addition Source)) (n lv k : ℕ) (plan : PlanRows) (i c v : ℕ) where
+  pub one_wide : (p₁ : PlanRows) → 1024 ≤ i → OnePlanned records dropped adds n lv k plan i c v None p₁
   unfolding rebuilt_one size
   one_wide p₁ e = record { by = record { over = λ l m. omega arith } }
 
-  module _ (h : Head) (hh : HeadOf records k h) (r : Step) (p₁ : List (List ℕ)) (p : RowPlanned records dropped adds n (lv - 1) h.members (k + 1) (parent h.under.q) h.under.opens plan (i + 1) r p₁) where
+  module _ (h : Head) (hh : HeadOf records k h) (r : Step) (p₁ : PlanRows) (p : RowPlanned records dropped adds n (lv - 1) h.members (k + 1) (parent h.under.q) h.under.opens plan (i + 1) r p₁) where
     inner : RowPlanned records dropped adds n (lv - 1) (kids_at records k) (k + 1) (some (turned (rec_at records k).id)) (is_struct (kind_at records k)) plan (i + 1) r p₁
     unfolding parent
     inner = rw (hh.members, hh.under, hh.opens) at p
 
-    pub one_stops : (p₂ : List (List ℕ)) → r ≡ None → OnePlanned records dropped adds n lv k plan i c v None p₂
+    pub one_stops : (p₂ : PlanRows) → r ≡ None → OnePlanned records dropped adds n lv k plan i c v None p₂
     unfolding rebuilt_one size levels
     one_stops p₂ e = record { by = record { over = λ l m. (full_over inner e).over (omega arith) (omega arith) } }
 
@@ -112,7 +113,7 @@ module _ (records dropped : List ℕ) (adds : List (Addition Source)) (n lv k : 
         omega (arith, u.visited, u.at, u.room, f.most h.inside.within, h.inside.small)
 
     -- its place is filled after those of its inside
-    one_goes : (w : Place) (p₂ : List (List ℕ)) → 0 < lv → r ≡ Some w → p₂ ≡ planned_at p₁ i k h.id w.count → OnePlanned records dropped adds n lv k plan i c v (Some (record { next = w.next; at = w.at; count = c + 1; visited = v + 1 + w.visited })) p₂
+    one_goes : (w : Place) (p₂ : PlanRows) → 0 < lv → r ≡ Some w → p₂ ≡ planned_at p₁ i k h.id w.count → OnePlanned records dropped adds n lv k plan i c v (Some (record { next = w.next; at = w.at; count = c + 1; visited = v + 1 + w.visited })) p₂
     unfolding rebuilt_one size siblings levels
     one_goes w p₂ l e ep =
         let u = went_whole inner e in
@@ -129,12 +130,12 @@ module _ (records dropped : List ℕ) (adds : List (Addition Source)) (n lv k : 
           };
         }
 
-    pub one_past : (w past : Place) (p₂ : List (List ℕ)) → 0 < lv → r ≡ Some w → p₂ ≡ planned_at p₁ i k h.id w.count → StandsAt w.next w.at (c + 1) (v + 1 + w.visited) past
+    pub one_past : (w past : Place) (p₂ : PlanRows) → 0 < lv → r ≡ Some w → p₂ ≡ planned_at p₁ i k h.id w.count → StandsAt w.next w.at (c + 1) (v + 1 + w.visited) past
         → OnePlanned records dropped adds n lv k plan i c v (Some past) p₂
     one_past w past p₂ l e ep o = rw o.is (one_goes w p₂ l e ep)
 
   -- nothing comes to stand inside a leaf
-  pub one_leaf : (h : Head) (g : Bool) (p₂ : List (List ℕ)) → HeadOf records k h → g ≡ (not h.under.opens && eqb h.members 0) → g ≡ true → 0 < lv → i < 1024 → length plan ≡ 3 → p₂ ≡ planned_at plan i k h.id 0 → OnePlanned records dropped adds n lv k plan i c v (Some (record { next = k + 1; at = i + 1; count = c + 1; visited = v + 1 })) p₂
+  pub one_leaf : (h : Head) (g : Bool) (p₂ : PlanRows) → HeadOf records k h → g ≡ (not h.under.opens && eqb h.members 0) → g ≡ true → 0 < lv → i < 1024 → length plan ≡ 3 → p₂ ≡ planned_at plan i k h.id 0 → OnePlanned records dropped adds n lv k plan i c v (Some (record { next = k + 1; at = i + 1; count = c + 1; visited = v + 1 })) p₂
   one_leaf h g p₂ hh eg et l m rows ep =
       let q = parent h.under.q in
       let e = leaf_is h.under.opens h.members (sym eg ∙ et) in
@@ -156,12 +157,12 @@ module _ (records dropped : List ℕ) (adds : List (Addition Source)) (q : Optio
   row_kept k m n e = rw e
 
 -- whatever plans the rest, c trees from slot k on, gives G
-pub record Rebuilding (records dropped : List ℕ) (adds : List (Addition Source)) (n lv : ℕ) (q : Option ℕ) (b : Bool) (G : Step → List (List ℕ) → Type 0) (c k i d v : ℕ) (plan : List (List ℕ)) : Type 0 where
+pub record Rebuilding (records dropped : List ℕ) (adds : List (Addition Source)) (n lv : ℕ) (q : Option ℕ) (b : Bool) (G : Step → PlanRows → Type 0) (c k i d v : ℕ) (plan : PlanRows) : Type 0 where
   pub read : Readable records n lv c k
   pub on : Onward G (rebuilt_row records dropped adds q b (part 0 (kids_at records) n lv c k).trees) (passed records dropped b (part 0 (kids_at records) n lv c k).trees) (part 0 (kids_at records) n lv c k).next lv i d v plan
   pub seen : v ≤ i + k
 
-module _ {records dropped : List ℕ} {adds : List (Addition Source)} {n lv : ℕ} {q : Option ℕ} {b : Bool} {G : Step → List (List ℕ) → Type 0} {c k i d v : ℕ} {plan : List (List ℕ)} (H : Rebuilding records dropped adds n lv q b G c k i d v plan) where
+module _ {records dropped : List ℕ} {adds : List (Addition Source)} {n lv : ℕ} {q : Option ℕ} {b : Bool} {G : Step → PlanRows → Type 0} {c k i d v : ℕ} {plan : PlanRows} (H : Rebuilding records dropped adds n lv q b G c k i d v plan) where
   abbrev rebuilt_trees : Forest ℕ → Forest Source
   rebuilt_trees t = rebuilt_row records dropped adds q b t
 
@@ -172,7 +173,7 @@ module _ {records dropped : List ℕ} {adds : List (Addition Source)} {n lv : �
   abbrev behind : ℕ → Part
   behind j = part 0 (kids_at records) n lv (c - 1) j
 
-  pub rebuild_ends : {r : Step} {p₁ : List (List ℕ)} → c ≤ 0 → Planned (closing adds q b) 0 k lv i d v plan r p₁ → G r p₁
+  pub rebuild_ends : {r : Step} {p₁ : PlanRows} → c ≤ 0 → Planned (closing adds q b) 0 k lv i d v plan r p₁ → G r p₁
   rebuild_ends l p = H.on.go _ _ (rw (part_none 0 (kids_at records) n lv c k (omega arith), row_closes records dropped adds q b, passed_none records dropped b) p)
 
   -- so few that one more, or an added tree, is counted too
@@ -241,7 +242,7 @@ module _ {records dropped : List ℕ} {adds : List (Addition Source)} {n lv : �
       kept_passed : (j : ℕ) → j ≡ held.next → passed records dropped b (part 0 (kids_at records) n lv c k).trees ≡ passed records dropped (is_struct (kind_at records k)) held.trees + passed records dropped b (behind j).trees
       kept_passed j ej = ap (λ (z : Part). passed records dropped b z.trees) (the_row j ej) ∙ passed_kept records dropped b k held.trees (behind j).trees (sym eg ∙ ef)
 
-      module _ {r : Step} {p₁ : List (List ℕ)} (p : OnePlanned records dropped adds n lv k plan i d v r p₁) where
+      module _ {r : Step} {p₁ : PlanRows} (p : OnePlanned records dropped adds n lv k plan i d v r p₁) where
         pub rebuild_stops : r ≡ None → G None p₁
         rebuild_stops e = onward_stops H.on (rebuilt_one records dropped adds n lv k) (rebuilt_trees (behind held.next).trees) (kept held.next refl) (full_over p e)
 

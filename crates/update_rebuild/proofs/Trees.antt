@@ -25,6 +25,7 @@ use Rattle.plan.specs.Plan.{Source, slot_of, bits_of}
 use Rattle.update_rebuild.specs.declared.Place.{Place}
 use Rattle.update_rebuild.specs.Sources.{added_source, added_tree}
 use Rattle.update_rebuild.specs.Planned.{Planned, AddedIn, StandsAt}
+use Rattle.plan.specs.declared.PlanRows.{PlanRows}
 
 -- Ids in preorder are ids by the slot.
 fresh_row : (kids id : ℕ → ℕ) (n c k : ℕ) (t : Forest ℕ) → Laid kids n k t → ((d : ℕ) → id (k + d) ≡ c + d) → fresh added_source c t ≡ mapped (λ j. added_source (id j) j) t
@@ -34,7 +35,7 @@ fresh_row kids id n c k (node j m u) h e =
     let first : id k ≡ c = rw (add-zero k, add-zero c) at (e 0) in
     rw (h.0, first, fresh_row kids id n (suc c) (suc k) m h.3 (λ d. let z : suc k + d ≡ k + suc d = omega arith in rw z (e (suc d) ∙ omega arith)), fresh_row kids id n (suc (c + size m)) (suc (k + size m)) u h.4 (λ d. let z : suc (k + size m) + d ≡ k + suc (size m + d) = omega arith in rw z (e (suc (size m + d)) ∙ omega arith)))
 
-module _ (added : List ℕ) (n k id past lv i c v : ℕ) (plan : List (List ℕ)) (w : Walked) (few : lv ≤ 16) (ew : w ≡ ended (row 1 (kids_at added) n lv 1 k)) (h : reads 1 (kids_at added) n 16 1 k ≡ true) where
+module _ (added : List ℕ) (n k id past lv i c v : ℕ) (plan : PlanRows) (w : Walked) (few : lv ≤ 16) (ew : w ≡ ended (row 1 (kids_at added) n lv 1 k)) (h : reads 1 (kids_at added) n 16 1 k ≡ true) where
   abbrev slots : Forest ℕ
   slots = (part 1 (kids_at added) n 16 1 k).trees
 
@@ -56,7 +57,7 @@ module _ (added : List ℕ) (n k id past lv i c v : ℕ) (plan : List (List ℕ)
       let b = ap (λ (q : Part). q.next) z in
       (omega arith, omega (arith, f.next))
 
-  pub tree_goes : (e : ℕ) (p₁ : List (List ℕ)) → w ≡ Ok e → i ≤ 1024 → e - k ≤ 1024 - i → AddedIn (kids_at added) k (e - k) (turned id) plan i p₁ → (o : Place) → StandsAt past (i + (e - k)) (c + 1) (v + (e - k)) o
+  pub tree_goes : (e : ℕ) (p₁ : PlanRows) → w ≡ Ok e → i ≤ 1024 → e - k ≤ 1024 - i → AddedIn (kids_at added) k (e - k) (turned id) plan i p₁ → (o : Place) → StandsAt past (i + (e - k)) (c + 1) (v + (e - k)) o
       → Planned (added_tree added n k id) 0 past lv i c v plan (Some o) p₁
   tree_goes e p₁ ee l m r o stands =
       let d = tree_ends e ee in
@@ -80,10 +81,10 @@ module _ (added : List ℕ) (n k id past lv i c v : ℕ) (plan : List (List ℕ)
         };
       }
 
-  pub tree_wide : (e : ℕ) (p₁ : List (List ℕ)) → w ≡ Ok e → 1024 - i < e - k → Planned (added_tree added n k id) 0 past lv i c v plan None p₁
+  pub tree_wide : (e : ℕ) (p₁ : PlanRows) → w ≡ Ok e → 1024 - i < e - k → Planned (added_tree added n k id) 0 past lv i c v plan None p₁
   tree_wide e p₁ ee l = rw added_is record { by = record { over = λ y z. let q = size_mapped source slots in omega (arith, tree_ends e ee) } }
 
-  pub tree_deep : (t : Refusal) (p₁ : List (List ℕ)) → w ≡ Err t → Planned (added_tree added n k id) 0 past lv i c v plan None p₁
+  pub tree_deep : (t : Refusal) (p₁ : PlanRows) → w ≡ Err t → Planned (added_tree added n k id) 0 past lv i c v plan None p₁
   tree_deep t p₁ et =
       let p = part 1 (kids_at added) n 16 1 k in
       rw added_is

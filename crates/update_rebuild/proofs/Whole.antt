@@ -22,6 +22,7 @@ use Rattle.update_rebuild.specs.declared.Place.{Place}
 use Rattle.update_rebuild.specs.Answers.{Step}
 use Rattle.update_rebuild.specs.Sources.{parent, rebuilt_base, passed_base}
 use Rattle.update_rebuild.specs.Planned.{Readable, Based, PlannedBy, RowPlanned, fits, verdict, Rebuilds}
+use Rattle.plan.specs.declared.PlanRows.{PlanRows}
 
 -- ---- the verdict
 
@@ -45,7 +46,7 @@ verdict_full n d t h = go (fits t) refl
     go true e = absurd (h e)
     go false e = rw e
 
-judged : (t : Forest Source) (d n : ℕ) (plan : List (List ℕ)) (r : Step) (plan' : List (List ℕ)) → PlannedBy r t d n 16 0 0 0 plan plan' → Rebuilds t d n plan r plan'
+judged : (t : Forest Source) (d n : ℕ) (plan : PlanRows) (r : Step) (plan' : PlanRows) → PlannedBy r t d n 16 0 0 0 plan plan' → Rebuilds t d n plan r plan'
 judged t d n plan (Some w) plan' h = record { answer = verdict_went n d t w (fits_of t h.low (omega (arith, h.at, h.room))) h.next (omega (arith, h.at)) (omega (arith, h.count)) (omega (arith, h.visited)); laid = λ e. h.laid }
 judged t d n plan None plan' h =
     let no : fits t ≡ true → ⊥ = λ e. h.over (of_fits t e).0 (let z = (of_fits t e).1 in omega arith) in
@@ -69,6 +70,6 @@ module _ {records : List ℕ} {n c : ℕ} (b : Based records n c) where
       let e : part 0 (kids_at records) n 16 c 0 ≡ p = part_is 0 (kids_at records) n 16 c 0 p (rw ec g.0) in
       rw (ep, e) (refl, g.1)
 
-  pub base_rebuilt : (dropped : List ℕ) (adds : List (Addition Source)) (plan : List (List ℕ)) (r : Step) (plan' : List (List ℕ)) → RowPlanned records dropped adds n 16 c 0 (parent 0) true plan 0 r plan' → Rebuilds (rebuilt_base records n dropped adds) (passed_base records n dropped) n plan r plan'
+  pub base_rebuilt : (dropped : List ℕ) (adds : List (Addition Source)) (plan : PlanRows) (r : Step) (plan' : PlanRows) → RowPlanned records dropped adds n 16 c 0 (parent 0) true plan 0 r plan' → Rebuilds (rebuilt_base records n dropped adds) (passed_base records n dropped) n plan r plan'
   unfolding rebuilt_base passed_base parent
   base_rebuilt dropped adds plan r plan' h = rw base_is.0 (judged _ _ n plan r plan' (rw base_is.1 at h.by))

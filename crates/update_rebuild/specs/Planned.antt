@@ -17,6 +17,8 @@ use Rattle.update_rebuild.specs.declared.Place.{Place}
 use Rattle.update_rebuild.specs.Answers.{Step}
 use Rattle.update_rebuild.specs.declared.Head.{Head}
 use Rattle.update_rebuild.specs.Sources.{additions, rebuilt_row, rebuilt_one, passed}
+use Rattle.plan.specs.declared.PlanRows.{PlanRows}
+use Rattle.update_rebuild.specs.declared.Decisions.{Decisions}
 
 -- ---- what is asked
 
@@ -45,23 +47,23 @@ pub record Resolved (added : List ℕ) (n : ℕ) (unders firsts : List ℕ) (tot
   pub tree : (j : ℕ) → j < total → reads 1 (kids_at added) n 16 1 (get_or firsts j 0) ≡ true
 
 -- The rows of what was decided.
-abbrev pub drops_in : List (List ℕ) → List ℕ
-drops_in decisions = get_or decisions 0 []
+abbrev pub drops_in : Decisions → List ℕ
+drops_in decisions = decisions.drops
 
-abbrev pub unders_in : List (List ℕ) → List ℕ
-unders_in decisions = get_or decisions 1 []
+abbrev pub unders_in : Decisions → List ℕ
+unders_in decisions = decisions.unders
 
-abbrev pub firsts_in : List (List ℕ) → List ℕ
-firsts_in decisions = get_or decisions 2 []
+abbrev pub firsts_in : Decisions → List ℕ
+firsts_in decisions = decisions.firsts
 
-abbrev pub starts_in : List (List ℕ) → List ℕ
-starts_in decisions = get_or decisions 3 []
+abbrev pub starts_in : Decisions → List ℕ
+starts_in decisions = decisions.starts
 
-abbrev pub ResolvedIn : (added : List ℕ) (given : Given) (decisions : List (List ℕ)) → Type 0
+abbrev pub ResolvedIn : (added : List ℕ) (given : Given) (decisions : Decisions) → Type 0
 ResolvedIn added given decisions =
     Resolved added given.added (unders_in decisions) (firsts_in decisions) given.additions
 
-abbrev pub additions_in : (added : List ℕ) (given : Given) (decisions : List (List ℕ)) → List (Addition Source)
+abbrev pub additions_in : (added : List ℕ) (given : Given) (decisions : Decisions) → List (Addition Source)
 additions_in added given decisions =
     additions added given.added (unders_in decisions) (firsts_in decisions) (starts_in decisions) given.additions
 
@@ -74,7 +76,7 @@ pub record Based (records : List ℕ) (n c : ℕ) : Type 0 where
 -- ---- what is left
 
 -- t was planned from i on after c siblings and v records visited, with lv levels left for it, and d dropped members were passed
-pub record Whole (t : Forest Source) (d past lv i c v : ℕ) (plan : List (List ℕ)) (w : Place) (plan' : List (List ℕ)) : Type 0 where
+pub record Whole (t : Forest Source) (d past lv i c v : ℕ) (plan : PlanRows) (w : Place) (plan' : PlanRows) : Type 0 where
   pub next : w.next ≡ past
   pub at : w.at ≡ i + size t
   pub count : w.count ≡ c + siblings t
@@ -87,19 +89,18 @@ pub record Whole (t : Forest Source) (d past lv i c v : ℕ) (plan : List (List 
 pub record Over (t : Forest Source) (lv i : ℕ) : Type 0 where
   pub over : levels t ≤ lv → i + size t ≤ 1024 → ⊥
 
-abbrev pub PlannedBy : Step → (t : Forest Source) (d past lv i c v : ℕ) (plan plan' : List (List ℕ)) → Type 0
+abbrev pub PlannedBy : Step → (t : Forest Source) (d past lv i c v : ℕ) (plan plan' : PlanRows) → Type 0
 PlannedBy (Some w) t d past lv i c v plan plan' = Whole t d past lv i c v plan w plan'
 PlannedBy None t d past lv i c v plan plan' = Over t lv i
 
-pub record Planned (t : Forest Source) (d past lv i c v : ℕ) (plan : List (List ℕ)) (r : Step) (plan' : List (List ℕ)) : Type 0 where
+pub record Planned (t : Forest Source) (d past lv i c v : ℕ) (plan : PlanRows) (r : Step) (plan' : PlanRows) : Type 0 where
   pub by : PlannedBy r t d past lv i c v plan plan'
 
 -- The n added records from slot k on stand in the plan from place i on, with ids from `id` on, and the rest is as it was.
-pub record AddedIn (kids : ℕ → ℕ) (k n id : ℕ) (plan : List (List ℕ)) (i : ℕ) (plan' : List (List ℕ)) : Type 0 where
+pub record AddedIn (kids : ℕ → ℕ) (k n id : ℕ) (plan : PlanRows) (i : ℕ) (plan' : PlanRows) : Type 0 where
   pub sources_set : sources plan' ≡ sets (sources plan) i (from (λ j. 1024 + j) k n)
   pub numbers_set : numbers plan' ≡ sets (numbers plan) i (from (λ j. turned (id + (j - k))) k n)
   pub members_set : members plan' ≡ sets (members plan) i (from kids k n)
-  pub rows : length plan' ≡ 3
 
 pub record HeadOf (records : List ℕ) (k : ℕ) (h : Head) : Type 0 where
   pub id : h.id ≡ (rec_at records k).id
@@ -116,12 +117,12 @@ pub record StandsAt (next at count visited : ℕ) (w : Place) : Type 0 where
 unfoldable pub closing : List (Addition Source) → Option ℕ → (open? : Bool) → Forest Source
 closing adds q open? = cond open? (arriving adds q) empty
 
-abbrev pub RowPlanned : (records dropped : List ℕ) (adds : List (Addition Source)) (n lv c k : ℕ) (q : Option ℕ) (open? : Bool) (plan : List (List ℕ)) (i : ℕ) (r : Step) (plan' : List (List ℕ)) → Type 0
+abbrev pub RowPlanned : (records dropped : List ℕ) (adds : List (Addition Source)) (n lv c k : ℕ) (q : Option ℕ) (open? : Bool) (plan : PlanRows) (i : ℕ) (r : Step) (plan' : PlanRows) → Type 0
 RowPlanned records dropped adds n lv c k q open? plan i r plan' =
     Planned (rebuilt_row records dropped adds q open? (part 0 (kids_at records) n lv c k).trees)
     (passed records dropped open? (part 0 (kids_at records) n lv c k).trees) (part 0 (kids_at records) n lv c k).next lv i 0 0 plan r plan'
 
-abbrev pub OnePlanned : (records dropped : List ℕ) (adds : List (Addition Source)) (n lv k : ℕ) (plan : List (List ℕ)) (i c v : ℕ) (r : Step) (plan' : List (List ℕ)) → Type 0
+abbrev pub OnePlanned : (records dropped : List ℕ) (adds : List (Addition Source)) (n lv k : ℕ) (plan : PlanRows) (i c v : ℕ) (r : Step) (plan' : PlanRows) → Type 0
 OnePlanned records dropped adds n lv k plan i c v r plan' =
     Planned (rebuilt_one records dropped adds n lv k)
     (passed records dropped (is_struct (kind_at records k)) (part 0 (kids_at records) n (lv - 1) (kids_at records k) (k + 1)).trees)
@@ -137,6 +138,6 @@ unfoldable pub verdict : (n d : ℕ) → Forest Source → Step
 verdict n d t = cond (fits t) (Some (record { next = n; at = size t; count = siblings t; visited = size t + d })) None
 
 -- t is the plan of n records, of which d dropped members were passed.
-pub record Rebuilds (t : Forest Source) (d n : ℕ) (plan : List (List ℕ)) (r : Step) (plan' : List (List ℕ)) : Type 0 where
+pub record Rebuilds (t : Forest Source) (d n : ℕ) (plan : PlanRows) (r : Step) (plan' : PlanRows) : Type 0 where
   pub answer : r ≡ verdict n d t
   pub laid : fits t ≡ true → LaidIn t 0 plan plan'

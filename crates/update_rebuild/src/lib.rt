@@ -123,7 +123,7 @@ fn is_leaf(head: Head) -> bool
 // So many added records from a slot on, planned from place `at` on, with ids in preorder.
 fn put_added(added: &[u8], slot: usize, count: usize, id: u32, plan: &mut PlanRows, at: usize)
     requires { ((slot + count) * 24 ≤ length added.now) × (slot + count ≤ 1024)
-        × (at + count ≤ 1024) × (length plan.old ≡ 3) }
+        × (at + count ≤ 1024) }
     ensures { AddedIn (kids_at added.now) slot count (turned id)
         plan.old at plan.new }
 {
@@ -190,8 +190,7 @@ fn add_tree(
 ) -> Option<Place>
     requires { (m * 24 ≤ length added.now) × (m ≤ 1024) × (slot ≤ m)
         × (reads 1 (kids_at added.now) m 16 1 slot ≡ true) × (levels ≤ 16) × (place.at ≤ 1024)
-        × (place.count ≤ place.at) × (place.visited ≤ place.at + 1024)
-        × (length plan.old ≡ 3) }
+        × (place.count ≤ place.at) × (place.visited ≤ place.at + 1024) }
     ensures { Planned (added_tree added.now m slot id) 0 place.next levels
         place.at place.count place.visited plan.old result plan.new }
 {
@@ -218,8 +217,7 @@ fn add_all(
     place: Place,
 ) -> Option<Place>
     requires { ResolvedIn added.now given decisions.now × (q ≤ 4294967296) × (levels ≤ 16)
-        × (place.at ≤ 1024) × (place.count ≤ place.at) × (place.visited ≤ place.at + 1024)
-        × (length plan.old ≡ 3) }
+        × (place.at ≤ 1024) × (place.count ≤ place.at) × (place.visited ≤ place.at + 1024) }
     ensures { Planned (arriving (additions_in added.now given
         decisions.now) (parent q)) 0 place.next levels place.at place.count
         place.visited plan.old result plan.new }
@@ -256,7 +254,7 @@ fn close(
 ) -> Option<Place>
     requires { ResolvedIn added.now given decisions.now × (under.q ≤ 4294967296)
         × (levels ≤ 16) × (place.at ≤ 1024) × (place.count ≤ place.at)
-        × (place.visited ≤ place.at + 1024) × (length plan.old ≡ 3) }
+        × (place.visited ≤ place.at + 1024) }
     ensures { Planned (closing (additions_in added.now given
         decisions.now) (parent under.q) under.opens) 0 place.next levels
         place.at place.count place.visited plan.old result
@@ -284,8 +282,7 @@ pub fn rebuild_field<'a>(
     requires { Inside (trees_in trees.now).records given.base levels slot
         × Good (set_of dropped.now drops)
         × ResolvedIn (trees_in trees.now).added_records given decisions.now
-        × (place.at ≤ 1024) × (place.count ≤ place.at) × (place.visited ≤ place.at + slot)
-        × (length plan.old ≡ 3) }
+        × (place.at ≤ 1024) × (place.count ≤ place.at) × (place.visited ≤ place.at + slot) }
     ensures { OnePlanned (trees_in trees.now).records
         (dropped_ids (set_of dropped.now drops))
         (additions_in (trees_in trees.now).added_records given
@@ -344,8 +341,7 @@ pub fn rebuild_fields<'a>(
 ) -> Option<Place>
     requires { Readable (trees_in trees.now).records given.base row.levels row.count
         row.slot × (under.q ≤ 4294967296) × Good (set_of dropped.now drops)
-        × ResolvedIn (trees_in trees.now).added_records given decisions.now × (at ≤ 1024)
-        × (length plan.old ≡ 3) }
+        × ResolvedIn (trees_in trees.now).added_records given decisions.now × (at ≤ 1024) }
     ensures { RowPlanned (trees_in trees.now).records
         (dropped_ids (set_of dropped.now drops))
         (additions_in (trees_in trees.now).added_records given
@@ -393,8 +389,7 @@ pub fn rebuild<'a>(
 ) -> Option<Place>
     requires { Based (trees_in trees.now).records given.base roots
         × Good (set_of dropped.now drops)
-        × ResolvedIn (trees_in trees.now).added_records given decisions.now
-        × (length plan.old ≡ 3) }
+        × ResolvedIn (trees_in trees.now).added_records given decisions.now }
     ensures { Rebuilds (rebuilt_base (trees_in trees.now).records given.base
         (dropped_ids (set_of dropped.now drops))
         (additions_in (trees_in trees.now).added_records given

@@ -17,6 +17,8 @@ use Rattle.update_rebuild.specs.declared.Given.{Given}
 use Rattle.update_rebuild.specs.Planned.{drops_in, unders_in, firsts_in, starts_in}
 use Rattle.update_schema.specs.Base.{BasedIn, Entries}
 use Rattle.update_schema.specs.Additions.{all_placed, PlacesBy, ColumnsIn}
+use Rattle.plan.specs.declared.PlanRows.{PlanRows}
+use Rattle.update_rebuild.specs.declared.Decisions.{Decisions}
 
 unfoldable pub changes : Forest Field → (identifiers request deletions : List ℕ) (drops : ℕ) (added additions : List ℕ) (total m last : ℕ) → Answer Placed
 changes t identifiers request deletions d added additions total m last = deleted t identifiers 0 (from (path_of request deletions) 0 d) >>= λ dropped. all_placed t dropped request added additions total m last
@@ -27,7 +29,7 @@ pub record Decides (t : Forest Field) (identifiers request deletions : List ℕ)
   pub dropped : (e : ℕ) → r ≡ Ok e → deleted t identifiers 0 (from (path_of request deletions) 0 d) ≡ ok (row_ids bits d)
 
 -- All that was tested before anything is decided: the base as a plan of itself with its index, and the lists.
-pub record Asked (l : Trees) (lists : Lists) (given : Given) (plan index : List (List ℕ)) : Type 0 where
+pub record Asked (l : Trees) (lists : Lists) (given : Given) (plan : PlanRows) (index : List (List ℕ)) : Type 0 where
   pub based : BasedIn l plan given.base
   pub indexed : Index l plan given.base index
   pub identifiers_few : length lists.identifiers ≤ 256
@@ -36,7 +38,7 @@ pub record Asked (l : Trees) (lists : Lists) (given : Given) (plan index : List 
   pub low : given.last < 4294967296
 
 -- The same of the tables.
-abbrev pub DecidesIn : Trees → Lists → Given → (plan : List (List ℕ)) (r : Decided) (decisions : List (List ℕ)) → Type 0
+abbrev pub DecidesIn : Trees → Lists → Given → (plan : PlanRows) (r : Decided) (decisions : Decisions) → Type 0
 DecidesIn l lists given plan r decisions =
     Decides (fields_in l plan given.base) (id_list lists.identifiers) l.request_pool lists.deletions
     given.deletions l.added_records lists.additions given.additions given.added given.last r

@@ -14,6 +14,8 @@ use Rattle.update_dropped.specs.Gathered.{row_ids}
 use Rattle.update_rebuild.specs.declared.Given.{Given}
 use Rattle.update_rebuild.specs.Planned.{drops_in}
 use Rattle.update_schema.specs.Base.{DecisionsRoom}
+use Rattle.plan.specs.declared.PlanRows.{PlanRows}
+use Rattle.update_rebuild.specs.declared.Decisions.{Decisions}
 
 -- What the paper's deletions answer: the ids in the row, or the refusal.
 abbrev pub DropsBy : Check → Answer (List ℕ) → List ℕ → ℕ → Type 0
@@ -24,7 +26,7 @@ pub record DropsAll (t : Forest Field) (identifiers request deletions : List ℕ
   pub by : DropsBy r (deleted t identifiers 0 (from (path_of request deletions) 0 total)) bits total
 
 -- The same of the tables, which keep their room.
-pub record DropsIn (l : Trees) (lists : Lists) (given : Given) (plan : List (List ℕ)) (r : Check) (decisions : List (List ℕ)) : Type 0 where
+pub record DropsIn (l : Trees) (lists : Lists) (given : Given) (plan : PlanRows) (r : Check) (decisions : Decisions) : Type 0 where
   pub drops : DropsAll (fields_in l plan given.base) (id_list lists.identifiers) l.request_pool lists.deletions
       given.deletions r (drops_in decisions)
   pub room : DecisionsRoom decisions

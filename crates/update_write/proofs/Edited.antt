@@ -19,6 +19,7 @@ use Rattle.std.specs.Prelude.{Some, None}
 use Rattle.update_rebuild.specs.Planned.{fits, verdict, Rebuilds}
 use Rattle.update_rebuild.proofs.Whole.{of_fits}
 use Rattle.update_write.proofs.Verdict.{verdict_went, verdict_full}
+use Rattle.plan.specs.declared.PlanRows.{PlanRows}
 
 -- no mark, no other source
 bare : (x : ℕ) → remarked (replicate 1024 0) x ≡ x
@@ -43,14 +44,14 @@ verdict_mapped : (g : Source → Source) (n k : ℕ) (t : Forest Source) → ver
 unfolding verdict
 verdict_mapped g n k t = rw (fits_mapped g t, size_mapped g t, siblings_mapped g t)
 
-pub mark_asks : (t : Forest Source) (k n : ℕ) (plan plan' : List (List ℕ)) (r : Step) → Rebuilds t k n plan r plan' → (w : Place) → r ≡ Some w → (w.at ≤ 1024) × (length plan' ≡ 3)
+pub mark_asks : (t : Forest Source) (k n : ℕ) (plan plan' : PlanRows) (r : Step) → Rebuilds t k n plan r plan' → (w : Place) → r ≡ Some w → (w.at ≤ 1024) × (length plan' ≡ 3)
 mark_asks t k n plan plan' r v w d =
     let z = verdict_went n k t r w v.answer d in
     let f = (of_fits t z.0).1 in
     let e = z.1 in
     (omega arith, (v.laid z.0).rows)
 
-module _ (t : Forest Source) (k n : ℕ) (marks : List ℕ) (plan plan' : List (List ℕ)) (r : Step) (v : Rebuilds t k n plan r plan') where
+module _ (t : Forest Source) (k n : ℕ) (marks : List ℕ) (plan plan' : PlanRows) (r : Step) (v : Rebuilds t k n plan r plan') where
   pub full_edited : r ≡ None → Rebuilds (mapped (remark marks) t) k n plan None plan'
   full_edited d =
       record {
@@ -62,7 +63,7 @@ module _ (t : Forest Source) (k n : ℕ) (marks : List ℕ) (plan plan' : List (
     pub unmarked_edited : (edits : ℕ) → edits ≡ 0 → (edits ≡ 0 → Unmarked marks) → Rebuilds (mapped (remark marks) t) k n plan (Some w) plan'
     unmarked_edited edits e u = rw (u e, bare_tree t, ← d) v
 
-    pub marked_edited : (plan'' : List (List ℕ)) → Roomy plan → RemarkedIn marks w.at plan' plan'' → Rebuilds (mapped (remark marks) t) k n plan (Some w) plan''
+    pub marked_edited : (plan'' : PlanRows) → Roomy plan → RemarkedIn marks w.at plan' plan'' → Rebuilds (mapped (remark marks) t) k n plan (Some w) plan''
     marked_edited plan'' room m =
         let z = verdict_went n k t r w v.answer d in
         record {

@@ -63,6 +63,8 @@ use Rattle.update_rebuild.proofs.Whole.{of_fits}
 use Rattle.update_dropped.specs.Gathered.{row_ids, Gathered}
 use Rattle.update_write.proofs.Verdict.{verdict_went, verdict_full}
 use Rattle.update_write.specs.Ending.{sounded, limited_sounded, Rebuildable, rebuilt_tree, visited_in, Ends}
+use Rattle.plan.specs.declared.PlanRows.{PlanRows}
+use Rattle.update_rebuild.specs.declared.Decisions.{Decisions}
 
 -- ---- sources
 
@@ -81,7 +83,7 @@ within_fits : (g : Source → Field) (t : Forest Source) → within (mapped g t)
 unfolding within fits
 within_fits g t = rw (size_mapped g t, levels_mapped g t) (and_and (leb (size t) 1024) (leb (levels t) 16) (leb (name_bytes (mapped g t)) 32768))
 
-module _ (l : Trees) (i : List ℕ) (given : Given) (c : ℕ) (decisions : List (List ℕ)) (marks : List ℕ) (plan index : List (List ℕ)) (out text : List ℕ) (h : Rebuildable l i given c decisions marks plan index out text) where
+module _ (l : Trees) (i : List ℕ) (given : Given) (c : ℕ) (decisions : Decisions) (marks : List ℕ) (plan : PlanRows) (index : List (List ℕ)) (out text : List ℕ) (h : Rebuildable l i given c decisions marks plan index out text) where
   abbrev Ending : Changed → List ℕ → List ℕ → Type 0
   Ending r out' text' = Ends l i given decisions marks out text r out' text'
 
@@ -179,7 +181,7 @@ module _ (l : Trees) (i : List ℕ) (given : Given) (c : ℕ) (decisions : List 
     unfolding limited_sounded ◌>>=◌
     over e = record { ends = λ base d edits w. refuses _ (refusal_of 19 4 0) (for_records out ∷ for_names text ∷ []) (rw (← (tree_is base d edits w), e)) }
 
-    module _ (y : Step) (plan' : List (List ℕ)) (v : Rebuilds t (passed_base l.records given.base (dropped_ids held)) given.base plan y plan') where
+    module _ (y : Step) (plan' : PlanRows) (v : Rebuilds t (passed_base l.records given.base (dropped_ids held)) given.base plan y plan') where
       pub full_stops : y ≡ None → Ending (Err (refusal_of 19 4 0)) out text
       full_stops d = over (within_fits (planned_field l) t ∙ rw (verdict_full given.base _ t y v.answer d))
 

@@ -26,6 +26,8 @@ use Rattle.update_edits.specs.Marks.{Unmarked, Carries}
 use Rattle.update_rebuild.specs.declared.Given.{Given}
 use Rattle.update_rebuild.specs.Planned.{drops_in, ResolvedIn, additions_in}
 use Rattle.update_dropped.specs.Gathered.{row_ids}
+use Rattle.plan.specs.declared.PlanRows.{PlanRows}
+use Rattle.update_rebuild.specs.declared.Decisions.{Decisions}
 
 -- 7 to 9 of a rebuilt tree, then the answer with the bits of the last id and the number of records visited.
 unfoldable pub sounded : Forest Field → (identifiers : List ℕ) → (last visited : ℕ) → Answer Result
@@ -41,7 +43,7 @@ limited_sounded tree identifiers last visited = do
 
 -- Both trees passed 2 to 6, the base with so many roots; the additions are resolved, and the marks carry edits; the tables have their
 -- room; the buffers passed 1.
-pub record Rebuildable (l : Trees) (identifiers : List ℕ) (given : Given) (roots : ℕ) (decisions : List (List ℕ)) (marks : List ℕ) (plan index : List (List ℕ)) (out_records out_names : List ℕ) : Type 0 where
+pub record Rebuildable (l : Trees) (identifiers : List ℕ) (given : Given) (roots : ℕ) (decisions : Decisions) (marks : List ℕ) (plan : PlanRows) (index : List (List ℕ)) (out_records out_names : List ℕ) : Type 0 where
   pub base : Forest Field
   pub added : Forest Field
   pub base_limits : sized l.records l.pool ≡ true
@@ -62,18 +64,18 @@ pub record Rebuildable (l : Trees) (identifiers : List ℕ) (given : Given) (roo
   pub names_room : 32768 ≤ length out_names
 
 -- The base rebuilt by what was decided.
-unfoldable pub rebuilt_tree : Trees → Given → (decisions : List (List ℕ)) → List Edited → (base : Forest Field) → Forest Field
+unfoldable pub rebuilt_tree : Trees → Given → (decisions : Decisions) → List Edited → (base : Forest Field) → Forest Field
 rebuilt_tree l given decisions edits base =
     rebuilt id_of kind_of (row_ids (drops_in decisions) given.deletions)
     (mapped_all (planned_field l) (additions_in l.added_records given decisions)) none true (edited_tree edits base)
 
 -- The records visited: those of the rebuilt tree, and the dropped members that are passed.
-abbrev pub visited_in : Given → (decisions : List (List ℕ)) → (base tree : Forest Field) → ℕ
+abbrev pub visited_in : Given → (decisions : Decisions) → (base tree : Forest Field) → ℕ
 visited_in given decisions base tree =
     size tree + length (outermost id_of kind_of (row_ids (drops_in decisions) given.deletions) true base)
 
 -- It is what is answered and written, with the edits that the marks carry.
-pub record Ends (l : Trees) (identifiers : List ℕ) (given : Given) (decisions : List (List ℕ)) (marks out_records out_names : List ℕ) (r : Changed) (out_records' out_names' : List ℕ) : Type 0 where
+pub record Ends (l : Trees) (identifiers : List ℕ) (given : Given) (decisions : Decisions) (marks out_records out_names : List ℕ) (r : Changed) (out_records' out_names' : List ℕ) : Type 0 where
   pub ends : (base : Forest Field) → decode 0 l.records l.pool ≡ ok base → (edits : List Edited) → Carries l given.base marks edits
       → Answers changes
       (limited_sounded (rebuilt_tree l given decisions edits base) (id_list identifiers) (turned given.last)

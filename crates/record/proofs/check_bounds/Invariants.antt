@@ -6,6 +6,3 @@ use Rattle.record.proofs.check_bounds.Given as goal
 
 abbrev pub invariant-loop-i : goal.invariant-loop-i
 invariant-loop-i l = (l.i ≤ l.n) × (lowest (in_pool l.pool l.recs) 0 l.n ≡ lowest (in_pool l.pool l.recs) l.i (l.n - l.i))
-
-abbrev pub decreases-loop-i : goal.decreases-loop-i
-decreases-loop-i l = l.n - l.i

@@ -6,6 +6,3 @@ use Rattle.record.proofs.check_bytes.Given as goal
 
 abbrev pub invariant-loop-i : goal.invariant-loop-i
 invariant-loop-i l = (l.i ≤ l.n) × (lowest (ok_bytes l.recs) 0 l.n ≡ lowest (ok_bytes l.recs) l.i (l.n - l.i))
-
-abbrev pub decreases-loop-i : goal.decreases-loop-i
-decreases-loop-i l = l.n - l.i

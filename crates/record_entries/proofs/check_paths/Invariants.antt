@@ -7,6 +7,3 @@ use Rattle.record_entries.proofs.check_paths.Given as goal
 
 abbrev pub invariant-loop-k : goal.invariant-loop-k
 invariant-loop-k l = (l.k ≤ l.n) × (lowest (inside_of l.list l.pool l.entries) 0 l.n ≡ lowest (inside_of l.list l.pool l.entries) l.k (l.n - l.k))
-
-abbrev pub decreases-loop-k : goal.decreases-loop-k
-decreases-loop-k l = l.n - l.k

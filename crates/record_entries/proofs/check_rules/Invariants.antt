@@ -7,6 +7,3 @@ use Rattle.record_entries.proofs.check_rules.Given as goal
 
 abbrev pub invariant-loop-i : goal.invariant-loop-i
 invariant-loop-i l = (l.i ≤ l.n) × (lowest (rule_of l.list l.entries) 0 l.n ≡ lowest (rule_of l.list l.entries) l.i (l.n - l.i))
-
-abbrev pub decreases-loop-i : goal.decreases-loop-i
-decreases-loop-i l = l.n - l.i

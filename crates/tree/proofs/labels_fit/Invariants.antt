@@ -1,10 +1,6 @@
 -- What is directly inside each record below the place reached fits.
 use Rattle.tree.proofs.Fitted.{FitBelow}
-use Prim.Native.Nat.{◌-◌}
 use Rattle.tree.proofs.labels_fit.Given as goal
 
 abbrev pub invariant-loop-slot : goal.invariant-loop-slot
 invariant-loop-slot l = FitBelow l.pool l.recs l.n l.slot
-
-abbrev pub decreases-loop-slot : goal.decreases-loop-slot
-decreases-loop-slot l = l.n - l.slot
