@@ -29,9 +29,9 @@ use Rattle.plan.specs.declared.PlanRows.{PlanRows}
 -- ---- laying
 
 -- Nothing is laid.
-pub laid_none : (i : ℕ) (plan : PlanRows) → length plan ≡ 3 → LaidIn empty i plan plan
+pub laid_none : (i : ℕ) (plan : PlanRows) → LaidIn empty i plan plan
 unfolding preorder counts
-laid_none i plan e = record { sources_set = refl; numbers_set = refl; members_set = refl; rows = e }
+laid_none i plan = record { sources_set = refl; numbers_set = refl; members_set = refl }
 
 -- Siblings behind siblings.
 mapped_then : (f : Source → ℕ) (t u : Forest Source) (i j : ℕ) (l l₁ l₂ : List ℕ) → j ≡ i + size t → l₁ ≡ sets l i (map f (preorder t)) → l₂ ≡ sets l₁ j (map f (preorder u)) → l₂ ≡ sets l i (map f (preorder (t then u)))
@@ -49,7 +49,6 @@ laid_then t u i j p p₁ p₂ e h g =
       sources_set = mapped_then slot_of t u i j (sources p) (sources p₁) (sources p₂) e h.sources_set g.sources_set;
       numbers_set = mapped_then bits_of t u i j (numbers p) (numbers p₁) (numbers p₂) e h.numbers_set g.numbers_set;
       members_set = g.members_set ∙ rw (h.members_set, d, counts_then t u) (sets_append (counts t) (counts u) (members p) i);
-      rows = g.rows;
     }
 
 -- A record stored after its inside.
@@ -67,7 +66,6 @@ laid_last a m i c p p₁ e h =
       sources_set = rw (map_append slot_of (preorder m) []) (stored_last a.slot (map slot_of (preorder m)) (sources p) (sources p₁) i h.sources_set);
       numbers_set = rw (map_append bits_of (preorder m) []) (stored_last a.id (map bits_of (preorder m)) (numbers p) (numbers p₁) i h.numbers_set);
       members_set = rw e (stored_last (siblings m) (counts m) (members p) (members p₁) i h.members_set);
-      rows = refl;
     }
 
 -- Records that stand in a row of a list, copied as they stand there.
@@ -78,7 +76,6 @@ copied_laid s p n c k i d plan plan' u e h =
       sources_set = h.sources_set ∙ rw (q, map_from slot_of (own_source s) k d);
       numbers_set = h.numbers_set ∙ rw (q, map_from bits_of (own_source s) k d);
       members_set = h.members_set ∙ rw (counts_mapped (own_source s) p.trees, u.sizes, e);
-      rows = h.rows;
     }
 
 -- ---- sources that are there

@@ -16,7 +16,8 @@ use Rattle.paper.specs.Field.{is_required}
 use Rattle.paper.specs.Lists.{edit_at, edit_in, new_name}
 use Rattle.paper.specs.Edits.{relaxed}
 use Rattle.tree.proofs.Filled.{lt_or_le}
-use Rattle.record.specs.Trees.{Trees, lent_trees, trees_in, slice_at}
+use Rattle.record.specs.declared.Trees.{Trees as LentTrees}
+use Rattle.record.specs.Trees.{Trees, lent_trees, trees_in}
 use Rattle.record_entries.proofs.Entries.{edit_ends}
 use Rattle.plan.specs.Plan.{edited_slot, mark_of, low_part, renaming, widening, marked_name, marked_flags, marked_code, marked_field, by_source, source_field, Sits}
 use Rattle.plan.specs.Sources.{source_kind, marked_len, source_len, source_flags, source_code, NameAt, In}
@@ -139,15 +140,15 @@ module _ (base added edits : List ℕ) (x slot : ℕ) (l : 2048 ≤ x) (es : slo
 
 -- ---- the name as a part of its pool
 
-module _ (slices : List (Bor (List ℕ))) (x : ℕ) (r : Bor (List ℕ)) where
-  abbrev pub Part : (name : List ℕ) (pool at : ℕ) → Type 0
-  Part name pool at = (r.now ≡ name) × (r.ref_ptr.0 ≡ (slice_at slices pool).ref_ptr.0) × (r.ref_ptr.1 ≡ (slice_at slices pool).ref_ptr.1 + at)
+module _ (lent : LentTrees) (x : ℕ) (r : Bor (List ℕ)) where
+  abbrev pub Part : (name : List ℕ) (pool : Bor (List ℕ)) (at : ℕ) → Type 0
+  Part name pool at = (r.now ≡ name) × (r.ref_ptr.0 ≡ pool.ref_ptr.0) × (r.ref_ptr.1 ≡ pool.ref_ptr.1 + at)
 
-  pub name_base : x < 1024 → Part (name_of (trees_in slices).pool (trees_in slices).records x) 1 (rec_at (trees_in slices).records x).name_at → NameAt slices x r
+  pub name_base : x < 1024 → Part (name_of (trees_in lent).pool (trees_in lent).records x) lent.pool (rec_at (trees_in lent).records x).name_at → NameAt lent x r
   unfolding source_field field_at
   name_base b e = record { name = rw (lt-ltb x 1024 b) e.0; pool = rw (lt-ltb x 1024 b) e.1; offset = rw (lt-ltb x 1024 b) e.2 }
 
-  pub name_added : 1024 ≤ x → x < 2048 → Part (name_of (trees_in slices).request_pool (trees_in slices).added_records (x - 1024)) 3 (rec_at (trees_in slices).added_records (x - 1024)).name_at → NameAt slices x r
+  pub name_added : 1024 ≤ x → x < 2048 → Part (name_of (trees_in lent).request_pool (trees_in lent).added_records (x - 1024)) lent.request_pool (rec_at (trees_in lent).added_records (x - 1024)).name_at → NameAt lent x r
   unfolding source_field field_at
   name_added b c e =
       let p = le-ltb x 1024 b in
@@ -161,13 +162,13 @@ module _ (slices : List (Bor (List ℕ))) (x : ℕ) (r : Bor (List ℕ)) where
     not_added : ltb x 2048 ≡ false
     not_added = le-ltb x 2048 l
 
-    pub name_kept : (slot : ℕ) → slot ≡ edited_slot x → low < 2 → Part (name_of (trees_in slices).pool (trees_in slices).records slot) 1 (rec_at (trees_in slices).records slot).name_at → NameAt slices x r
+    pub name_kept : (slot : ℕ) → slot ≡ edited_slot x → low < 2 → Part (name_of (trees_in lent).pool (trees_in lent).records slot) lent.pool (rec_at (trees_in lent).records slot).name_at → NameAt lent x r
     unfolding source_field marked_field marked_name
     name_kept slot es b e =
         let p = lt-ltb low 2 b in
         record { name = rw (not_base, not_added, ← em, ← es, p) e.0; pool = rw (not_base, not_added, ← em, p) e.1; offset = rw (not_base, not_added, ← em, ← es, p) e.2 }
 
-    pub name_new : 2 ≤ low → Part (new_name (trees_in slices).request_pool (trees_in slices).edits (low / 2 - 1)) 3 (edit_at (trees_in slices).edits (low / 2 - 1)).name_at → NameAt slices x r
+    pub name_new : 2 ≤ low → Part (new_name (trees_in lent).request_pool (trees_in lent).edits (low / 2 - 1)) lent.request_pool (edit_at (trees_in lent).edits (low / 2 - 1)).name_at → NameAt lent x r
     unfolding source_field marked_field marked_name
     name_new b e =
         let p = le-ltb low 2 b in

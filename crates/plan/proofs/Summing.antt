@@ -2,7 +2,7 @@
 use Prim.Native.Nat.{ℕ, suc, ◌+◌, ◌-◌, ◌*◌, ◌<◌, ◌≤◌}
 use mathlib.Core.Path.{◌≡◌, sym, ◌∙◌}
 use mathlib.Core.Bool.{Bool, true, false}
-use mathlib.Core.List.{List, [], ◌∷◌}
+use mathlib.Core.List.{List}
 use native.Mathlib.Omega.{arith}
 use borrow.Author.Tests.{leb-true}
 use lib.Dec.{leb}
@@ -43,7 +43,7 @@ module _ (base added edits xs : List ℕ) (m : ℕ) where
       let d : m - i ≡ 0 = omega arith in
       let e : sum_from (len_in base added edits xs) 0 m ≡ sum + 0 = rw d at h.same in
       let f : sum_from (len_in base added edits xs) 0 m ≡ sum = omega arith in
-      record { says = λ pool request is ks g. rw (draft_sum (lent_trees base pool added request edits) (xs ∷ is ∷ ks ∷ []) m g, f) }
+      record { says = λ pool request is ks g. rw (draft_sum (lent_trees base pool added request edits) (record { sources = xs; numbers = is; members = ks }) m g, f) }
 
   pub source_inside : Inside base added edits xs m → (i : ℕ) → i < m → In base added edits (get_or xs i 0)
   source_inside h i l = h.all i l

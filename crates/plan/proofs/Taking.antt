@@ -2,7 +2,7 @@
 use Prim.Native.Nat.{ℕ, suc, ◌+◌, ◌-◌, ◌<◌, ◌≤◌}
 use mathlib.Core.Path.{◌≡◌, refl, sym, ◌∙◌}
 use mathlib.Core.Bool.{true}
-use mathlib.Core.List.{List, [], ◌∷◌}
+use mathlib.Core.List.{List}
 use native.Mathlib.Omega.{arith}
 use borrow.Author.Tests.{lt-ltb}
 use lib.ListN.{length, set}
@@ -32,14 +32,6 @@ use Rattle.plan.specs.declared.PlanRows.{PlanRows}
 
 -- ---- the loop: `search copying`
 
--- A store into each of the three rows.
-pub planned_three : (plan : PlanRows) (at source id kids : ℕ) → length plan ≡ 3 → let p₁ = set plan 0 (set (sources plan) at source) in let p₂ = set p₁ 1 (set (numbers p₁) at id) in set p₂ 2 (set (members p₂) at kids) ≡ planned_at plan at source id kids
-planned_three (xs ∷ is ∷ ks ∷ []) at source id kids e = refl
-planned_three [] at source id kids e = absurd (omega arith)
-planned_three (xs ∷ []) at source id kids e = absurd (omega arith)
-planned_three (xs ∷ is ∷ []) at source id kids e = absurd (omega arith)
-planned_three (xs ∷ is ∷ ks ∷ l ∷ ls) at source id kids e = absurd (omega arith)
-
 pub record Copying (s : List ℕ) (k n : ℕ) (plan : PlanRows) (at i : ℕ) (plan' : PlanRows) : Type 0 where
   pub within : i ≤ n
   pub copied : CopiedIn s k i plan at plan'
@@ -48,9 +40,9 @@ one_more : (g : ℕ → ℕ) (l l' : List ℕ) (at k i v : ℕ) → l' ≡ sets 
 one_more g l l' at k i v e q = rw (e, q) (from_more g l at k i)
 
 module _ (s : List ℕ) (k n : ℕ) (plan : PlanRows) (at : ℕ) where
-  pub copy_starts : length plan ≡ 3 → Copying s k n plan at 0 plan
+  pub copy_starts : Copying s k n plan at 0 plan
   unfolding from
-  copy_starts e = record { within = omega arith; copied = record { sources_set = refl; numbers_set = refl; members_set = refl; rows = e } }
+  copy_starts = record { within = omega arith; copied = record { sources_set = refl; numbers_set = refl; members_set = refl } }
 
   module _ (i : ℕ) (p : PlanRows) (h : Copying s k n plan at i p) where
     pub copy_goes : (v w : ℕ) (p' : PlanRows) → i < n → v ≡ id_bits s (k + i) → w ≡ kids_at s (k + i) → p' ≡ planned_at p (at + i) (k + i) v w → Copying s k n plan at (i + 1) p'
@@ -62,7 +54,6 @@ module _ (s : List ℕ) (k n : ℕ) (plan : PlanRows) (at : ℕ) where
             sources_set = one_more itself (sources plan) (sources p) at k i (k + i) c.sources_set refl;
             numbers_set = one_more (id_bits s) (numbers plan) (numbers p) at k i v c.numbers_set ev;
             members_set = one_more (kids_at s) (members plan) (members p) at k i w c.members_set ew;
-            rows = refl;
           });
         }
 

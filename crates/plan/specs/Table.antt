@@ -1,5 +1,5 @@
 -- A plan as one table: its three rows by their names, and what is said of a plan, said of its table.
-use Rattle.std.specs.Prelude.{ℕ, ◌≡◌, List, [], ◌∷◌, map, length, get_or, set}
+use Rattle.std.specs.Prelude.{ℕ, ◌≡◌, List, map, length, set}
 use Rattle.std.proofs.lemmas.List.Edits.{sets}
 use Rattle.paper.specs.Forest.{Forest, preorder, counts}
 use Rattle.paper.specs.Field.{Field}

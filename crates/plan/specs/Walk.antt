@@ -1,6 +1,6 @@
 -- The trees of a row as far as there are levels and records, so that a walk over a plan needs no count of the roots: m roots are
 -- enough. Where refusal 5 has been tested this is the row that is read.
-use Rattle.std.specs.Prelude.{ℕ, zero, suc, true, false, List, ltb}
+use Rattle.std.specs.Prelude.{ℕ, zero, suc, true, false, ltb}
 use Rattle.paper.specs.Forest.{Forest}
 use Rattle.paper.specs.Layout.{Part, nothing, before}
 use Rattle.plan.specs.Plan.{kids_in}

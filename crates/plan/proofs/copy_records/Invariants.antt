@@ -1,10 +1,6 @@
 -- After i turns the first i records are planned.
 use Rattle.plan.proofs.Taking.{Copying}
-use Prim.Native.Nat.{◌-◌}
 use Rattle.plan.proofs.copy_records.Given as goal
 
 abbrev pub invariant-loop-i : goal.invariant-loop-i
 invariant-loop-i l = Copying l.records l.slot l.count l.initial.plan l.at l.i l.plan
-
-abbrev pub decreases-loop-i : goal.decreases-loop-i
-decreases-loop-i l = l.count - l.i
