@@ -92,12 +92,12 @@ trees_first l lists =
     go (ok t) (refused i l k) u v w = refl
     go (refused i l k) y u v w = refl
 
-open_ok : (P : Type 0) (x : Answer Forests) (w : Opened) (c c' : ℕ) → w ≡ opened x → w ≡ Ok (c, c') → ((t : Forests) → x ≡ ok t → Ok (c, c') ≡ opened (ok t) → P) → P
+open_ok : (P : Type 0) (x : Answer Forests) (w : Opened) (cs : ℕ × ℕ) → w ≡ opened x → w ≡ Ok cs → ((t : Forests) → x ≡ ok t → Ok cs ≡ opened (ok t) → P) → P
 unfolding opened
-open_ok P (ok t) w c c' e q f = f t refl (sym q ∙ e)
-open_ok P (refused n l p) w c c' e q f = absurd (differ (sym e ∙ q))
+open_ok P (ok t) w cs e q f = f t refl (sym q ∙ e)
+open_ok P (refused n l p) w cs e q f = absurd (differ (sym e ∙ q))
   where
-    differ : Err (refusal_of n l p) ≡ Ok (c, c') → ⊥
+    differ : Err (refusal_of n l p) ≡ Ok cs → ⊥
     differ z = let y : ◌≡◌ {A = ℕ} 0 1 = cc in omega arith
 
 module _ (l : Trees) (lists : Lists) (w : Opened) (ew : w ≡ opened (trees_read l)) where
@@ -105,18 +105,18 @@ module _ (l : Trees) (lists : Lists) (w : Opened) (ew : w ≡ opened (trees_read
   unfolding ◌>>=◌ opened
   contents_stop f q = rw (trees_first l lists, open_refused (trees_read l) w f ew q)
 
-  module _ (c c' : ℕ) (q : w ≡ Ok (c, c')) (v : Check) (ev : v ≡ listed l lists) where
+  module _ (cs : ℕ × ℕ) (q : w ≡ Ok cs) (v : Check) (ev : v ≡ listed l lists) where
     pub lists_stop : (f : Refusal) → v ≡ Err f → Err f ≡ opened (readable l lists)
     unfolding listed opened
     lists_stop f h =
-        open_ok _ (trees_read l) w c c' ew q λ t et eo.
+        open_ok _ (trees_read l) w cs ew q λ t et eo.
         let z = checked_refused (all_lists l lists) v f ev h in
         sym (ap opened (trees_first l lists ∙ bind_is (trees_read l) _ t et ∙ bind_not (all_lists l lists) _ _ _ _ z))
 
-    pub contents_fine : v ≡ (Ok tt) → Ok (c, c') ≡ opened (readable l lists)
+    pub contents_fine : v ≡ (Ok tt) → Ok cs ≡ opened (readable l lists)
     unfolding listed
     contents_fine h =
-        open_ok _ (trees_read l) w c c' ew q λ t et eo.
+        open_ok _ (trees_read l) w cs ew q λ t et eo.
         let z = checked_ok (all_lists l lists) v ev h in
         eo ∙ sym (ap opened (trees_first l lists ∙ bind_is (trees_read l) _ t et ∙ bind_is (all_lists l lists) _ tt z))
 

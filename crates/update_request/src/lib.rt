@@ -9,14 +9,7 @@ ghost use Rattle.update_request.specs.Opened.{trees_read, listed, readable, open
 use record::{Lists, Refusal, Trees};
 use record_entries::{PathList, check_entries};
 use record_limits::{room, sized_update};
-use tree::{check_tree};
-
-// How many roots the base has, and how many the additions tree.
-#[derive(Clone, Copy)]
-pub enum Opened {
-    Roots(u32, u32),
-    Refused(Refusal),
-}
+use tree::check_tree;
 
 // Refusals 3 and 4 of the three lists of entries.
 fn check_lists<'a>(trees: &Trees<'a>, lists: &Lists<'a>) -> Result<(), Refusal>
@@ -37,13 +30,9 @@ fn check_trees<'a>(trees: &Trees<'a>) -> Result<(u32, u32), Refusal>
         × (length (trees_in trees.now).added_records ≤ 24576) }
     ensures { result ≡ opened (trees_read (trees_in trees.now)) }
 {
-    match check_tree(trees.records, trees.pool, 0) {
-        Ok(roots) => match check_tree(trees.added_records, trees.request_pool, 1) {
-            Ok(columns) => Ok((roots, columns)),
-            Err(r) => Err(r),
-        },
-        Err(r) => Err(r),
-    }
+    let roots = check_tree(trees.records, trees.pool, 0)?;
+    let columns = check_tree(trees.added_records, trees.request_pool, 1)?;
+    Ok((roots, columns))
 }
 
 // Refusals 3 to 6 of both trees, 3 and 4 of the three lists.
@@ -56,13 +45,9 @@ fn check_contents<'a>(trees: &Trees<'a>, lists: &Lists<'a>) -> Result<(u32, u32)
     ensures { result ≡ opened (readable (trees_in trees.now)
         (lists_in lists.now)) }
 {
-    match check_trees(trees) {
-        Ok((roots, columns)) => match check_lists(trees, lists) {
-            Ok(()) => Ok((roots, columns)),
-            Err(r) => Err(r),
-        },
-        Err(r) => Err(r),
-    }
+    let counts = check_trees(trees)?;
+    check_lists(trees, lists)?;
+    Ok(counts)
 }
 
 // Whether there is such a format version.
@@ -72,7 +57,8 @@ fn known_version(version: u32) -> bool
     (version == 2) | (version == 3)
 }
 
-// Refusals 1 and 2 for everything, 25, then the contents. The rooms are the lengths of the output buffers.
+// How many roots the base has, and how many the additions tree: refusals 1 and 2 for everything, 25, then those of the contents. The
+// rooms are the lengths of the output buffers.
 pub fn open_update<'a>(
     trees: &Trees<'a>,
     lists: &Lists<'a>,
