@@ -10,12 +10,13 @@ ghost use Rattle.index_ids.specs.Ids.{bucket_of, is_id};
 ghost use Rattle.index_ids.specs.Table.{row, id_heads, Rooms, Fresh, EnteredIn};
 ghost use Rattle.index_ids.specs.Path.{IdsChained, Followed, entered_at, IndexedIn};
 
-use plan::{PlanRows};
+use plan::PlanRows;
 use record::{Refusal, Slot};
 
 // An index's rows. A place is one more than a slot, or 0 for none: the heads of the paths of ids and, in a row for each bit, their
 // links; of each slot the place above it, and the length and the tag of its full name; the heads of the chains of full names and their
 // links, or, where full names are sorted, what is remembered of comparisons and the slots in their order.
+// No struct: rows are chosen by number, as a path goes on in ID_NEXT + bit, and `enter` serves both kinds of chains.
 pub type IndexRows = [[u16; 1024]; 8];
 
 pub const ID_HEADS: usize = 0;
@@ -66,11 +67,7 @@ pub fn clear(heads: &mut [u16; 1024])
     requires { length heads.old ≡ 1024 }
     ensures { Cleared heads.new }
 {
-    let mut b = 0;
-    while b < 1024 {
-        heads[b] = 0;
-        b += 1;
-    }
+    heads.fill(0);
 }
 
 // An index that was used is made fresh. A table of zeros is fresh as it is, so no entry calls this for a table that it has just made.
@@ -149,8 +146,7 @@ pub fn check_ids(plan: &PlanRows, m: usize, list: u32, index: &mut IndexRows) ->
     ensures { IndexedIn (numbers plan.now) m list result index.old
         index.new }
 {
-    let mut k = 0;
-    while k < m {
+    for k in 0..m {
         match follow(plan, index, k, plan.numbers[k]) {
             Way::Met(_) => {
                 return Err(Refusal {
@@ -161,7 +157,6 @@ pub fn check_ids(plan: &PlanRows, m: usize, list: u32, index: &mut IndexRows) ->
             }
             Way::Ended(line, c) => enter_id(index, line, c, k),
         }
-        k += 1;
     }
     Ok(())
 }
