@@ -12,8 +12,12 @@ ghost use Rattle.plan_write.specs.Written.{row_of, kept_row, source_row, planned
 ghost use Rattle.plan_write.specs.Run.{joined, Starts, Ran};
 
 use paper::Kind;
-use plan::{PlanRows, edited_code, edited_flags, edited_name_len, edited_slot, planned_name, put_bytes};
-use record::{Trees, attribute_at, code_at, flags_at, kind_at, length_of, name_from, name_len_at, word_bytes};
+use plan::{
+    PlanRows, edited_code, edited_flags, edited_name_len, edited_slot, planned_name, put_bytes,
+};
+use record::{
+    Trees, attribute_at, code_at, flags_at, kind_at, length_of, name_from, name_len_at, word_bytes,
+};
 
 // The byte that stands for a kind.
 fn kind_byte(k: Kind) -> u8
@@ -132,13 +136,7 @@ fn put_record<'a>(trees: &Trees<'a>, plan: &PlanRows, i: usize, at: u32, out: &m
         (trees_in trees.now).records (trees_in trees.now).added_records
         (trees_in trees.now).edits (get_or (sources plan.now) i 0)) × (result ≤ 255) }
 {
-    let row = planned_bytes(
-        trees,
-        plan.sources[i],
-        plan.numbers[i],
-        plan.members[i],
-        at,
-    );
+    let row = planned_bytes(trees, plan.sources[i], plan.numbers[i], plan.members[i], at);
     put_bytes(out, i * 24, &row);
     length_of(row[8])
 }
@@ -149,11 +147,9 @@ fn put_records<'a>(trees: &Trees<'a>, plan: &PlanRows, m: usize, out: &mut [u8])
     ensures { Over (record_bytes (fields_in (trees_in trees.now)
         plan.now m)) out.old out.new }
 {
-    let mut i = 0;
     let mut at = 0;
-    while i < m {
+    for i in 0..m {
         at += put_record(trees, plan, i, at as u32, out);
-        i += 1;
     }
 }
 
