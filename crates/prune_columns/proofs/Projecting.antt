@@ -5,7 +5,6 @@ use mathlib.Core.List.{List}
 use mathlib.Core.Option.{Option, none, some}
 use Prim.Native.Nat.{ℕ, zero, suc, ◌+◌, ◌-◌, ◌*◌, ◌<◌, ◌≤◌}
 use native.Mathlib.Omega.{arith}
-use lib.ListN.{length}
 use Rattle.paper.specs.declared.Kind.{Kind}
 use Rattle.paper.specs.declared.Kind.TheVariants.{Primitive, Structure, Listing, Mapping}
 use Rattle.paper.specs.declared.Role.{Role}
@@ -81,9 +80,9 @@ module _ (picks : ℕ → Bool) (kind : ℕ → Kind) (full : Bool) where
 
 -- ---- plans
 
-planned_none : (s : List ℕ) (k i : ℕ) (plan : PlanRows) → i ≤ k → length plan ≡ 3 → Planned s empty k plan i (record { next = k; at = i; count = 0 }) plan
+planned_none : (s : List ℕ) (k i : ℕ) (plan : PlanRows) → i ≤ k → Planned s empty k plan i (record { next = k; at = i; count = 0 }) plan
 unfolding mapped size siblings
-planned_none s k i plan l n = record { next = refl; at = omega arith; count = refl; room = l; laid = laid_none i plan n }
+planned_none s k i plan l = record { next = refl; at = omega arith; count = refl; room = l; laid = laid_none i plan }
 
 planned_then : (s : List ℕ) (t u : Forest ℕ) (past past' i : ℕ) (plan plan₁ plan₂ : PlanRows) (a r : Step) → Planned s t past plan i a plan₁ → Planned s u past' plan₁ a.at r plan₂
     → Planned s (t then u) past' plan i (record { next = r.next; at = r.at; count = a.count + r.count }) plan₂
@@ -189,19 +188,18 @@ row_spot s lv c k i h l = record { record_in = record_left s lv c k h.there l; i
 pub record Going (s marks : List ℕ) (full : Bool) (lv c k : ℕ) (plan : PlanRows) (i left next place kept : ℕ) (plan' : PlanRows) : Type 0 where
   pub row : Row s lv left next place
   pub few : kept ≤ place
-  pub rows : length plan' ≡ 3
   pub go : (r : Step) (plan₂ : PlanRows) → Kept s marks full Member lv left next plan' place r plan₂ → Kept s marks full Member lv c k plan i (record { next = r.next; at = r.at; count = kept + r.count }) plan₂
 
 module _ (s marks : List ℕ) (full : Bool) (lv c k : ℕ) (plan : PlanRows) (i : ℕ) where
-  pub going_starts : Row s lv c k i → length plan ≡ 3 → Going s marks full lv c k plan i c k i 0 plan
-  going_starts h n =
-      record { row = h; few = omega arith; rows = n; go = λ r plan₂ p. let a = p.count in record { next = p.next; at = p.at; count = omega arith; room = p.room; laid = p.laid } }
+  pub going_starts : Row s lv c k i → Going s marks full lv c k plan i c k i 0 plan
+  going_starts h =
+      record { row = h; few = omega arith; go = λ r plan₂ p. let a = p.count in record { next = p.next; at = p.at; count = omega arith; room = p.room; laid = p.laid } }
 
   module _ (left next place kept : ℕ) (plan' : PlanRows) (h : Going s marks full lv c k plan i left next place kept plan') where
     pub going_done : left ≤ 0 → Kept s marks full Member lv c k plan i (record { next = next; at = place; count = kept }) plan'
     going_done l =
         let e : Kept s marks full Member lv left next plan' place (record { next = next; at = place; count = 0 }) plan'
-        = rw (none_there s lv left next l, none_kept (marked marks) (kind_at s) full Member) (planned_none s next place plan' h.row.room h.rows) in
+        = rw (none_there s lv left next l, none_kept (marked marks) (kind_at s) full Member) (planned_none s next place plan' h.row.room) in
         let p = h.go (record { next = next; at = place; count = 0 }) plan' e in
         let a = p.count in
         record { next = p.next; at = p.at; count = omega arith; room = p.room; laid = p.laid }
@@ -243,7 +241,6 @@ module _ (s marks : List ℕ) (full : Bool) (lv c k : ℕ) (plan : PlanRows) (i 
             record {
               row = record { there = rest_there s lv left next h.row.there l (kids_at s next) refl a.next p.next; room = p.room };
               few = omega arith;
-              rows = p.laid.rows;
               go = λ r plan₂ q.
                   let u = planned_then s _ _ _ _ place plan' plan₁ plan₂ a r p q in
                   let v : Kept s marks full Member lv left next plan' place (record { next = r.next; at = r.at; count = a.count + r.count }) plan₂
@@ -261,8 +258,8 @@ module _ (s marks : List ℕ) (full : Bool) (lv k i : ℕ) (h : Behind s lv k i)
   pub type_row : Row s lv m (k + 1) i
   type_row = record { there = rw em h.inside; room = h.room }
 
-  pub type_none : (plan : PlanRows) → length plan ≡ 3 → m ≡ 0 → KeptInside s marks full lv k plan i (record { next = k + 1; at = i; count = 0 }) plan
-  type_none plan n e = rw (none_there s lv (kids_at s k) (k + 1) (omega arith), none_kept (marked marks) (kind_at s) full (first (kind_at s k))) (planned_none s (k + 1) i plan h.room n)
+  pub type_none : (plan : PlanRows) → m ≡ 0 → KeptInside s marks full lv k plan i (record { next = k + 1; at = i; count = 0 }) plan
+  type_none plan e = rw (none_there s lv (kids_at s k) (k + 1) (omega arith), none_kept (marked marks) (kind_at s) full (first (kind_at s k))) (planned_none s (k + 1) i plan h.room)
 
   pub type_some : (m ≡ 0 → ⊥) → 0 < m
   type_some e = go m e

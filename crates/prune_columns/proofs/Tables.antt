@@ -15,7 +15,7 @@ use Rattle.plan.specs.declared.PlanRows.{PlanRows}
 -- Nothing is laid wherever that is.
 pub moved : (i j : ℕ) (plan plan₁ : PlanRows) → LaidIn empty j plan plan₁ → LaidIn empty i plan plan₁
 unfolding preorder counts
-moved i j plan plan₁ h = record { sources_set = h.sources_set; numbers_set = h.numbers_set; members_set = h.members_set; rows = h.rows }
+moved i j plan plan₁ h = record { sources_set = h.sources_set; numbers_set = h.numbers_set; members_set = h.members_set }
 
 -- a run stored before another
 runs : (xs ys l : List ℕ) (i j : ℕ) → j ≡ i + length xs → sets (sets l j ys) i xs ≡ sets l i (xs ++ ys)
@@ -32,5 +32,4 @@ laid_before t u i j p p₁ p₂ e h g =
       sources_set = rw (g.sources_set, h.sources_set, preorder_then t u, map_append slot_of (preorder t) (preorder u)) (runs (map slot_of (preorder t)) (map slot_of (preorder u)) (sources p) i j (omega arith));
       numbers_set = rw (g.numbers_set, h.numbers_set, preorder_then t u, map_append bits_of (preorder t) (preorder u)) (runs (map bits_of (preorder t)) (map bits_of (preorder u)) (numbers p) i j (omega arith));
       members_set = rw (g.members_set, h.members_set, counts_then t u) (runs (counts t) (counts u) (members p) i j (omega arith));
-      rows = g.rows;
     }

@@ -39,12 +39,7 @@ pub struct Step {
 fn is_nested(k: Kind) -> bool
     ensures { result ≡ is_nested k }
 {
-    match k {
-        Kind::Primitive => false,
-        Kind::Structure => false,
-        Kind::Listing => true,
-        Kind::Mapping => true,
-    }
+    matches!(k, Kind::Listing | Kind::Mapping)
 }
 
 // Whether the slot is marked.
@@ -84,7 +79,7 @@ pub fn check_direct(
     let mut own = role;
     while 0 < left {
         let inside = inside_role(records, at);
-        match check_direct(
+        let next = check_direct(
             records,
             marks,
             full,
@@ -92,21 +87,15 @@ pub fn check_direct(
             kids_at(records, at),
             levels - 1,
             inside,
-        ) {
-            Ok(next) => {
-                if is_direct(full, own, is_chosen(marks, at), kind_at(records, at)) {
-                    return Err(Refusal {
-                        number: 20, // refusal 20
-                        list: 0,
-                        place: at as u32,
-                    });
-                }
-                at = next;
-            }
-            Err(r) => {
-                return Err(r);
-            }
+        )?;
+        if is_direct(full, own, is_chosen(marks, at), kind_at(records, at)) {
+            return Err(Refusal {
+                number: 20, // refusal 20
+                list: 0,
+                place: at as u32,
+            });
         }
+        at = next;
         own = next_role(own);
         left -= 1;
     }

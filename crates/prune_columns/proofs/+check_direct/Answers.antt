@@ -1,4 +1,5 @@
 -- The siblings that are left say what all say; levels left fall. Assumes nothing.
+use Rattle.std.proofs.lemmas.Result.{err_from_is_err_and}
 use borrow.Author.Rules.{rules}
 use Rattle.tree_walk.proofs.Standing.{standing}
 use Rattle.prune_columns.proofs.Directing.{directing}
@@ -22,14 +23,16 @@ is_chosen-requires t c = search (standing, directing, rules)
 pub kind_at-requires : goal.kind_at-requires
 kind_at-requires t c = search (standing, directing, rules)
 
-pub returns-then-is_direct : goal.returns-then-is_direct
-returns-then-is_direct t c = search (standing, directing, rules)
+pub returns-in_err-next : goal.returns-in_err-next
+returns-in_err-next t c =
+    let p = err_from_is_err_and c.from_residual.result c.from_residual.ensures.1 in
+    rw (p.1, p.2) (search (standing, directing, rules, c.in_err-next.was))
 
-pub returns-in-Refused : goal.returns-in-Refused
-returns-in-Refused t c = search (standing, directing, rules)
+pub returns-then-is_direct : goal.returns-then-is_direct
+returns-then-is_direct t c = search (standing, directing, rules, c.in_ok-next.was)
 
 pub loop-left-preserved : goal.loop-left-preserved
-loop-left-preserved t c = search (standing, directing, rules)
+loop-left-preserved t c = search (standing, directing, rules, c.in_ok-next.was)
 
 pub returns : goal.returns
 returns t c = search (standing, directing, rules)

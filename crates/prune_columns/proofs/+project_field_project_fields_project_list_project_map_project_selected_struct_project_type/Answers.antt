@@ -54,7 +54,7 @@ pub project_map-overflow_sub-levels-then-rest-gt0 : goal.project_map-overflow_su
 project_map-overflow_sub-levels-then-rest-gt0 t c = search (pairing, standing, rules)
 
 pub project_map-project_whole-requires : goal.project_map-project_whole-requires
-project_map-project_whole-requires t c = (search (row_spot, rules), search rules)
+project_map-project_whole-requires t c = search (row_spot, rules)
 
 pub project_map-overflow_add-result : goal.project_map-overflow_add-result
 project_map-overflow_add-result t c = search (pairing, standing, rules)
@@ -66,7 +66,7 @@ pub project_map-is_chosen-requires : goal.project_map-is_chosen-requires
 project_map-is_chosen-requires t c = search (pairing, standing, rules)
 
 pub project_map-copy_trees-requires : goal.project_map-copy_trees-requires
-project_map-copy_trees-requires t c = let p = c.project_fields-rest.ensures in (search (map_span, p, rules), search rules)
+project_map-copy_trees-requires t c = let p = c.project_fields-rest.ensures in search (map_span, p, rules)
 
 pub project_map-returns-then-is_chosen : goal.project_map-returns-then-is_chosen
 project_map-returns-then-is_chosen t c = search (pairing, standing, rules)
