@@ -1,60 +1,42 @@
 // The recorded answer of a case beside what the call gave: refusals, and what look-ups find.
 use crate::fields::{field, number};
-use record::{Refusal, equal};
+use record::{FieldId, Refusal, Slot};
 
 // Whether a field spells the number.
 pub fn is_number(text: &[u8], x: u32) -> bool {
-    match number(text) {
-        Some(y) => x == y,
-        None => false,
-    }
+    number(text) == Some(x)
 }
 
 // Whether a field spells the slot.
-fn is_slot(text: &[u8], slot: usize) -> bool {
-    match number(text) {
-        Some(y) => slot == y as usize,
-        None => false,
-    }
+fn is_slot(text: &[u8], slot: Slot) -> bool {
+    number(text).is_some_and(|n| n as usize == slot.0)
 }
 
 // Whether an answer ends before field k.
 pub fn ends(answer: &[u8], k: usize) -> bool {
-    field(answer, k).len() == 0
+    field(answer, k).is_empty()
 }
 
 // Whether the answer is this refusal: number, list and place.
 pub fn is_refusal(answer: &[u8], refusal: Refusal) -> bool {
-    if !equal(field(answer, 0), b"refused") {
-        return false;
-    }
-    if !is_number(field(answer, 1), refusal.number) {
-        return false;
-    }
-    if !is_number(field(answer, 2), refusal.list) {
-        return false;
-    }
-    if !is_number(field(answer, 3), refusal.place) {
-        return false;
-    }
-    ends(answer, 4)
+    matches!(field(answer, 0), b"refused")
+        && is_number(field(answer, 1), refusal.number)
+        && is_number(field(answer, 2), refusal.list)
+        && is_number(field(answer, 3), refusal.place)
+        && ends(answer, 4)
 }
 
 // Whether the answer is what a look-up found: id and slot, or nothing.
 fn is_found(answer: &[u8], found: Option<(FieldId, Slot)>) -> bool {
-    let Some((id, slot)) = found else {
-        return equal(answer, b"nothing");
-    };
-    if !equal(field(answer, 0), b"found") {
-        return false;
+    match found {
+        Some((id, slot)) => {
+            matches!(field(answer, 0), b"found")
+                && is_number(field(answer, 1), id.0)
+                && is_slot(field(answer, 2), slot)
+                && ends(answer, 3)
+        }
+        None => matches!(answer, b"nothing"),
     }
-    if !is_number(field(answer, 1), id.0) {
-        return false;
-    }
-    if !is_slot(field(answer, 2), slot.0) {
-        return false;
-    }
-    ends(answer, 3)
 }
 
 // Whether the answer is a look-up's.
