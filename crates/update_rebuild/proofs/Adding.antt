@@ -1,9 +1,7 @@
 -- The records of an added tree, one after the other: a store behind a run is a longer run.
 use mathlib.Core.Path.{◌≡◌, refl}
-use mathlib.Core.List.{List}
 use Prim.Native.Nat.{ℕ, ◌+◌, ◌-◌, ◌%◌, ◌<◌, ◌≤◌}
 use native.Mathlib.Omega.{arith}
-use lib.ListN.{length}
 use Rattle.paper.specs.Bytes.{turned, from}
 use Rattle.laws.proofs.Runs.{from_more}
 use Rattle.plan.specs.Table.{sources, numbers, members, planned_at}
@@ -20,9 +18,9 @@ pub record Adding (kids : ℕ → ℕ) (k n id : ℕ) (plan : PlanRows) (at i : 
   pub added : AddedIn kids k i (turned id) plan at plan'
 
 module _ (kids : ℕ → ℕ) (k n id : ℕ) (plan : PlanRows) (at : ℕ) where
-  pub add_starts : length plan ≡ 3 → Adding kids k n id plan at 0 plan
+  pub add_starts : Adding kids k n id plan at 0 plan
   unfolding from
-  add_starts e = record { within = omega arith; added = record { sources_set = refl; numbers_set = refl; members_set = refl; rows = e } }
+  add_starts = record { within = omega arith; added = record { sources_set = refl; numbers_set = refl; members_set = refl } }
 
   module _ (i : ℕ) (p₁ : PlanRows) (h : Adding kids k n id plan at i p₁) where
     pub add_goes : (m c x : ℕ) (p₂ : PlanRows) → i < n → m ≡ kids (k + i) → c ≡ id → x ≡ (c + i) % 4294967296 → p₂ ≡ planned_at p₁ (at + i) (1024 + (k + i)) x m → Adding kids k n id plan at (i + 1) p₂
@@ -34,14 +32,10 @@ module _ (kids : ℕ → ℕ) (k n id : ℕ) (plan : PlanRows) (at : ℕ) where
             sources_set = rw a.sources_set (from_more (λ j. 1024 + j) (sources plan) at k i);
             numbers_set = rw (a.numbers_set, bits_on id k i c x ec ex) (from_more (λ j. turned (turned id + (j - k))) (numbers plan) at k i);
             members_set = rw (a.members_set, em) (from_more kids (members plan) at k i);
-            rows = refl;
           };
         }
 
     pub add_ends : n ≤ i → AddedIn kids k n (turned id) plan at p₁
     add_ends l = let d : i ≡ n = omega (arith, h.within) in rw d at h.added
 
-    pub add_rows : length p₁ ≡ 3
-    add_rows = h.added.rows
-
-pub ruleset adding = (add_starts, add_goes, add_ends, add_rows)
+pub ruleset adding = (add_starts, add_goes, add_ends)

@@ -5,7 +5,7 @@ use mathlib.Core.List.{List}
 use Prim.Native.Nat.{ℕ, zero, suc, ◌+◌, ◌-◌, ◌%◌, ◌<◌, ◌≤◌}
 use native.Mathlib.Omega.{arith}
 use borrow.Author.Tests.{eq-eqb, ne_eqb}
-use lib.ListN.{length, get_or}
+use lib.ListN.{get_or}
 use Rattle.paper.specs.Forest.{Forest, empty, ◌then◌}
 use Rattle.paper.specs.Bytes.{turned, kids_at, from}
 use Rattle.paper.specs.Rebuild.{Addition, same_parent, arriving}
@@ -73,8 +73,8 @@ module _ (added : List ℕ) (n : ℕ) (unders firsts starts : List ℕ) (total q
       pub on : Onward (Planned all 0 past lv i c v plan) (arriving_from j) 0 here.next lv here.at here.count here.visited plan'
       pub seen : here.visited ≤ here.at + 1024
 
-    pub all_starts : i ≤ 1024 → c ≤ i → v ≤ i + 1024 → length plan ≡ 3 → Rest 0 (record { next = past; at = i; count = c; visited = v }) plan
-    all_starts h g s e = record { on = onward_same (onward_starts h g e) rest_all refl; seen = s }
+    pub all_starts : i ≤ 1024 → c ≤ i → v ≤ i + 1024 → Rest 0 (record { next = past; at = i; count = c; visited = v }) plan
+    all_starts h g s = record { on = onward_same (onward_starts h g) rest_all refl; seen = s }
 
     module _ (j : ℕ) (here : Place) (p₁ : PlanRows) (h : Rest j here p₁) where
       pub all_skips : Resolved added n unders firsts total → q ≤ 4294967296 → j < total → (get_or unders j 0 ≡ q → ⊥) → Rest (j + 1) here p₁

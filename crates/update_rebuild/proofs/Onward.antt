@@ -1,9 +1,7 @@
 -- Forests planned one behind the other: whatever plans the rest plans the whole.
 use mathlib.Core.Path.{◌≡◌, refl}
-use mathlib.Core.List.{List}
 use Prim.Native.Nat.{ℕ, suc, ◌+◌, ◌≤◌}
 use native.Mathlib.Omega.{arith}
-use lib.ListN.{length}
 use Rattle.paper.specs.Forest.{Forest, empty, size, siblings, levels, ◌then◌}
 use Rattle.laws.proofs.Written.{siblings_size}
 use Rattle.laws.proofs.Preorder.{size_then, siblings_then, levels_then}
@@ -20,15 +18,12 @@ module _ {t : Forest Source} {d past lv i c v : ℕ} {plan plan' : PlanRows} {r 
   pub went_whole : {w : Place} → r ≡ Some w → Whole t d past lv i c v plan w plan'
   went_whole e = (rw e at h).by
 
-  pub went_rows : {w : Place} → r ≡ Some w → length plan' ≡ 3
-  went_rows e = (went_whole e).laid.rows
-
   pub full_over : r ≡ None → Over t lv i
   full_over e = (rw e at h).by
 
-pub planned_none : {past lv i c v : ℕ} {plan : PlanRows} → i ≤ 1024 → length plan ≡ 3 → Planned empty 0 past lv i c v plan (Some (record { next = past; at = i; count = c; visited = v })) plan
+pub planned_none : {past lv i c v : ℕ} {plan : PlanRows} → i ≤ 1024 → Planned empty 0 past lv i c v plan (Some (record { next = past; at = i; count = c; visited = v })) plan
 unfolding size siblings levels
-planned_none {i = i} {plan = plan} h e = record { by = record { next = refl; at = omega arith; count = omega arith; visited = omega arith; low = omega arith; room = h; laid = laid_none i plan e } }
+planned_none {i = i} {plan = plan} h = record { by = record { next = refl; at = omega arith; count = omega arith; visited = omega arith; low = omega arith; room = h; laid = laid_none i plan } }
 
 module _ (t u : Forest Source) (d d' past' lv i c v : ℕ) (plan : PlanRows) where
   planned_then : {past : ℕ} {w : Place} {r : Step} {p₁ p₂ : PlanRows} → Whole t d past lv i c v plan w p₁ → Planned u d' past' lv w.at w.count w.visited p₁ r p₂ → Planned (t then u) (d + d') past' lv i c v plan r p₂
@@ -54,11 +49,10 @@ planned_stops t u lv i h = record { over = λ l m. h.over (let e = levels_then t
 pub record Onward (G : Step → PlanRows → Type 0) (u : Forest Source) (d past lv i c v : ℕ) (plan : PlanRows) : Type 0 where
   pub room : i ≤ 1024
   pub few : c ≤ i
-  pub rows : length plan ≡ 3
   pub go : (r : Step) (plan' : PlanRows) → Planned u d past lv i c v plan r plan' → G r plan'
 
-pub onward_starts : {t : Forest Source} {d past lv i c v : ℕ} {plan : PlanRows} → i ≤ 1024 → c ≤ i → length plan ≡ 3 → Onward (Planned t d past lv i c v plan) t d past lv i c v plan
-onward_starts h g e = record { room = h; few = g; rows = e; go = λ r plan' p. p }
+pub onward_starts : {t : Forest Source} {d past lv i c v : ℕ} {plan : PlanRows} → i ≤ 1024 → c ≤ i → Onward (Planned t d past lv i c v plan) t d past lv i c v plan
+onward_starts h g = record { room = h; few = g; go = λ r plan' p. p }
 
 module _ {G : Step → PlanRows → Type 0} {u : Forest Source} {d past lv i c v : ℕ} {plan : PlanRows} (on : Onward G u d past lv i c v plan) where
   pub onward_same : {t : Forest Source} {past' : ℕ} → u ≡ t → past ≡ past' → Onward G t d past' lv i c v plan
@@ -66,7 +60,7 @@ module _ {G : Step → PlanRows → Type 0} {u : Forest Source} {d past lv i c v
 
   -- a dropped member is passed: it is visited, and nothing is planned
   pub onward_passes : {t : Forest Source} {d' past' : ℕ} → u ≡ t → d ≡ suc d' → past ≡ past' → Onward G t d' past' lv i c (v + 1) plan
-  onward_passes {t} {d'} {past'} e ed f = record { room = on.room; few = on.few; rows = on.rows; go = λ r p₂ p. on.go r p₂ (rw (e, ed, f) record { by = again r p₂ p.by }) }
+  onward_passes {t} {d'} {past'} e ed f = record { room = on.room; few = on.few; go = λ r p₂ p. on.go r p₂ (rw (e, ed, f) record { by = again r p₂ p.by }) }
     where
       again : (r : Step) (p₂ : PlanRows) → PlannedBy r t d' past' lv i c (v + 1) plan p₂ → PlannedBy r t (suc d') past' lv i c v plan p₂
       again (Some _) p₂ h = record { next = h.next; at = h.at; count = h.count; visited = omega (arith, h.visited); low = h.low; room = h.room; laid = h.laid }
@@ -77,7 +71,6 @@ module _ {G : Step → PlanRows → Type 0} {u : Forest Source} {d past lv i c v
       record {
         room = h.room;
         few = let s = siblings_size a in omega (arith, h.at, h.count, on.few);
-        rows = h.laid.rows;
         go = λ r p₂ p. on.go r p₂ (rw (e, ed, f) (planned_then a b da db _ lv i c v plan h p));
       }
 
@@ -85,4 +78,4 @@ module _ {G : Step → PlanRows → Type 0} {u : Forest Source} {d past lv i c v
   onward_stops a b e h = on.go None _ (rw e record { by = planned_stops a b lv i h })
 
   pub onward_done : u ≡ empty → d ≡ 0 → G (Some (record { next = past; at = i; count = c; visited = v })) plan
-  onward_done e ed = on.go _ plan (rw (e, ed) (planned_none on.room on.rows))
+  onward_done e ed = on.go _ plan (rw (e, ed) (planned_none on.room))

@@ -35,9 +35,9 @@ pub closing_open : (adds : List (Addition Source)) (q : Option ℕ) {b : Bool} {
 unfolding closing
 closing_open adds q e h = rw e h
 
-pub closing_shut : (adds : List (Addition Source)) (q : Option ℕ) {b : Bool} {lv : ℕ} {here : Place} {plan : PlanRows} → b ≡ false → here.at ≤ 1024 → length plan ≡ 3 → Planned (closing adds q b) 0 here.next lv here.at here.count here.visited plan (Some here) plan
+pub closing_shut : (adds : List (Addition Source)) (q : Option ℕ) {b : Bool} {lv : ℕ} {here : Place} {plan : PlanRows} → b ≡ false → here.at ≤ 1024 → Planned (closing adds q b) 0 here.next lv here.at here.count here.visited plan (Some here) plan
 unfolding closing
-closing_shut adds q e l rows = rw e (planned_none l rows)
+closing_shut adds q e l = rw e (planned_none l)
 
 pub ruleset closes = (closing_open, closing_shut)
 
@@ -135,13 +135,13 @@ module _ (records dropped : List ℕ) (adds : List (Addition Source)) (n lv k : 
     one_past w past p₂ l e ep o = rw o.is (one_goes w p₂ l e ep)
 
   -- nothing comes to stand inside a leaf
-  pub one_leaf : (h : Head) (g : Bool) (p₂ : PlanRows) → HeadOf records k h → g ≡ (not h.under.opens && eqb h.members 0) → g ≡ true → 0 < lv → i < 1024 → length plan ≡ 3 → p₂ ≡ planned_at plan i k h.id 0 → OnePlanned records dropped adds n lv k plan i c v (Some (record { next = k + 1; at = i + 1; count = c + 1; visited = v + 1 })) p₂
-  one_leaf h g p₂ hh eg et l m rows ep =
+  pub one_leaf : (h : Head) (g : Bool) (p₂ : PlanRows) → HeadOf records k h → g ≡ (not h.under.opens && eqb h.members 0) → g ≡ true → 0 < lv → i < 1024 → p₂ ≡ planned_at plan i k h.id 0 → OnePlanned records dropped adds n lv k plan i c v (Some (record { next = k + 1; at = i + 1; count = c + 1; visited = v + 1 })) p₂
+  one_leaf h g p₂ hh eg et l m ep =
       let q = parent h.under.q in
       let e = leaf_is h.under.opens h.members (sym eg ∙ et) in
       rw (← (add-zero (v + 1)))
       (one_goes h hh _ plan
-      (rw (part_none 0 (kids_at records) n (lv - 1) h.members (k + 1) e.0, row_closes records dropped adds q h.under.opens, passed_none records dropped h.under.opens) (closing_shut adds q {here = record { next = k + 1; at = i + 1; count = 0; visited = 0 }} e.1 (omega arith) rows))
+      (rw (part_none 0 (kids_at records) n (lv - 1) h.members (k + 1) e.0, row_closes records dropped adds q h.under.opens, passed_none records dropped h.under.opens) (closing_shut adds q {here = record { next = k + 1; at = i + 1; count = 0; visited = 0 }} e.1 (omega arith)))
       _ p₂ l refl ep)
 
 -- ---- the loop

@@ -76,7 +76,6 @@ module _ (added : List ℕ) (n k id past lv i c v : ℕ) (plan : PlanRows) (w : 
             sources_set = r.sources_set ∙ rw (q, map_from slot_of source k (e - k));
             numbers_set = r.numbers_set ∙ rw (q, map_from bits_of source k (e - k));
             members_set = r.members_set ∙ rw (counts_mapped source slots, f.sizes, d.1);
-            rows = r.rows;
           };
         };
       }

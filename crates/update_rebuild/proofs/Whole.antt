@@ -1,4 +1,4 @@
--- The whole base, and its verdict: records above 1,024 or levels above 16 are what `Full` says.
+-- The whole base, and its verdict: records above 1,024 or levels above 16 are what `None` says.
 use mathlib.Core.Path.{◌≡◌, refl}
 use mathlib.Core.Bool.{Bool, true, false, cond}
 use mathlib.Core.List.{List}
@@ -38,11 +38,11 @@ verdict_went : (n d : ℕ) (t : Forest Source) (w : Place) → fits t ≡ true �
 unfolding verdict
 verdict_went n d t w e en ea ec ev = rw (e, ← en, ← ec, ← ev, ← ea)
 
-verdict_full : (n d : ℕ) (t : Forest Source) → (fits t ≡ true → ⊥) → None ≡ verdict n d t
+verdict_full : (n d : ℕ) (t : Forest Source) → (fits t ≡ true → ⊥) → ◌≡◌ {A = Step} None (verdict n d t)
 unfolding verdict
 verdict_full n d t h = go (fits t) refl
   where
-    go : (b : Bool) → fits t ≡ b → None ≡ cond (fits t) (Some (record { next = n; at = size t; count = siblings t; visited = size t + d })) None
+    go : (b : Bool) → fits t ≡ b → ◌≡◌ {A = Step} None (cond (fits t) (Some (record { next = n; at = size t; count = siblings t; visited = size t + d })) None)
     go true e = absurd (h e)
     go false e = rw e
 

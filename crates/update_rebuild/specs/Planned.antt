@@ -1,5 +1,5 @@
 -- What the planner's functions ask and what they leave.
-use Rattle.std.specs.Prelude.{ℕ, suc, ◌+◌, ◌-◌, ◌*◌, ◌≤◌, ◌<◌, ◌≡◌, Bool, true, ◌&&◌, cond, List, [], leb, length, get_or}
+use Rattle.std.specs.Prelude.{ℕ, suc, ◌+◌, ◌-◌, ◌*◌, ◌≤◌, ◌<◌, ◌≡◌, Bool, true, ◌&&◌, cond, List, leb, length, get_or}
 use Rattle.std.proofs.Math.Option.{Option}
 use Rattle.std.proofs.lemmas.List.Edits.{sets}
 use Rattle.paper.specs.Forest.{Forest, empty, size, siblings, levels}
@@ -58,6 +58,13 @@ firsts_in decisions = decisions.firsts
 
 abbrev pub starts_in : Decisions → List ℕ
 starts_in decisions = decisions.starts
+
+-- Four rows of 64 numbers.
+pub record DecisionsRoom (decisions : Decisions) : Type 0 where
+  pub drops_room : length (drops_in decisions) ≡ 64
+  pub unders_room : length (unders_in decisions) ≡ 64
+  pub firsts_room : length (firsts_in decisions) ≡ 64
+  pub starts_room : length (starts_in decisions) ≡ 64
 
 abbrev pub ResolvedIn : (added : List ℕ) (given : Given) (decisions : Decisions) → Type 0
 ResolvedIn added given decisions =

@@ -2,7 +2,7 @@
 #![tactic(auto)]
 
 ghost use Rattle.std.specs.Prelude.{◌≡◌, true, not, ◌&&◌, ◌+◌, ◌-◌, ◌*◌, ◌≤◌, ◌<◌, eqb, length};
-ghost use Rattle.update_dropped.specs.Set.{dropped_ids, set_of, Good};
+ghost use Rattle.update_dropped.specs.Set.{dropped_ids};
 ghost use Rattle.paper.specs.Bytes.{turned, kids_at, kind_at};
 ghost use Rattle.paper.specs.Field.{is_struct};
 ghost use Rattle.paper.specs.Rebuild.{arriving};
@@ -20,6 +20,7 @@ ghost use Rattle.update_rebuild.specs.Planned.{
   HeadOf,
   StandsAt,
   closing,
+  DecisionsRoom,
   RowPlanned,
   OnePlanned,
   Rebuilds,
@@ -29,7 +30,7 @@ use paper::is_struct;
 use plan::{PlanRows, put_planned};
 use record::{Siblings, Trees, id_bits_at, kids_at, kind_at, long, low_32, under_of};
 use tree::{row_end, tree_end};
-use update_dropped::dropped_member;
+use update_dropped::Dropped;
 
 // How much a request has: base records, added records, deletions, additions and edits; the last id, plus 2^31; and the version that
 // it names.
@@ -44,17 +45,29 @@ pub struct Given {
     pub version: u32,
 }
 
-// What is decided of a request, in rows: the bits of each deletion's id; of each addition where it goes, its first slot in the
-// additions tree, and the bits of its first id.
-pub type Decisions = [[u64; 64]; 4];
+// What is decided of a request: the bits of each deletion's id; of each addition where it goes, its first slot in the additions tree,
+// and the bits of its first id.
+#[derive(Clone, Copy)]
+pub struct Decisions {
+    pub drops: [u64; 64],
+    pub unders: [u64; 64],
+    pub firsts: [u64; 64],
+    pub starts: [u64; 64],
+}
 
-pub const DROPS: usize = 0;
-
-pub const UNDERS: usize = 1;
-
-pub const FIRSTS: usize = 2;
-
-pub const STARTS: usize = 3;
+impl Decisions {
+    // Nothing decided yet: rows of zeros.
+    pub fn none() -> Decisions
+        ensures { DecisionsRoom result }
+    {
+        Decisions {
+            drops: [0; 64],
+            unders: [0; 64],
+            firsts: [0; 64],
+            starts: [0; 64],
+        }
+    }
+}
 
 // Where a walk stands: the next slot that it reads, the next place of the plan; of these siblings, those planned so far, and the records
 // visited in them.
@@ -64,13 +77,6 @@ pub struct Place {
     pub at: usize,
     pub count: u32,
     pub visited: u32,
-}
-
-// `Full`: record 1,025 or level 17 would be planned (refusal 19).
-#[derive(Clone, Copy)]
-pub enum Step {
-    Went(Place),
-    Full,
 }
 
 // What siblings stand under: whether they are open to change, and where additions to them go.
@@ -127,12 +133,10 @@ fn put_added(added: &[u8], slot: usize, count: usize, id: u32, plan: &mut PlanRo
     ensures { AddedIn (kids_at added.now) slot count (turned id)
         plan.old at plan.new }
 {
-    let mut i = 0;
-    while i < count {
+    for i in 0..count {
         let k = slot + i;
         let number = low_32(long(id) + i as u64);
         put_planned(plan, at + i, (1024 + k) as u32, number, kids_at(added, k));
-        i += 1;
     }
 }
 
@@ -178,7 +182,7 @@ fn behind(place: Place, size: usize) -> Place
     }
 }
 
-// One added tree, behind what is planned.
+// One added tree, behind what is planned. `None`: record 1,025 or level 17 would be planned.
 fn add_tree(
     added: &[u8],
     m: usize,
@@ -194,8 +198,7 @@ fn add_tree(
     ensures { Planned (added_tree added.now m slot id) 0 place.next levels
         place.at place.count place.visited plan.old result plan.new }
 {
-    let walked = row_end(added, m, slot, 1, levels, 1);
-    let Ok(end) = walked else {
+    let Ok(end) = row_end(added, m, slot, 1, levels, 1) else {
         return None;
     };
     let size = end - slot;
@@ -222,22 +225,14 @@ fn add_all(
         decisions.now) (parent q)) 0 place.next levels place.at place.count
         place.visited plan.old result plan.new }
 {
-    let mut j = 0;
     let mut here = place;
-    while j < given.additions {
-        let under = decisions.unders[j];
-        if under != q {
-            j += 1;
+    for j in 0..given.additions {
+        if decisions.unders[j] != q {
             continue;
         }
         let first = decisions.firsts[j] as usize;
         let start = low_32(decisions.starts[j]);
-        let step = add_tree(added, given.added, first, start, levels, plan, here);
-        let Some(w) = step else {
-            return None;
-        };
-        here = w;
-        j += 1;
+        here = add_tree(added, given.added, first, start, levels, plan, here)?;
     }
     Some(here)
 }
@@ -266,25 +261,24 @@ fn close(
     Some(place)
 }
 
-// A record that stays, and its inside rebuilt. Its place in the plan is filled once its members are counted.
+// A record that stays, and its inside rebuilt. Its place in the plan is filled once its members are counted. `None`: record 1,025 or
+// level 17 would be planned (refusal 19).
 #[cycle(rebuild_field_rebuild_fields)]
 pub fn rebuild_field<'a>(
     trees: &Trees<'a>,
     given: Given,
     slot: usize,
     levels: usize,
-    dropped: &[u32; 64],
-    drops: usize,
+    dropped: &Dropped,
     decisions: &Decisions,
     plan: &mut PlanRows,
     place: Place,
 ) -> Option<Place>
     requires { Inside (trees_in trees.now).records given.base levels slot
-        × Good (set_of dropped.now drops)
         × ResolvedIn (trees_in trees.now).added_records given decisions.now
         × (place.at ≤ 1024) × (place.count ≤ place.at) × (place.visited ≤ place.at + slot) }
     ensures { OnePlanned (trees_in trees.now).records
-        (dropped_ids (set_of dropped.now drops))
+        (dropped_ids dropped.now)
         (additions_in (trees_in trees.now).added_records given
         decisions.now) given.base levels slot plan.old place.at
         place.count place.visited result plan.new }
@@ -308,42 +302,37 @@ pub fn rebuild_field<'a>(
         count: head.members,
         levels: levels - 1,
     };
-    let step = rebuild_fields(
+    let w = rebuild_fields(
         trees,
         given,
         inside,
         head.under,
         dropped,
-        drops,
         decisions,
         plan,
         at + 1,
-    );
-    let Some(w) = step else {
-        return None;
-    };
+    )?;
     put_planned(plan, at, slot as u32, head.id, w.count);
     Some(past(place, w))
 }
 
-// Siblings of the base, rebuilt.
+// Siblings of the base, rebuilt. `None`: record 1,025 or level 17 would be planned (refusal 19).
 #[cycle(rebuild_field_rebuild_fields)]
 pub fn rebuild_fields<'a>(
     trees: &Trees<'a>,
     given: Given,
     row: Siblings,
     under: Under,
-    dropped: &[u32; 64],
-    drops: usize,
+    dropped: &Dropped,
     decisions: &Decisions,
     plan: &mut PlanRows,
     at: usize,
 ) -> Option<Place>
     requires { Readable (trees_in trees.now).records given.base row.levels row.count
-        row.slot × (under.q ≤ 4294967296) × Good (set_of dropped.now drops)
+        row.slot × (under.q ≤ 4294967296)
         × ResolvedIn (trees_in trees.now).added_records given decisions.now × (at ≤ 1024) }
     ensures { RowPlanned (trees_in trees.now).records
-        (dropped_ids (set_of dropped.now drops))
+        (dropped_ids dropped.now)
         (additions_in (trees_in trees.now).added_records given
         decisions.now) given.base row.levels row.count row.slot
         (parent under.q) under.opens plan.old at result plan.new }
@@ -359,43 +348,35 @@ pub fn rebuild_fields<'a>(
     };
     while 0 < left {
         let k = here.next;
-        if dropped_member(records, k, under.opens, dropped, drops) {
+        if dropped.drops_member(records, k, under.opens) {
             here = over(here, tree_end(records, given.base, k, levels - 1, 0));
             left -= 1;
             continue;
         }
-        let step = rebuild_field(
-            trees, given, k, levels, dropped, drops, decisions, plan, here,
-        );
-        let Some(w) = step else {
-            return None;
-        };
-        here = w;
+        here = rebuild_field(trees, given, k, levels, dropped, decisions, plan, here)?;
         left -= 1;
     }
     let added = trees.added_records;
     close(under, added, given, decisions, levels, plan, here)
 }
 
-// The whole base, rebuilt; `roots` is the number of its roots.
+// The whole base, rebuilt; `roots` is the number of its roots. `None`: record 1,025 or level 17 would be planned (refusal 19).
 pub fn rebuild<'a>(
     trees: &Trees<'a>,
     given: Given,
     roots: u32,
-    dropped: &[u32; 64],
-    drops: usize,
+    dropped: &Dropped,
     decisions: &Decisions,
     plan: &mut PlanRows,
 ) -> Option<Place>
     requires { Based (trees_in trees.now).records given.base roots
-        × Good (set_of dropped.now drops)
         × ResolvedIn (trees_in trees.now).added_records given decisions.now }
     ensures { Rebuilds (rebuilt_base (trees_in trees.now).records given.base
-        (dropped_ids (set_of dropped.now drops))
+        (dropped_ids dropped.now)
         (additions_in (trees_in trees.now).added_records given
         decisions.now))
         (passed_base (trees_in trees.now).records given.base
-        (dropped_ids (set_of dropped.now drops)))
+        (dropped_ids dropped.now))
         given.base plan.old result plan.new }
 {
     let all = Siblings {
@@ -404,5 +385,5 @@ pub fn rebuild<'a>(
         levels: 16,
     };
     let under = Under { opens: true, q: 0 };
-    rebuild_fields(trees, given, all, under, dropped, drops, decisions, plan, 0)
+    rebuild_fields(trees, given, all, under, dropped, decisions, plan, 0)
 }

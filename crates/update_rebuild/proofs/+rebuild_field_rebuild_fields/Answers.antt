@@ -9,17 +9,17 @@ rebuild_field-returns-then-at-ge1024 t c = search (one_wide, rules)
 pub rebuild_field-returns-then-is_leaf : goal.rebuild_field-returns-then-is_leaf
 rebuild_field-returns-then-is_leaf t c = search (one_leaf, rules)
 
-pub rebuild_field-returns-in_default : goal.rebuild_field-returns-in_default
-rebuild_field-returns-in_default t c = search (one_stops, rules)
+pub rebuild_field-returns-in_err-w : goal.rebuild_field-returns-in_err-w
+rebuild_field-returns-in_err-w t c = rw c.from_residual.ensures (search (one_stops, rules, c.in_err-w.was))
 
 pub rebuild_field-past-requires : goal.rebuild_field-past-requires
-rebuild_field-past-requires t c = let few = inside_few c.requires.0 in (search rules, search rules, search (one_few, rules))
+rebuild_field-past-requires t c = let few = inside_few c.requires.0 in (search rules, search rules, search (one_few, rules, c.in_ok-w.was))
 
 pub rebuild_field-returns : goal.rebuild_field-returns
-rebuild_field-returns t c = one_past _ _ _ _ _ _ _ _ _ _ _ c.head_at-head.ensures _ _ c.rebuild_fields-step.ensures _ _ _ c.requires.0.low c.in-Went.is (search rules) c.past.ensures
+rebuild_field-returns t c = one_past _ _ _ _ _ _ _ _ _ _ _ c.head_at-head.ensures _ _ c.rebuild_fields.ensures _ _ _ c.requires.0.low c.in_ok-w.was (search rules) c.past.ensures
 
-pub rebuild_fields-dropped_member-requires : goal.rebuild_fields-dropped_member-requires
-rebuild_fields-dropped_member-requires t c = search (next_room, rules)
+pub rebuild_fields-drops_member-requires : goal.rebuild_fields-drops_member-requires
+rebuild_fields-drops_member-requires t c = search (next_room, rules)
 
 pub rebuild_fields-overflow_sub-levels : goal.rebuild_fields-overflow_sub-levels
 rebuild_fields-overflow_sub-levels t c = search (next_low, rules)
@@ -30,17 +30,17 @@ rebuild_fields-tree_end-requires t c = search (inside_stands, inside_reads, rule
 pub rebuild_fields-over-here-requires : goal.rebuild_fields-over-here-requires
 rebuild_fields-over-here-requires t c = search (seen_few, held_past, held_few, rules)
 
-pub rebuild_fields-loop-left-preserved-then-dropped_member : goal.rebuild_fields-loop-left-preserved-then-dropped_member
-rebuild_fields-loop-left-preserved-then-dropped_member t c = search (rebuild_skips, rules)
+pub rebuild_fields-loop-left-preserved-then-drops_member : goal.rebuild_fields-loop-left-preserved-then-drops_member
+rebuild_fields-loop-left-preserved-then-drops_member t c = search (rebuild_skips, rules)
 
-pub rebuild_fields-rebuild_field-step-requires : goal.rebuild_fields-rebuild_field-step-requires
-rebuild_fields-rebuild_field-step-requires t c = search (inside_reads, rules)
+pub rebuild_fields-rebuild_field-requires : goal.rebuild_fields-rebuild_field-requires
+rebuild_fields-rebuild_field-requires t c = search (inside_reads, rules)
 
-pub rebuild_fields-returns-in_default : goal.rebuild_fields-returns-in_default
-rebuild_fields-returns-in_default t c = rebuild_stops c.loop-left.invariant (search rules) c.dropped_member.ensures (search rules) c.rebuild_field-step.ensures (search rules)
+pub rebuild_fields-returns-in_err-here : goal.rebuild_fields-returns-in_err-here
+rebuild_fields-returns-in_err-here t c = rw c.from_residual.ensures (rebuild_stops c.loop-left.invariant (search rules) c.drops_member.ensures (search rules) c.rebuild_field.ensures c.in_err-here.was)
 
 pub rebuild_fields-loop-left-preserved : goal.rebuild_fields-loop-left-preserved
-rebuild_fields-loop-left-preserved t c = search (rebuild_goes, rules)
+rebuild_fields-loop-left-preserved t c = search (rebuild_goes, rules, c.in_ok-here.was)
 
 pub rebuild_fields-returns : goal.rebuild_fields-returns
 rebuild_fields-returns t c = rebuild_ends c.loop-left.invariant (search rules) (search rules)

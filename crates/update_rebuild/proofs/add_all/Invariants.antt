@@ -1,11 +1,7 @@
 -- What arrives from the j-th addition on plans the rest.
-use Prim.Native.Nat.{◌-◌}
 use Rattle.update_rebuild.specs.Planned.{unders_in, firsts_in, starts_in}
 use Rattle.update_rebuild.proofs.Arriving.{Rest}
 use Rattle.update_rebuild.proofs.add_all.Given as goal
 
 abbrev pub invariant-loop-j : goal.invariant-loop-j
 invariant-loop-j l = Rest l.added l.given.added (unders_in l.decisions) (firsts_in l.decisions) (starts_in l.decisions) l.given.additions l.q l.initial.here.next l.levels l.initial.here.at l.initial.here.count l.initial.here.visited l.initial.plan l.j l.here l.plan
-
-abbrev pub decreases-loop-j : goal.decreases-loop-j
-decreases-loop-j l = l.given.additions - l.j

@@ -1,0 +1,7 @@
+-- What a walk of the rebuild answers.
+use Rattle.std.specs.Prelude.{Option}
+use Rattle.update_rebuild.specs.declared.Place.{Place}
+
+-- Where it stands then, or none: record 1,025 or level 17 would be planned.
+abbrev pub Step : Type 0
+Step = Option Place
