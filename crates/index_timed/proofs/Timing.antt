@@ -16,7 +16,6 @@ use Rattle.record.specs.declared.Refusal.{Refusal}
 use Rattle.record.specs.Says.{slot_before}
 use Rattle.record_limits.proofs.Within.{whole_most}
 use Rattle.plan.specs.Table.{numbers, TakenIn}
-use Rattle.plan.proofs.Rooms.{roomy_fresh}
 use Rattle.index_ids.specs.Chain.{lowest_below}
 use Rattle.index_ids.specs.Ids.{is_id}
 use Rattle.index_ids.specs.Path.{IndexedIn}
@@ -76,9 +75,9 @@ module _ (s ids : List ℕ) (rounds : ℕ) (b : Bool) (eb : b ≡ whole 24 1024 
     pub timed_bytes : n * 24 ≤ length s
     timed_bytes = omega arith
 
-    module _ (plan : PlanRows) (old index : List (List ℕ)) (t : TakenIn s n (replicate 3 (replicate 1024 0)) plan) (r : Check) (x : IndexedIn (numbers plan) n 0 r old index) where
+    module _ (zeros plan : PlanRows) (old index : List (List ℕ)) (ez : numbers zeros ≡ replicate 1024 0) (t : TakenIn s n zeros plan) (r : Check) (x : IndexedIn (numbers plan) n 0 r old index) where
       same_row : numbers plan ≡ id_row s
-      same_row = t.numbers_set ∙ rw en
+      same_row = t.numbers_set ∙ rw (ez, en)
 
       pub timed_refused : (y : Refusal) → r ≡ Err y → 0 ≡ timed s ids rounds
       unfolding timed
@@ -88,4 +87,4 @@ module _ (s ids : List ℕ) (rounds : ℕ) (b : Bool) (eb : b ≡ whole 24 1024 
       unfolding timed
       timed_done z e h = rw (← eb, not-false b q, ← same_row, ← en, ← x.answer, e) h
 
-pub ruleset timing = (roomy_fresh, timed_unfit, timed_few, timed_bytes, timed_refused, timed_done)
+pub ruleset timing = (timed_unfit, timed_few, timed_bytes, timed_refused, timed_done)

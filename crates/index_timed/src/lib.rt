@@ -8,7 +8,7 @@ ghost use Rattle.index_timed.specs.Timed.{counts, each_round, all_rounds, timed}
 
 use index_ids::{IndexRows, check_ids, find_id};
 use plan::{PlanRows, take_base};
-use record::{FoundSlot};
+use record::Slot;
 use record_entries::id_at;
 use record_limits::whole_list;
 
@@ -30,10 +30,8 @@ fn search_each(plan: &PlanRows, index: &IndexRows, m: usize, ids: &[u8], count: 
 {
     let n = ids.len() / 4;
     let mut found = count;
-    let mut i = 0;
-    while i < n {
+    for i in 0..n {
         found = counted(find_id(plan, index, m, id_at(ids, i)), found);
-        i += 1;
     }
     found
 }
@@ -44,10 +42,8 @@ fn search_rounds(plan: &PlanRows, index: &IndexRows, m: usize, ids: &[u8], round
     ensures { result ≡ all_rounds (numbers plan.now) m ids.now rounds }
 {
     let mut count = 0;
-    let mut k = 0;
-    while k < rounds {
+    for _k in 0..rounds {
         count = search_each(plan, index, m, ids, count);
-        k += 1;
     }
     count
 }
@@ -61,12 +57,16 @@ pub fn braidhurdle_timed_search(records: &[u8], ids: &[u8], rounds: u32) -> u32
         return 0;
     }
     let n = records.len() / 24;
-    let mut plan = PlanRows::empty();
+    // zeros, which the definition names and `PlanRows::empty` doesn't promise
+    let mut plan = PlanRows {
+        sources: [0; 1024],
+        numbers: [0; 1024],
+        members: [0; 1024],
+    };
     let mut index = [[0u16; 1024]; 8];
     take_base(records, n, &mut plan);
-    let checked = check_ids(&plan, n, 0, &mut index);
-    if let Err(_) = checked {
-        return 0;
+    match check_ids(&plan, n, 0, &mut index) {
+        Ok(()) => search_rounds(&plan, &index, n, ids, rounds),
+        Err(_) => 0,
     }
-    search_rounds(&plan, &index, n, ids, rounds)
 }

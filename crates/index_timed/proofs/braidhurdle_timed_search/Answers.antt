@@ -10,14 +10,14 @@ returns-then-not-whole_list c = search (timing, rules)
 pub take_base-requires : goal.take_base-requires
 take_base-requires c = search (timing, rules)
 
-pub check_ids-checked-requires : goal.check_ids-checked-requires
-check_ids-checked-requires c = (search (timed_few, rules), (fresh_index.rooms, fresh_index.ids))
+pub check_ids-requires : goal.check_ids-requires
+check_ids-requires c = (search (timed_few, rules), (fresh_index.rooms, fresh_index.ids))
 
-pub returns-in-Refused : goal.returns-in-Refused
-returns-in-Refused c = search (timing, rules)
+pub returns-in-Err : goal.returns-in-Err
+returns-in-Err c = search (timing, rules)
 
 pub search_rounds-requires : goal.search_rounds-requires
-search_rounds-requires c = (search (timed_few, rules), c.check_ids-checked.ensures.index c.in_default.is)
+search_rounds-requires c = (search (timed_few, rules), c.check_ids.ensures.index c.in-Ok.is)
 
-pub returns : goal.returns
-returns c = search (timing, rules)
+pub returns-in-Ok : goal.returns-in-Ok
+returns-in-Ok c = search (timing, rules)

@@ -1,5 +1,5 @@
 -- Each id counts where it is found. Assumes nothing.
-use Prim.Native.Nat.{◌-◌, ◌≤◌}
+use Prim.Native.Nat.{◌≤◌}
 use mathlib.Core.Path.{◌≡◌}
 use Rattle.plan.specs.Table.{numbers}
 use Rattle.index_timed.specs.Timed.{each_round}
@@ -7,6 +7,3 @@ use Rattle.index_timed.proofs.search_each.Given as goal
 
 abbrev pub invariant-loop-i : goal.invariant-loop-i
 invariant-loop-i l = (l.found ≡ each_round (numbers l.plan) l.m l.ids l.count l.i) × (l.i ≤ l.n)
-
-abbrev pub decreases-loop-i : goal.decreases-loop-i
-decreases-loop-i l = l.n - l.i
