@@ -147,21 +147,21 @@ module _ (name : ℕ → List ℕ) (kids : ℕ → ℕ) (n lv c k u l h : ℕ) (
 pub one_marked : (name : ℕ → List ℕ) (k u x h h₂ tg : ℕ) (own : List ℕ) (p : Prefix) (t t₀ : List (List ℕ)) → own ≡ name k → x ≡ length (name k) → x ≤ 255 → h ≡ hash_on p.hash own → tg ≡ tag h → h₂ ≡ mix h 46 → PutIn k u (p.len + x) tg t t₀ → OneIn name k u p record { hash = h₂; len = p.len + x + 1 } t t₀
 one_marked name k u x h h₂ tg own p t t₀ eo ex lx eh et eh₂ put = record { put = rw (← eo, ← eh, ← et, eo, ← ex) put; inner = rw (ex, eh₂, eh, eo); room = omega arith }
 
-module _ (name : ℕ → List ℕ) (kids : ℕ → ℕ) (n b c k u : ℕ) (p : Prefix) (old : List (List ℕ)) (b' c' k' : ℕ) (t : List (List ℕ)) (on : Onward name kids n b c k u p.len p.hash old b' c' k' t) (r : Prefix) (t₀ : List (List ℕ)) (f : 0 < c') (q : k' < n) (one : OneIn name k' u p r t t₀) where
-  pub onward_goes : (m j : ℕ) (t₁ : List (List ℕ)) → m ≡ kids k' → MarkedIn name (walk kids n b' m (k' + 1)) (k' + 1) (k' + 1) r.len r.hash t₀ t₁ j → Onward name kids n b c k u p.len p.hash old b' (c' - 1) j t₁
+module _ (name : ℕ → List ℕ) (kids : ℕ → ℕ) (n b c k u : ℕ) (p : Prefix) (old : List (List ℕ)) (b' c' k' : ℕ) (t : List (List ℕ)) (on : Onward name kids n b c k u p.len p.hash old b' c' k' t) (r : Prefix) (t₀ : List (List ℕ)) (f : 0 < c') (q : k' < n) (one : OneIn name k' u p r t t₀) (s : ℕ) (es : s ≡ c' - 1) where
+  pub onward_goes : (m j : ℕ) (t₁ : List (List ℕ)) → m ≡ kids k' → MarkedIn name (walk kids n b' m (k' + 1)) (k' + 1) (k' + 1) r.len r.hash t₀ t₁ j → Onward name kids n b c k u p.len p.hash old b' s j t₁
   onward_goes m j t₁ em w =
       let i = inside name k' p in
       let w' : MarkedIn name (walk kids n b' m (k' + 1)) (k' + 1) (k' + 1) i.len i.hash t₀ t₁ j = rw one.inner at w in
       record {
         small = mark_room name kids n b' m (k' + 1) (k' + 1) i.len i.hash j t₀ t₁ w' (omega arith);
         level = on.level;
-        go = λ lv s t₂ e v.
+        go = λ lv z t₂ e v.
             let below : b' ≡ lv - 1 = omega (arith, on.level) in
-            on.go lv s t₂ e (mark_turn name kids n lv c' k' u p.len p.hash t m (p.len + length (name k')) (hash_on p.hash (name k')) i.hash (tag (hash_on p.hash (name k'))) j s t₀ t₁ t₂ (λ z. omega arith) (λ z. omega arith) q em refl refl refl refl one.put (rw below at w') v);
+            on.go lv z t₂ e (mark_turn name kids n lv c' k' u p.len p.hash t m (p.len + length (name k')) (hash_on p.hash (name k')) i.hash (tag (hash_on p.hash (name k'))) j z t₀ t₁ t₂ (λ a. omega arith) (λ a. omega arith) q em refl refl refl refl one.put (rw below at w') (rw es at v));
       }
 
   -- Inside a leaf there is nothing to mark.
-  pub onward_leaf : kids k' ≡ 0 → Onward name kids n b c k u p.len p.hash old b' (c' - 1) (k' + 1) t₀
+  pub onward_leaf : kids k' ≡ 0 → Onward name kids n b c k u p.len p.hash old b' s (k' + 1) t₀
   onward_leaf none = onward_goes _ (k' + 1) t₀ refl (mark_none name kids n b' _ (k' + 1) (k' + 1) r.len r.hash t₀ none)
 
 pub level_falls : (lv b t : ℕ) → lv ≡ t → (lv ≡ 0 → ⊥) → b ≡ lv - 1 → b < t

@@ -1,5 +1,6 @@
 -- Whatever marks the rest of the row marks the whole; levels fall.
 use Rattle.index_names.proofs.Marking.{mark_deep, onward_past, onward_done, onward_leaf, onward_goes}
+use native.Mathlib.Omega.{arith}
 use borrow.Author.Rules.{rules}
 use Rattle.index_names.proofs.+mark_row.Goals as goal
 
@@ -9,11 +10,11 @@ returns-then-row-eq0 t c = search (mark_deep, rules)
 pub returns-then-m-at : goal.returns-then-m-at
 returns-then-m-at t c = search (onward_past, rules)
 
-pub loop-left-preserved-then-members-eq0 : goal.loop-left-preserved-then-members-eq0
-loop-left-preserved-then-members-eq0 t c = onward_leaf _ _ _ _ _ _ _ _ _ _ _ _ _ c.loop-left.invariant _ _ (search rules) (search rules) c.mark_one-dotted.ensures c.if-members-eq0.true
+pub loop-done-preserved-then-members-eq0 : goal.loop-done-preserved-then-members-eq0
+loop-done-preserved-then-members-eq0 t c = onward_leaf _ _ _ _ _ _ _ _ _ _ _ _ _ c.loop-done.invariant _ _ (search rules) (search rules) c.mark_one-dotted.ensures _ (omega arith) c.if-members-eq0.true
 
-pub loop-left-preserved : goal.loop-left-preserved
-loop-left-preserved t c = onward_goes _ _ _ _ _ _ _ _ _ _ _ _ _ c.loop-left.invariant _ _ (search rules) (search rules) c.mark_one-dotted.ensures _ _ _ (search rules) c.mark_row-at.ensures
+pub loop-done-preserved : goal.loop-done-preserved
+loop-done-preserved t c = onward_goes _ _ _ _ _ _ _ _ _ _ _ _ _ c.loop-done.invariant _ _ (search rules) (search rules) c.mark_one-dotted.ensures _ (omega arith) _ _ _ (search rules) c.mark_row-at.ensures
 
 pub returns : goal.returns
-returns t c = search (onward_done, rules)
+returns t c = onward_done _ _ _ _ _ _ _ _ _ _ _ _ _ _ c.loop-done.invariant (search rules) (omega arith)
