@@ -9,7 +9,7 @@ ghost use Rattle.prune_marks.specs.Marks.{mark_at, Unmarked, DistinctIds, Marks}
 
 use index_ids::{IndexRows, find_id};
 use plan::PlanRows;
-use record::FoundSlot;
+use record::Slot;
 use record_entries::id_at;
 
 // Marks a slot that was found.
@@ -20,8 +20,7 @@ fn mark(marks: &mut [u8; 1024], found: Option<Slot>)
     let Some(slot) = found else {
         return;
     };
-    let k = slot.0;
-    marks[k] = 1;
+    marks[slot.0] = 1;
 }
 
 // Marks those of m slots whose ids are chosen. An unknown id marks none.
@@ -38,9 +37,7 @@ pub fn mark_chosen(
         marks.new }
 {
     let n = selected.len() / 4;
-    let mut i = 0;
-    while i < n {
+    for i in 0..n {
         mark(marks, find_id(plan, index, m, id_at(selected, i)));
-        i += 1;
     }
 }

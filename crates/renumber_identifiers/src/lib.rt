@@ -6,7 +6,7 @@ ghost use Rattle.renumber_identifiers.specs.Mapped.{Findable, Located, Applicabl
 
 use index_ids::{IndexRows, find_id, place};
 use plan::{PlanRows, put_bytes};
-use record::{word_bytes};
+use record::word_bytes;
 use record_entries::id_at;
 
 // The slot of each identifier's record, found by its id among the m planned records.
@@ -22,15 +22,12 @@ pub fn find_identifiers(
         slots.new }
 {
     let n = identifiers.len() / 4;
-    let mut i = 0;
-    while i < n {
-        let id = id_at(identifiers, i);
-        let found = find_id(plan, index, m, id);
+    for i in 0..n {
+        let found = find_id(plan, index, m, id_at(identifiers, i));
         let Some(slot) = found else {
             return;
         };
         slots[i] = slot.0 as u16;
-        i += 1;
     }
 }
 
@@ -40,11 +37,8 @@ pub fn apply_to_identifier_fields(n: usize, slots: &[u16; 64], plan: &PlanRows, 
     ensures { Applied n slots.now (numbers plan.now)
         out.old out.new }
 {
-    let mut i = 0;
-    while i < n {
+    for i in 0..n {
         let k = place(slots[i]);
-        let four = word_bytes(plan.numbers[k]);
-        put_bytes(out, i * 4, &four);
-        i += 1;
+        put_bytes(out, i * 4, &word_bytes(plan.numbers[k]));
     }
 }
