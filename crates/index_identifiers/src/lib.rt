@@ -16,7 +16,7 @@ ghost use Rattle.index_identifiers.specs.Nine.{held_up, rule_9};
 use index_ids::{IndexRows, UPS, cell, find_id};
 use paper::{is_primitive, is_required, is_struct};
 use plan::{PlanRows, planned_code, planned_flags, planned_kind};
-use record::{Refusal, Trees};
+use record::{Refusal, Slot, Trees};
 use record_entries::id_at;
 
 // Whether a planned record may identify: a primitive, required, neither float nor double.
@@ -38,7 +38,7 @@ fn holding<'a>(trees: &Trees<'a>, source: u32) -> bool
 }
 
 // Whether all records above a slot may stand above an identifier. Each turn is a level up, and of
-// 16 levels 15 are above, so `left` is never below 0.
+// 16 levels 15 are above, so `left` is never below 0. No `for`: a turn goes on at the place above.
 fn held<'a>(trees: &Trees<'a>, plan: &PlanRows, m: usize, index: &IndexRows, slot: usize) -> bool
     requires { (slot < m) × PlanIn (trees_in trees.now) plan.now m
         × Raised (members plan.now) m (ups_in index.now) }
@@ -67,11 +67,9 @@ fn identifies<'a>(trees: &Trees<'a>, plan: &PlanRows, m: usize, index: &IndexRow
     ensures { result ≡ identifies (look_id (fields_in (trees_in trees.now)
         plan.now m) (turned id)) }
 {
-    let found = find_id(plan, index, m, id);
-    let Some(slot) = found else {
+    let Some(Slot(k)) = find_id(plan, index, m, id) else {
         return false;
     };
-    let k = slot.0;
     if !identifying(trees, plan.sources[k]) {
         return false;
     }
@@ -93,8 +91,7 @@ pub fn check_identifiers<'a>(
         (fields_in (trees_in trees.now) plan.now m) }
 {
     let n = identifiers.len() / 4;
-    let mut i = 0;
-    while i < n {
+    for i in 0..n {
         if !identifies(trees, plan, m, index, id_at(identifiers, i)) {
             return Err(Refusal {
                 number: 9,
@@ -102,7 +99,6 @@ pub fn check_identifiers<'a>(
                 place: i as u32,
             });
         }
-        i += 1;
     }
     Ok(())
 }
