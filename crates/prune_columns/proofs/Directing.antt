@@ -1,6 +1,6 @@
 -- Refusal 20: the siblings that are left say what all say. `search directing`.
 use mathlib.Core.Path.{◌≡◌, refl, sym, ap, ◌∙◌}
-use mathlib.Core.Bool.{Bool, true, false, not, ◌&&◌, cond}
+use mathlib.Core.Bool.{Bool, true, false, cond}
 use mathlib.Core.List.{List}
 use mathlib.Core.Option.{Option, some}
 use Prim.Native.Nat.{ℕ, suc, ◌+◌, ◌-◌, ◌<◌, ◌≤◌}
@@ -10,10 +10,9 @@ use Rattle.record.specs.declared.Refusal.{Refusal}
 use Rattle.record.specs.Says.{refusal_of}
 use Rattle.paper.specs.declared.Kind.{Kind}
 use Rattle.paper.specs.declared.Role.{Role}
-use Rattle.paper.specs.declared.Role.TheVariants.{Member, Element, Key, Value}
 use Rattle.paper.specs.Answer.{or_else}
 use Rattle.paper.specs.Forest.{size}
-use Rattle.paper.specs.Field.{first, after, is_key}
+use Rattle.paper.specs.Field.{first, after}
 use Rattle.paper.specs.Bytes.{kind_at, kids_at}
 use Rattle.paper.specs.Layout.{Part}
 use Rattle.tree.specs.Answers.{Walked}
@@ -22,31 +21,8 @@ use Rattle.tree.specs.Says.{walked_to}
 use Rattle.tree.proofs.Labels.{walked_goes, walked_stops, walked_end}
 use Rattle.tree_walk.specs.There.{row_of, There}
 use Rattle.tree_walk.proofs.Standing.{none_there, split, inner_past, rest_there, rest_next}
-use Rattle.prune_columns.specs.Split.{is_nested, direct, first_direct}
+use Rattle.prune_columns.specs.Split.{direct, first_direct}
 use Rattle.prune_columns.specs.Projected.{marked, Checked}
-
--- ---- one record
-
-module _ (full : Bool) (r : Role) (b : Bool) (k : Kind) (q : Bool) (eq : q ≡ is_key r) where
-  pub key_direct : q ≡ true → false ≡ direct full r b k
-  key_direct e = go r (sym eq ∙ e)
-    where
-      go : (r : Role) → is_key r ≡ true → false ≡ direct full r b k
-      go Key d = refl
-      go Member d = absurd (let z : ◌≡◌ {A = ℕ} 0 1 = cc in omega arith)
-      go Element d = absurd (let z : ◌≡◌ {A = ℕ} 0 1 = cc in omega arith)
-      go Value d = absurd (let z : ◌≡◌ {A = ℕ} 0 1 = cc in omega arith)
-
-  pub other_direct : (n : Bool) → q ≡ false → n ≡ is_nested k → (b && (not full && n)) ≡ direct full r b k
-  other_direct n e en = rw en (go r (sym eq ∙ e))
-    where
-      go : (r : Role) → is_key r ≡ false → (b && (not full && is_nested k)) ≡ direct full r b k
-      go Key d = absurd (let z : ◌≡◌ {A = ℕ} 0 1 = cc in omega arith)
-      go Member d = refl
-      go Element d = refl
-      go Value d = refl
-
--- ---- the walk
 
 pub record Left (s marks : List ℕ) (full : Bool) (lv c k : ℕ) (r : Role) (left at : ℕ) (own : Role) : Type 0 where
   pub there : There s lv left at
@@ -115,4 +91,4 @@ module _ (s marks : List ℕ) (full : Bool) (lv c k : ℕ) (r : Role) where
               same = rw (← e, eo) (sym (ap (walked_to 20 0 rest.next) (later_goes t)) ∙ onward);
             }
 
-pub ruleset directing = (key_direct, other_direct, left_starts, left_done, left_stops, left_direct, left_goes)
+pub ruleset directing = (left_starts, left_done, left_stops, left_direct, left_goes)

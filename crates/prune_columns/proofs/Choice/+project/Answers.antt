@@ -3,10 +3,10 @@ use borrow.Author.Rules.{rules}
 use Rattle.tree_walk.proofs.Standing.{standing}
 use Rattle.prune_columns.proofs.Planning.{planning}
 use Rattle.prune_columns.proofs.Projecting.{going, single, typing, list_kept, pairing, row_spot, map_span}
-use Rattle.prune_columns.proofs.+project_field_project_fields_project_list_project_map_project_selected_struct_project_type.Goals as goal
+use Rattle.prune_columns.proofs.Choice.+project.Goals as goal
 
-pub project_field-returns-then-full-is_struct : goal.project_field-returns-then-full-is_struct
-project_field-returns-then-full-is_struct t c = search (single, planning, rules)
+pub project_field-returns-then-self-is_struct : goal.project_field-returns-then-self-is_struct
+project_field-returns-then-self-is_struct t c = search (single, planning, rules)
 
 pub project_field-returns-then-is_chosen : goal.project_field-returns-then-is_chosen
 project_field-returns-then-is_chosen t c = search (single, planning, rules)
@@ -35,8 +35,8 @@ project_fields-returns t c = search (going, rules)
 pub project_list-returns : goal.project_list-returns
 project_list-returns t c = search (list_kept, rules)
 
-pub project_map-kids_at-requires : goal.project_map-kids_at-requires
-project_map-kids_at-requires t c = search (pairing, standing, rules)
+pub project_map-kids_at-kids-requires : goal.project_map-kids_at-kids-requires
+project_map-kids_at-kids-requires t c = search (pairing, standing, rules)
 
 pub project_map-overflow_sub-levels : goal.project_map-overflow_sub-levels
 project_map-overflow_sub-levels t c = search (pairing, standing, rules)

@@ -1,10 +1,10 @@
 -- What is kept is laid one record behind the other; a measure of five to a level falls. Assumes nothing.
 use Rattle.prune_columns.proofs.Projecting.{Going}
 use Prim.Native.Nat.{◌+◌, ◌*◌}
-use Rattle.prune_columns.proofs.+project_field_project_fields_project_list_project_map_project_selected_struct_project_type.Given as goal
+use Rattle.prune_columns.proofs.Choice.+project.Given as goal
 
 abbrev pub invariant-project_fields-loop-left : goal.invariant-project_fields-loop-left
-invariant-project_fields-loop-left l = Going l.records l.marks l.full l.levels l.count l.slot l.initial.plan l.at l.left l.next l.place l.kept l.plan
+invariant-project_fields-loop-left l = Going l.self.records.now l.self.marks.now l.self.full l.levels l.count l.slot l.initial.plan l.at l.left l.next l.place l.kept l.plan
 
 abbrev pub decreases-project_fields-loop-left : goal.decreases-project_fields-loop-left
 decreases-project_fields-loop-left l = l.left

@@ -3,13 +3,13 @@ use Rattle.std.proofs.lemmas.Result.{err_from_is_err_and}
 use borrow.Author.Rules.{rules}
 use Rattle.tree_walk.proofs.Standing.{standing}
 use Rattle.prune_columns.proofs.Directing.{directing}
-use Rattle.prune_columns.proofs.+check_direct.Goals as goal
+use Rattle.prune_columns.proofs.Choice.+check_direct.Goals as goal
 
 pub inside_role-inside-requires : goal.inside_role-inside-requires
 inside_role-inside-requires t c = search (standing, directing, rules)
 
-pub kids_at-requires : goal.kids_at-requires
-kids_at-requires t c = search (standing, directing, rules)
+pub kids_at-kids-requires : goal.kids_at-kids-requires
+kids_at-kids-requires t c = search (standing, directing, rules)
 
 pub overflow_sub-levels : goal.overflow_sub-levels
 overflow_sub-levels t c = search (standing, directing, rules)
@@ -17,11 +17,8 @@ overflow_sub-levels t c = search (standing, directing, rules)
 pub check_direct-requires : goal.check_direct-requires
 check_direct-requires t c = search (standing, directing, rules)
 
-pub is_chosen-requires : goal.is_chosen-requires
-is_chosen-requires t c = search (standing, directing, rules)
-
-pub kind_at-requires : goal.kind_at-requires
-kind_at-requires t c = search (standing, directing, rules)
+pub is_direct-requires : goal.is_direct-requires
+is_direct-requires t c = search (standing, directing, rules)
 
 pub returns-in_err-next : goal.returns-in_err-next
 returns-in_err-next t c =
