@@ -2,7 +2,7 @@
 use mathlib.Core.Path.{◌≡◌, refl, sym, ap, ◌∙◌}
 use mathlib.Core.Bool.{true, false}
 use mathlib.Core.List.{List}
-use Prim.Native.Nat.{ℕ, zero, suc, ◌+◌, ◌-◌, ◌%◌, ◌<◌, ◌≤◌}
+use Prim.Native.Nat.{ℕ, zero, suc, ◌+◌, ◌-◌, ◌<◌, ◌≤◌}
 use native.Mathlib.Omega.{arith}
 use borrow.Author.Tests.{eq-eqb, ne_eqb}
 use lib.ListN.{get_or}
@@ -34,11 +34,6 @@ same_other zero zero h g d = absurd (d refl)
 same_other zero (suc y) h g d = refl
 same_other (suc x) zero h g d = refl
 same_other (suc x) (suc y) h g d = ne_eqb (turned x) (turned y) (λ e. d (ap suc (sym (turned_twice x (omega arith)) ∙ ap turned e ∙ turned_twice y (omega arith))))
-
--- An id's low 32 bits tell it.
-low_tree : (added : List ℕ) (n k x : ℕ) → added_tree added n k (x % 4294967296) ≡ added_tree added n k x
-unfolding added_tree turned
-low_tree added n k x = let e : (x % 4294967296 + 2147483648) % 4294967296 ≡ (x + 2147483648) % 4294967296 = omega arith in rw e
 
 module _ (added : List ℕ) (n : ℕ) (unders firsts starts : List ℕ) (total q : ℕ) where
   abbrev at_place : ℕ → Addition Source
@@ -83,9 +78,9 @@ module _ (added : List ℕ) (n : ℕ) (unders firsts starts : List ℕ) (total q
       pub all_done : total ≤ j → Planned all 0 past lv i c v plan (Some here) p₁
       all_done l = onward_done h.on (rest_none j l) refl
 
-      module _ (k id : ℕ) (r : Step) (p₂ : PlanRows) (l : j < total) (e : get_or unders j 0 ≡ q) (ek : k ≡ get_or firsts j 0) (ei : id ≡ get_or starts j 0 % 4294967296) (p : Planned (added_tree added n k id) 0 here.next lv here.at here.count here.visited p₁ r p₂) where
+      module _ (k id : ℕ) (r : Step) (p₂ : PlanRows) (l : j < total) (e : get_or unders j 0 ≡ q) (ek : k ≡ get_or firsts j 0) (ei : id ≡ get_or starts j 0) (p : Planned (added_tree added n k id) 0 here.next lv here.at here.count here.visited p₁ r p₂) where
         first : arriving_from j ≡ added_tree added n k id then arriving_from (j + 1)
-        first = rw (ek, ei, low_tree added n (get_or firsts j 0) (get_or starts j 0)) (rest_here j l e)
+        first = rw (ek, ei) (rest_here j l e)
 
         pub all_goes : (w : Place) → r ≡ Some w → Rest (j + 1) w p₂
         all_goes w er =

@@ -156,6 +156,13 @@ module _ (records dropped : List ℕ) (adds : List (Addition Source)) (q : Optio
   unfolding rebuilt_row mapped rebuilt ◌then◌
   row_kept k m n e = rw e
 
+-- of `count` siblings some are left while fewer are passed
+pub left_some : {passed count : ℕ} → passed < count → 0 < count - passed
+left_some l = omega arith
+
+pub left_less : (passed count : ℕ) → count - (passed + 1) ≡ count - passed - 1
+left_less passed count = omega arith
+
 -- whatever plans the rest, c trees from slot k on, gives G
 pub record Rebuilding (records dropped : List ℕ) (adds : List (Addition Source)) (n lv : ℕ) (q : Option ℕ) (b : Bool) (G : Step → PlanRows → Type 0) (c k i d v : ℕ) (plan : PlanRows) : Type 0 where
   pub read : Readable records n lv c k
@@ -222,9 +229,9 @@ module _ {records dropped : List ℕ} {adds : List (Addition Source)} {n lv : �
       the_row : part 0 (kids_at records) n lv c k ≡ before k held (behind j)
       the_row = rw ej (part_in 0 (kids_at records) n lv c k H.read.read (kids_at records k) (λ z. omega arith) refl)
 
-      pub rebuild_skips : {g : Bool} → g ≡ dropped_member b dropped (turned (rec_at records k).id) → g ≡ true → {w : Place} → StandsAt j i d (v + 1) w → Rebuilding records dropped adds n lv q b G (c - 1) w.next w.at w.count w.visited plan
-      rebuild_skips eg et o =
-          rw o.is
+      pub rebuild_skips : {g : Bool} → g ≡ dropped_member b dropped (turned (rec_at records k).id) → g ≡ true → {w : Place} → StandsAt j i d (v + 1) w → {c' : ℕ} → c' ≡ c - 1 → Rebuilding records dropped adds n lv q b G c' w.next w.at w.count w.visited plan
+      rebuild_skips eg et o ec =
+          rw (o.is, ec)
           record {
             read = rest_reads;
             on = onward_passes H.on
@@ -246,12 +253,12 @@ module _ {records dropped : List ℕ} {adds : List (Addition Source)} {n lv : �
         pub rebuild_stops : r ≡ None → G None p₁
         rebuild_stops e = onward_stops H.on (rebuilt_one records dropped adds n lv k) (rebuilt_trees (behind held.next).trees) (kept held.next refl) (full_over p e)
 
-        pub rebuild_goes : {w : Place} → r ≡ Some w → Rebuilding records dropped adds n lv q b G (c - 1) w.next w.at w.count w.visited p₁
+        pub rebuild_goes : {w : Place} → r ≡ Some w → {c' : ℕ} → c' ≡ c - 1 → Rebuilding records dropped adds n lv q b G c' w.next w.at w.count w.visited p₁
         unfolding rebuilt_one size
-        rebuild_goes {w} e =
+        rebuild_goes {w} e ec =
             let u = went_whole p e in
             let z = passed_between records dropped (is_struct (kind_at records k)) n (lv - 1) (kids_at records k) (k + 1) inside_reads.inside in
-            record {
+            rw ec record {
               read = rest_reads w.next u.next;
               on = onward_goes H.on (kept w.next u.next) (kept_passed w.next u.next) (ap (λ (z : Part). z.next) (the_row w.next u.next)) u;
               seen = omega (arith, H.seen, u.at, u.visited, u.next);

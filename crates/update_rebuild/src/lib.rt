@@ -51,8 +51,8 @@ pub struct Given {
 pub struct Decisions {
     pub drops: [u64; 64],
     pub unders: [u64; 64],
-    pub firsts: [u64; 64],
-    pub starts: [u64; 64],
+    pub firsts: [usize; 64],
+    pub starts: [u32; 64],
 }
 
 impl Decisions {
@@ -94,25 +94,18 @@ pub struct Head {
     pub under: Under,
 }
 
-fn struct_at(recs: &[u8], slot: usize) -> bool
-    requires { slot * 24 + 24 ≤ length recs.now }
-    ensures { result ≡ is_struct (kind_at recs.now slot) }
-{
-    is_struct(kind_at(recs, slot))
-}
-
 fn head_at(recs: &[u8], slot: usize) -> Head
     requires { slot * 24 + 24 ≤ length recs.now }
     ensures { HeadOf recs.now slot result }
 {
     let id = id_bits_at(recs, slot);
-    let members = kids_at(recs, slot);
-    let opens = struct_at(recs, slot);
-    let q = under_of(id);
     Head {
         id,
-        members,
-        under: Under { opens, q },
+        members: kids_at(recs, slot),
+        under: Under {
+            opens: is_struct(kind_at(recs, slot)),
+            q: under_of(id),
+        },
     }
 }
 
@@ -120,10 +113,7 @@ fn head_at(recs: &[u8], slot: usize) -> Head
 fn is_leaf(head: Head) -> bool
     ensures { result ≡ (not head.under.opens && eqb head.members 0) }
 {
-    if head.under.opens {
-        return false;
-    }
-    head.members == 0
+    !head.under.opens && head.members == 0
 }
 
 // So many added records from a slot on, planned from place `at` on, with ids in preorder.
@@ -230,8 +220,8 @@ fn add_all(
         if decisions.unders[j] != q {
             continue;
         }
-        let first = decisions.firsts[j] as usize;
-        let start = low_32(decisions.starts[j]);
+        let first = decisions.firsts[j];
+        let start = decisions.starts[j];
         here = add_tree(added, given.added, first, start, levels, plan, here)?;
     }
     Some(here)
@@ -339,22 +329,19 @@ pub fn rebuild_fields<'a>(
 {
     let records = trees.records;
     let levels = row.levels;
-    let mut left = row.count;
     let mut here = Place {
         next: row.slot,
         at,
         count: 0,
         visited: 0,
     };
-    while 0 < left {
+    for passed in 0..row.count {
         let k = here.next;
         if dropped.drops_member(records, k, under.opens) {
             here = over(here, tree_end(records, given.base, k, levels - 1, 0));
-            left -= 1;
             continue;
         }
         here = rebuild_field(trees, given, k, levels, dropped, decisions, plan, here)?;
-        left -= 1;
     }
     let added = trees.added_records;
     close(under, added, given, decisions, levels, plan, here)
