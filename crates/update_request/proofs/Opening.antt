@@ -148,4 +148,4 @@ most l lists h sized f =
     let e = sized.says 0 0 0 0 in
     (base_most _ _ h e f, added_most _ _ h e f, deletions_most _ _ h e f, additions_most _ _ h e f, edits_most _ _ h e f)
 
-pub ruleset openings = (list_stops, next_stops, list_goes, base_stops, added_stops, both_read, contents_stop, lists_stop, contents_fine, no_room, no_limits, no_version, opens_on)
+pub ruleset openings = (list_stops, next_stops, list_goes, base_stops, added_stops, both_read, contents_stop, lists_stop, contents_fine, no_room, no_limits, no_version, opens_on, most)

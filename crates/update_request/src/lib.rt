@@ -51,6 +51,7 @@ fn check_contents<'a>(trees: &Trees<'a>, lists: &Lists<'a>) -> Result<(u32, u32)
 }
 
 // Whether there is such a format version.
+#[tactic(auto, unfolding(paper::specs::Promotions::known_version))]
 fn known_version(version: u32) -> bool
     ensures { result ≡ known_version version }
 {
@@ -59,6 +60,7 @@ fn known_version(version: u32) -> bool
 
 // How many roots the base has, and how many the additions tree: refusals 1 and 2 for everything, 25, then those of the contents. The
 // rooms are the lengths of the output buffers.
+#[tactic(auto, using(crate::proofs::Opening::openings))]
 pub fn open_update<'a>(
     trees: &Trees<'a>,
     lists: &Lists<'a>,
