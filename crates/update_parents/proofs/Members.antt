@@ -19,16 +19,19 @@ pub record Scanning (pool s : List ℕ) (n k : ℕ) (x ds : List ℕ) (left at :
   pub read : reads 0 (kids_at s) n 15 left at ≡ true
   pub same : member_taken (members_at pool s n k) x ds ≡ member_taken (fields pool s (part 0 (kids_at s) n 15 left at).trees) x ds
 
-pub scan_starts : (pool s : List ℕ) (n k : ℕ) (x ds : List ℕ) (c : ℕ) → Standing 0 s n 15 k → c ≡ kids_at s k → Scanning pool s n k x ds c (k + 1)
+pub scan_starts : (pool s : List ℕ) (n k : ℕ) (x ds : List ℕ) (c : ℕ) → Standing 0 s n 15 k → c ≡ kids_at s k → Scanning pool s n k x ds (c - 0) (k + 1)
 unfolding members_at
-scan_starts pool s n k x ds c h e = rw e (record { read = h.read; same = refl })
+scan_starts pool s n k x ds c h e = let z : c - 0 ≡ kids_at s k = omega (arith, e) in rw z (record { read = h.read; same = refl })
 
-module _ (pool s : List ℕ) (n k : ℕ) (x ds : List ℕ) (left at : ℕ) (H : Scanning pool s n k x ds left at) where
-  pub scan_ends : left ≤ 0 → false ≡ member_taken (members_at pool s n k) x ds
+module _ (pool s : List ℕ) (n k : ℕ) (x ds : List ℕ) (c i at : ℕ) (H : Scanning pool s n k x ds (c - i) at) where
+  abbrev left : ℕ
+  left = c - i
+
+  pub scan_ends : c ≤ i → false ≡ member_taken (members_at pool s n k) x ds
   unfolding member_taken fields mapped
   scan_ends l = sym (H.same ∙ rw (part_none 0 (kids_at s) n 15 left at (omega arith)))
 
-  module _ (l : 0 < left) where
+  module _ (l : i < c) where
     here : First s n left at
     here = first_of s n left at (λ z. omega arith) H.read
 
@@ -47,18 +50,12 @@ module _ (pool s : List ℕ) (n k : ℕ) (x ds : List ℕ) (left at : ℕ) (H : 
       pub scan_found : g ≡ true → true ≡ member_taken (members_at pool s n k) x ds
       scan_found q = sym (step ∙ ap (λ (b : Bool). cond b true (member_taken (fields pool s (part 0 (kids_at s) n 15 (left - 1) (part 0 (kids_at s) n 14 (kids_at s at) (at + 1)).next).trees) x ds)) (sym eg ∙ q))
 
-      pub scan_goes : (j : ℕ) → g ≡ false → j ≡ (part 0 (kids_at s) n 14 (kids_at s at) (at + 1)).next → Scanning pool s n k x ds (left - 1) j
+      pub scan_goes : (j : ℕ) → g ≡ false → j ≡ (part 0 (kids_at s) n 14 (kids_at s at) (at + 1)).next → Scanning pool s n k x ds (c - (i + 1)) j
       scan_goes j q e =
-          rw e (record {
+          let z : c - (i + 1) ≡ c - i - 1 = omega arith in
+          rw (z, e) (record {
             read = here.rest;
             same = step ∙ ap (λ (b : Bool). cond b true (member_taken (fields pool s (part 0 (kids_at s) n 15 (left - 1) (part 0 (kids_at s) n 14 (kids_at s at) (at + 1)).next).trees) x ds)) (sym eg ∙ q);
           })
 
--- one record
-pub takes_not : (pool s : List ℕ) (k : ℕ) (y x ds : List ℕ) (b : Bool) → y ≡ name_of pool s k → b ≡ same y x → b ≡ false → false ≡ (same (name_of pool s k) x && not (among (turned (rec_at s k).id) ds))
-takes_not pool s k y x ds b ey e q = let z : same (name_of pool s k) x ≡ false = ap (λ (w : List ℕ). same w x) (sym ey) ∙ sym e ∙ q in rw z
-
-pub takes_if : (pool s : List ℕ) (k : ℕ) (y x ds : List ℕ) (b d : Bool) (i : ℕ) → y ≡ name_of pool s k → b ≡ same y x → b ≡ true → i ≡ (rec_at s k).id → d ≡ among (turned i) ds → not d ≡ (same (name_of pool s k) x && not (among (turned (rec_at s k).id) ds))
-takes_if pool s k y x ds b d i ey e q ei f = let z : same (name_of pool s k) x ≡ true = ap (λ (w : List ℕ). same w x) (sym ey) ∙ sym e ∙ q in rw (z, ← ei, ← f)
-
-pub ruleset taking = (takes_not, takes_if)
+pub ruleset scanning = (scan_starts, scan_found, scan_stands, scan_goes, scan_ends)

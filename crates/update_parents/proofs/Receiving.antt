@@ -21,8 +21,8 @@ use Rattle.laws.proofs.RoundTrip.{both}
 use Rattle.tree.specs.Read.{part, reads, Standing}
 use Rattle.tree.proofs.Steps.{part_is, reads_is, part_in, was_read, no_past, reads_inner, reads_rest}
 use Rattle.tree.proofs.Depth.{row_is_low, row_reads_low}
-use Rattle.update_parents.specs.declared.Target.{Target}
-use Rattle.update_parents.specs.declared.Target.TheVariants as target
+use Rattle.std.specs.Prelude as code
+use Rattle.update_parents.specs.Answers.{Target}
 use Rattle.update_parents.specs.Target.{struct_at, value_slot, step_from, receiving, targeted, members_at, receiver_at}
 
 -- ---- a list has one member, a map two
@@ -174,11 +174,11 @@ module _ (pool s : List ℕ) (n : ℕ) where
 -- ---- the code's answer
 
 module _ (s : List ℕ) (n k : ℕ) (K : Kind) (e : K ≡ kind_at s k) where
-  pub to_nothing : K ≡ Primitive → target.Nothing ≡ targeted (receiving s n k)
+  pub to_nothing : K ≡ Primitive → code.None ≡ targeted (receiving s n k)
   unfolding receiving targeted
   to_nothing q = let z : kind_at s k ≡ Primitive = sym e ∙ q in rw z
 
-  pub to_itself : K ≡ Structure → target.Struct (record { 0 = k }) ≡ targeted (receiving s n k)
+  pub to_itself : K ≡ Structure → code.Some (record { 0 = k }) ≡ targeted (receiving s n k)
   unfolding receiving targeted
   to_itself q = let z : kind_at s k ≡ Structure = sym e ∙ q in rw z
 
@@ -196,12 +196,10 @@ module _ (s : List ℕ) (n k : ℕ) (K : Kind) (e : K ≡ kind_at s k) where
   pub map_kid : Standing 0 s n 15 k → ok_bytes s k ≡ true → K ≡ Mapping → kids_at s k ≡ 2
   map_kid h b q = map_two s n k h b (sym e ∙ q)
 
-pub at_struct : (s : List ℕ) (j : ℕ) (K : Kind) (b : Bool) → K ≡ kind_at s j → b ≡ is_struct K → b ≡ true → target.Struct (record { 0 = j }) ≡ targeted (struct_at s j)
+pub some_struct : (s : List ℕ) (j : ℕ) (K : Kind) (b : Bool) (r : Target) → K ≡ kind_at s j → b ≡ is_struct K → r ≡ cond b (code.Some (record { 0 = j })) code.None → r ≡ targeted (struct_at s j)
 unfolding targeted
-at_struct s j K b ek e q = let z : is_struct (kind_at s j) ≡ true = ap is_struct (sym ek) ∙ sym e ∙ q in rw z
-
-pub at_nothing : (s : List ℕ) (j : ℕ) (K : Kind) (b : Bool) → K ≡ kind_at s j → b ≡ is_struct K → b ≡ false → target.Nothing ≡ targeted (struct_at s j)
-unfolding targeted
-at_nothing s j K b ek e q = let z : is_struct (kind_at s j) ≡ false = ap is_struct (sym ek) ∙ sym e ∙ q in rw z
-
-pub ruleset resolving = (at_struct, at_nothing)
+some_struct s j K b r ek e q = q ∙ rw (e, ek) (go (is_struct (kind_at s j)))
+  where
+    go : (b : Bool) → cond b (code.Some (record { 0 = j })) code.None ≡ targeted (cond b (some j) none)
+    go true = refl
+    go false = refl

@@ -10,8 +10,8 @@ use Rattle.paper.specs.Decode.{fields}
 use Rattle.paper.specs.Rows.{Row}
 use Rattle.paper.specs.Update.{Receiver}
 use Rattle.tree.specs.Read.{part, reads}
-use Rattle.update_parents.specs.declared.Target.{Target}
-use Rattle.update_parents.specs.declared.Target.TheVariants as target
+use Rattle.std.specs.Prelude as code
+use Rattle.update_parents.specs.Answers.{Target}
 
 abbrev pub struct_at : List ℕ → ℕ → Option ℕ
 struct_at records j = cond (is_struct (kind_at records j)) (some j) none
@@ -31,8 +31,8 @@ unfoldable pub receiving : (records : List ℕ) (n k : ℕ) → Option ℕ
 receiving records n k = step_from records n k (kind_at records k)
 
 unfoldable pub targeted : Option ℕ → Target
-targeted none = target.Nothing
-targeted (some k) = target.Struct (record { 0 = k })
+targeted none = code.None
+targeted (some k) = code.Some (record { 0 = k })
 
 -- The members of the struct at slot k.
 unfoldable pub members_at : (pool records : List ℕ) (n k : ℕ) → Forest Field
