@@ -65,11 +65,6 @@ unfoldable pub found_slot : List ℕ → Option ℕ → Found
 found_slot is none = None
 found_slot is (some k) = at_slot (id_in is k) k
 
--- The slot that was found.
-abbrev pub held : FoundSlot → Option ℕ
-held None = none
-held (Some s) = some s.0
-
 -- The look-up of an id, and of the record above one: whatever the plan draws on.
 pub record ById (plan : PlanRows) (m id : ℕ) (r : Found) : Type 0 where
   pub finds : (l : Trees) → PlanIn l plan m → r ≡ found_row (look_id (fields_in l plan m) (turned id))

@@ -7,8 +7,7 @@ use Prim.Native.Nat.{ℕ, zero, suc, ◌+◌, ◌-◌, ◌/◌, ◌%◌, ◌<◌
 use native.Mathlib.Omega.{arith}
 use borrow.Author.Tests.{eqb-false, eq-eqb, ne_eqb}
 use lib.Dec.{eqb}
-use lib.ListN.{length, get_or, set, length-set}
-use lib.Seq.{get_or-set_same, get_or-set_other}
+use lib.ListN.{get_or}
 use Rattle.paper.specs.Answer.{lowest}
 use Rattle.paper.specs.Bytes.{turned}
 use Rattle.laws.proofs.Words.{turned_twice}
@@ -28,34 +27,6 @@ use Rattle.index_ids.proofs.Repeats.{repeats}
 use Rattle.index_ids.proofs.Tables.{within_same, within_both}
 use Rattle.index_ids.proofs.Paths.{together_same, together_less, all_asked, met_head, met_linked, met_cell, begun, path_fresh}
 use Rattle.index_ids.proofs.Entering.{entered_within, path_enters}
-
--- ---- clearing
-
--- The heads below b are cleared.
-pub record Clearing (heads : List ℕ) (b : ℕ) : Type 0 where
-  pub room : length heads ≡ 1024
-  pub small : b ≤ 1024
-  pub none : (c : ℕ) → c < b → get_or heads c 0 ≡ 0
-
-pub clear_starts : (heads : List ℕ) → length heads ≡ 1024 → Clearing heads 0
-clear_starts heads e = record { room = e; small = omega arith; none = λ c l. absurd (omega arith) }
-
-pub clear_goes : (heads : List ℕ) (b : ℕ) → Clearing heads b → b < 1024 → Clearing (set heads b 0) (b + 1)
-clear_goes heads b h l =
-    record {
-      room = length-set heads b 0 ∙ h.room;
-      small = omega arith;
-      none = λ c q. go c q (eqb_cases b c);
-    }
-  where
-    go : (c : ℕ) → c < b + 1 → (b ≡ c) ⊎ (b ≡ c → ⊥) → get_or (set heads b 0) c 0 ≡ 0
-    go c q (inl e) = rw (← e) (get_or-set_same heads b 0 0 (let z = h.room in omega arith))
-    go c q (inr e) = get_or-set_other heads b c 0 0 (λ z. e (sym z)) ∙ h.none c (omega arith)
-
-pub clear_ends : (heads : List ℕ) (b : ℕ) → Clearing heads b → 1024 ≤ b → Cleared heads
-clear_ends heads b h l = record { room = h.room; none = λ c q. h.none c (omega arith) }
-
-pub ruleset clearing = (clear_starts, clear_goes, clear_ends)
 
 -- ---- one id
 

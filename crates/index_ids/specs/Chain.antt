@@ -1,8 +1,9 @@
 -- Slots in chains, one chain for each bucket, each from the largest slot down. A place is one more than a slot, or 0 for none.
 use Rattle.std.specs.Prelude.{ℕ, zero, suc, ◌+◌, ◌<◌, ◌≡◌, Bool, true, false, List, eqb, length, get_or, set}
+use Rattle.std.specs.Prelude.{Some, None}
+use Rattle.std.proofs.Math.Option.{Option, none, some}
 use Rattle.record.specs.declared.Slot.{Slot}
 use Rattle.record.specs.Answers.{FoundSlot}
-use Rattle.std.specs.Prelude.{Some}
 
 -- The place of the largest slot below k that falls in the bucket b.
 unfoldable pub last : (ℕ → ℕ) → ℕ → ℕ → ℕ
@@ -21,6 +22,11 @@ lowest_below p best (suc k) = lowest_below p (pick (p k) (suc k) best) k
 -- Whether no slot below k is the same as k.
 abbrev pub new_at : (ℕ → ℕ → Bool) → ℕ → Bool
 new_at same k = eqb (lowest_below (same k) 0 k) 0
+
+-- The slot that was found.
+abbrev pub held : FoundSlot → Option ℕ
+held None = none
+held (Some s) = some s.0
 
 -- A slot that was found is one of an array's.
 pub record Below (w : FoundSlot) : Type 0 where
