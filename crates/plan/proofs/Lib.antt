@@ -1,6 +1,7 @@
 pub mod Laying
 pub mod Rooms
 pub mod Sourcing
+pub mod Origins
 pub mod Standing
 pub mod Summing
 pub mod Taking

@@ -1,4 +1,5 @@
 pub mod Plan
+pub mod Origin
 pub mod Draft
 pub mod Sources
 pub mod Table

@@ -5,8 +5,9 @@ ghost use Rattle.std.specs.Prelude.{◌≡◌, ◌+◌, ◌*◌, ◌≤◌, ◌<
 ghost use Rattle.std.proofs.lemmas.List.Edits.{sets};
 ghost use Rattle.paper.specs.Edits.{relaxed};
 ghost use Rattle.record.specs.Trees.{trees_in};
-ghost use Rattle.plan.specs.Plan.{edited_slot, mark_of, low_part, marked_flags, marked_code, Sits};
-ghost use Rattle.plan.specs.Sources.{source_kind, marked_len, source_len, source_flags, source_code};
+ghost use Rattle.plan.specs.Plan.{Sits};
+ghost use Rattle.plan.specs.Origin.{named, origin_of, edited_len, edited_flags, edited_code, EditedIn};
+ghost use Rattle.plan.specs.Sources.{source_kind, source_len, source_flags, source_code};
 ghost use Rattle.plan.specs.Sources.{NameAt, In, Summed};
 ghost use Rattle.plan.specs.Named.{names_in, SourcesIn};
 ghost use Rattle.plan.specs.Table.{sources, InsideIn, Roomy, planned_at, CopiedIn, TakenIn};
@@ -15,10 +16,24 @@ use paper::{Kind, is_required};
 use record::{Trees, code_at, flags_at, id_bits_at, kids_at, kind_at, name_at, name_len_at};
 use record_entries::{new_code_at, new_name_at, new_name_len};
 
-// A plan's rows: where each planned record comes from, its id as 32 bits, how many members it has. A source below 1,024 is a slot of
-// the base, one from 1,024 to 2,047 a slot of the additions tree, one from 2,048 on a slot of the base as edits leave it:
-// 2,048 + slot + 1,024 * mark. The mark is 1 if the column is relaxed, 2 * (k + 1) more if edit k renames it, and 256 * (k + 1)
-// more if edit k widens it.
+// Where a planned record comes from: a slot of the base, a slot of the additions tree, or a slot of the base as edits leave it.
+#[derive(Clone, Copy)]
+pub enum Origin {
+    Base(usize),
+    Added(usize),
+    Edited(Edited),
+}
+
+// A slot of the base as edits leave it: whether it is relaxed, and the edits that rename and widen it.
+#[derive(Clone, Copy)]
+pub struct Edited {
+    pub slot: usize,
+    pub relaxed: bool,
+    pub renaming: Option<usize>,
+    pub widening: Option<usize>,
+}
+
+// A plan's rows: where each planned record comes from, as one number (`origin_of`), its id as 32 bits, how many members it has.
 #[derive(Clone, Copy)]
 pub struct PlanRows {
     pub sources: [u32; 1024],
@@ -76,27 +91,33 @@ pub fn take_base(records: &[u8], n: usize, plan: &mut PlanRows)
     copy_records(records, 0, n, plan, 0);
 }
 
-// The slot in the base of a source from 2,048 on.
-pub fn edited_slot(k: usize) -> usize
-    requires { 2048 ≤ k }
-    ensures { result ≡ edited_slot k }
+// The edit that a part of a mark names: 0 is none, k + 1 edit k.
+fn named(part: usize) -> Option<usize>
+    ensures { result ≡ named part }
 {
-    (k - 2048) % 1024
+    part.checked_sub(1)
 }
 
-// Its mark, and the part of the mark on renaming and relaxing.
-fn mark_of(k: usize) -> usize
-    requires { 2048 ≤ k }
-    ensures { result ≡ mark_of k }
+// A source's number taken apart. Below 1,024 it is a slot of the base, from 1,024 to 2,047 one of the additions tree, from 2,048 on
+// 2,048 + slot + 1,024 * mark. The mark is 1 if the column is relaxed, 2 * (k + 1) more if edit k renames it, and 256 * (k + 1) more
+// if edit k widens it.
+pub fn origin_of(source: u32) -> Origin
+    ensures { result ≡ origin_of source }
 {
-    (k - 2048) / 1024
-}
-
-fn low_part(k: usize) -> usize
-    requires { 2048 ≤ k }
-    ensures { result ≡ low_part (mark_of k) }
-{
-    mark_of(k) % 256
+    let k = source as usize;
+    if k < 1024 {
+        return Origin::Base(k);
+    }
+    if k < 2048 {
+        return Origin::Added(k - 1024);
+    }
+    let mark = (k - 2048) / 1024;
+    Origin::Edited(Edited {
+        slot: (k - 2048) % 1024,
+        relaxed: mark % 2 == 1,
+        renaming: named(mark % 256 / 2),
+        widening: named(mark / 256),
+    })
 }
 
 // The flags of a column that is no longer required.
@@ -110,57 +131,39 @@ fn relaxed_flags(flags: u8) -> u8
 }
 
 // The length of an edited record's name: the new one's, if it is renamed.
-pub fn edited_name_len<'a>(trees: &Trees<'a>, k: usize) -> usize
-    requires { (2048 ≤ k) × In (trees_in trees.now).records
-        (trees_in trees.now).added_records (trees_in trees.now).edits k }
-    ensures { (result ≡ marked_len (trees_in trees.now).records
-        (trees_in trees.now).edits (mark_of k) (edited_slot k)) × (result ≤ 255) }
+pub fn edited_name_len<'a>(trees: &Trees<'a>, edited: Edited) -> usize
+    requires { EditedIn (trees_in trees.now).records (trees_in trees.now).edits edited }
+    ensures { (result ≡ edited_len (trees_in trees.now).records
+        (trees_in trees.now).edits edited) × (result ≤ 255) }
 {
-    let low = low_part(k);
-    if low < 2 {
-        return name_len_at(trees.records, edited_slot(k));
+    match edited.renaming {
+        None => name_len_at(trees.records, edited.slot),
+        Some(k) => new_name_len(trees.edits, k),
     }
-    new_name_len(trees.edits, low / 2 - 1)
 }
 
 // Its flags: no longer required, if it is relaxed.
-pub fn edited_flags<'a>(trees: &Trees<'a>, k: usize) -> u8
-    requires { (2048 ≤ k) × In (trees_in trees.now).records
-        (trees_in trees.now).added_records (trees_in trees.now).edits k }
-    ensures { result ≡ marked_flags (trees_in trees.now).records (mark_of k)
-        (edited_slot k) }
+pub fn edited_flags<'a>(trees: &Trees<'a>, edited: Edited) -> u8
+    requires { EditedIn (trees_in trees.now).records (trees_in trees.now).edits edited }
+    ensures { result ≡ edited_flags (trees_in trees.now).records edited }
 {
-    let flags = flags_at(trees.records, edited_slot(k));
-    if mark_of(k) % 2 == 1 {
+    let flags = flags_at(trees.records, edited.slot);
+    if edited.relaxed {
         return relaxed_flags(flags);
     }
     flags
 }
 
 // Its type code: the new one, if it is widened.
-pub fn edited_code<'a>(trees: &Trees<'a>, k: usize) -> u32
-    requires { (2048 ≤ k) × In (trees_in trees.now).records
-        (trees_in trees.now).added_records (trees_in trees.now).edits k }
-    ensures { result ≡ marked_code (trees_in trees.now).records
-        (trees_in trees.now).edits (mark_of k) (edited_slot k) }
+pub fn edited_code<'a>(trees: &Trees<'a>, edited: Edited) -> u32
+    requires { EditedIn (trees_in trees.now).records (trees_in trees.now).edits edited }
+    ensures { result ≡ edited_code (trees_in trees.now).records
+        (trees_in trees.now).edits edited }
 {
-    let mark = mark_of(k);
-    if mark < 256 {
-        return code_at(trees.records, edited_slot(k));
+    match edited.widening {
+        None => code_at(trees.records, edited.slot),
+        Some(k) => new_code_at(trees.edits, k),
     }
-    new_code_at(trees.edits, mark / 256 - 1)
-}
-
-// Its name: a part of the request pool, if it is renamed, else of the base's.
-fn edited_name<'a>(trees: &Trees<'a>, k: usize) -> &'a [u8]
-    requires { (2048 ≤ k) × Sits (trees_in trees.now) k }
-    ensures { NameAt trees.now k result }
-{
-    let low = low_part(k);
-    if 2 <= low {
-        return new_name_at(trees.request_pool, trees.edits, low / 2 - 1);
-    }
-    name_at(trees.pool, trees.records, edited_slot(k))
 }
 
 // A planned record's kind.
@@ -170,16 +173,11 @@ pub fn planned_kind<'a>(trees: &Trees<'a>, source: u32) -> Kind
     ensures { result ≡ source_kind (trees_in trees.now).records
         (trees_in trees.now).added_records source }
 {
-    let records = trees.records;
-    let added = trees.added_records;
-    let k = source as usize;
-    if k < 1024 {
-        return kind_at(records, k);
+    match origin_of(source) {
+        Origin::Base(slot) => kind_at(trees.records, slot),
+        Origin::Added(slot) => kind_at(trees.added_records, slot),
+        Origin::Edited(edited) => kind_at(trees.records, edited.slot),
     }
-    if k < 2048 {
-        return kind_at(added, k - 1024);
-    }
-    kind_at(records, edited_slot(k))
 }
 
 // Its flags.
@@ -189,14 +187,11 @@ pub fn planned_flags<'a>(trees: &Trees<'a>, source: u32) -> u8
     ensures { result ≡ source_flags (trees_in trees.now).records
         (trees_in trees.now).added_records source }
 {
-    let k = source as usize;
-    if k < 1024 {
-        return flags_at(trees.records, k);
+    match origin_of(source) {
+        Origin::Base(slot) => flags_at(trees.records, slot),
+        Origin::Added(slot) => flags_at(trees.added_records, slot),
+        Origin::Edited(edited) => edited_flags(trees, edited),
     }
-    if k < 2048 {
-        return flags_at(trees.added_records, k - 1024);
-    }
-    edited_flags(trees, k)
 }
 
 // Its type code.
@@ -207,14 +202,11 @@ pub fn planned_code<'a>(trees: &Trees<'a>, source: u32) -> u32
         (trees_in trees.now).added_records (trees_in trees.now).edits
         source }
 {
-    let k = source as usize;
-    if k < 1024 {
-        return code_at(trees.records, k);
+    match origin_of(source) {
+        Origin::Base(slot) => code_at(trees.records, slot),
+        Origin::Added(slot) => code_at(trees.added_records, slot),
+        Origin::Edited(edited) => edited_code(trees, edited),
     }
-    if k < 2048 {
-        return code_at(trees.added_records, k - 1024);
-    }
-    edited_code(trees, k)
 }
 
 // The length of its name.
@@ -228,14 +220,11 @@ pub fn planned_name_len<'a>(trees: &Trees<'a>, source: u32) -> usize
     // both are read before the choice, so that a loop need not read them each time
     let records = trees.records;
     let added = trees.added_records;
-    let k = source as usize;
-    if k < 1024 {
-        return name_len_at(records, k);
+    match origin_of(source) {
+        Origin::Base(slot) => name_len_at(records, slot),
+        Origin::Added(slot) => name_len_at(added, slot),
+        Origin::Edited(edited) => edited_name_len(trees, edited),
     }
-    if k < 2048 {
-        return name_len_at(added, k - 1024);
-    }
-    edited_name_len(trees, k)
 }
 
 // A planned record's name: a part of the base pool or of the request pool, whichever holds it.
@@ -243,18 +232,14 @@ pub fn planned_name<'a>(trees: &Trees<'a>, source: u32) -> &'a [u8]
     requires { Sits (trees_in trees.now) source }
     ensures { NameAt trees.now source result }
 {
-    let records = trees.records;
-    let pool = trees.pool;
-    let added = trees.added_records;
-    let request_pool = trees.request_pool;
-    let k = source as usize;
-    if k < 1024 {
-        return name_at(pool, records, k);
+    match origin_of(source) {
+        Origin::Base(slot) => name_at(trees.pool, trees.records, slot),
+        Origin::Added(slot) => name_at(trees.request_pool, trees.added_records, slot),
+        Origin::Edited(edited) => match edited.renaming {
+            None => name_at(trees.pool, trees.records, edited.slot),
+            Some(k) => new_name_at(trees.request_pool, trees.edits, k),
+        },
     }
-    if k < 2048 {
-        return name_at(request_pool, added, k - 1024);
-    }
-    edited_name(trees, k)
 }
 
 // The name of the planned record at a place: the very part of the pool that holds it.

@@ -1,5 +1,5 @@
 -- The bytes of one record, as the code puts them together and as 01 lays them out.
-use Prim.Native.Nat.{ℕ, ◌+◌, ◌-◌, ◌*◌, ◌/◌, ◌%◌, ◌<◌, ◌≤◌}
+use Prim.Native.Nat.{ℕ, ◌+◌, ◌-◌, ◌*◌, ◌/◌, ◌%◌, ◌<◌}
 use mathlib.Core.Path.{◌≡◌, ◌∙◌}
 use mathlib.Core.List.{List, [], ◌∷◌}
 use native.Mathlib.Omega.{arith}
@@ -8,10 +8,15 @@ use lib.ListN.{get_or}
 use Rattle.paper.specs.Bytes.{turned, field_at}
 use Rattle.paper.specs.Encode.{bytes32, row24, rec_bytes}
 use Rattle.record.specs.Trees.{Trees}
-use Rattle.plan.specs.Plan.{edited_slot, mark_of, marked_flags, marked_code, marked_field, source_field, planned_field, Sits}
-use Rattle.plan.specs.Sources.{marked_len, source_len}
-use Rattle.plan.proofs.Sourcing.{from_edited, name_length, marked_length, source_cases}
-use Rattle.plan_write.specs.Written.{row_of, source_row}
+use Rattle.plan.specs.Plan.{edited_slot, mark_of, marked_field, source_field, planned_field, Sits}
+use Rattle.plan.specs.Sources.{source_len}
+use Rattle.plan.specs.declared.Edited.{Edited}
+use Rattle.plan.specs.declared.Origin.{Origin}
+use Rattle.plan.specs.declared.Origin.TheVariants as origin
+use Rattle.plan.specs.Origin.{origin_of, edited_len, edited_flags, edited_code}
+use Rattle.plan.proofs.Origins.{told_base, told_added, told_edited, len_same, flags_same, code_same}
+use Rattle.plan.proofs.Sourcing.{name_length, marked_length, source_cases}
+use Rattle.plan_write.specs.Written.{row_of, kept_row, source_row}
 
 pub row_is : (i a m c d : List ℕ) (id at len kind flags kids code attribute : ℕ) → i ≡ bytes32 id [] → a ≡ bytes32 at [] → m ≡ bytes32 kids [] → c ≡ bytes32 code [] → d ≡ bytes32 attribute []
     → get_or i 0 0 ∷ get_or i 1 0 ∷ get_or i 2 0 ∷ get_or i 3 0 ∷ get_or a 0 0 ∷ get_or a 1 0 ∷ get_or a 2 0 ∷ get_or a 3 0 ∷ len ∷ kind ∷ flags ∷ 0 ∷ get_or m 0 0 ∷ get_or m 1 0 ∷ 0 ∷ 0
@@ -19,13 +24,24 @@ pub row_is : (i a m c d : List ℕ) (id at len kind flags kids code attribute : 
 unfolding row24
 row_is i a m c d id at len kind flags kids code attribute ei ea em ec ed = rw (ei, ea, em, ec, ed)
 
-module _ (base added edits : List ℕ) (x slot : ℕ) (l : 2048 ≤ x) (es : slot ≡ edited_slot x) where
-  pub row_edited : (r : List ℕ) (id kids at len flags code : ℕ) → len ≡ marked_len base edits (mark_of x) (edited_slot x) → flags ≡ marked_flags base (mark_of x) (edited_slot x)
-      → code ≡ marked_code base edits (mark_of x) (edited_slot x) → r ≡ row_of base slot id kids at len flags code → r ≡ source_row base added edits x id kids at
+-- The bytes of a planned record, told of its origin: `search writing`.
+module _ (base added edits : List ℕ) (x : ℕ) (o : Origin) (e : o ≡ origin_of x) (r : List ℕ) (id kids at : ℕ) where
+  pub row_base : (k : ℕ) → o ≡ origin.Base k → r ≡ kept_row base k id kids at → r ≡ source_row base added edits x id kids at
   unfolding source_row
-  row_edited r id kids at len flags code el ef ec e =
-      from_edited x r _ _ (row_of base (edited_slot x) id kids at (marked_len base edits (mark_of x) (edited_slot x)) (marked_flags base (mark_of x) (edited_slot x)) (marked_code base edits (mark_of x) (edited_slot x))) l
-      (rw (← el, ← ef, ← ec, ← es) e)
+  row_base k q h = told_base x o e k q (λ j. kept_row base j id kids at) (λ j. kept_row added j id kids at) _ r h
+
+  pub row_added : (k : ℕ) → o ≡ origin.Added k → r ≡ kept_row added k id kids at → r ≡ source_row base added edits x id kids at
+  unfolding source_row
+  row_added k q h = told_added x o e k q (λ j. kept_row base j id kids at) (λ j. kept_row added j id kids at) _ r h
+
+  pub row_edited : (d : Edited) (len flags code : ℕ) → o ≡ origin.Edited d → len ≡ edited_len base edits d → flags ≡ edited_flags base d → code ≡ edited_code base edits d
+      → r ≡ row_of base d.slot id kids at len flags code → r ≡ source_row base added edits x id kids at
+  unfolding source_row
+  row_edited d len flags code q el ef ec h =
+      rw (← len_same base edits x, ← flags_same base edits x, ← code_same base edits x)
+      (told_edited x o e d q _ _ (λ (z : Edited). row_of base z.slot id kids at (edited_len base edits z) (edited_flags base z) (edited_code base edits z)) r (rw (← el, ← ef, ← ec) h))
+
+pub ruleset writing = (row_base, row_added, row_edited)
 
 -- Reading an id and writing it again gives its 32 bits.
 lowest_byte : (y q : ℕ) → (q * 256 + y) % 256 ≡ y % 256

@@ -13,7 +13,8 @@ ghost use Rattle.plan_write.specs.Run.{joined, Starts, Ran};
 
 use paper::Kind;
 use plan::{
-    PlanRows, edited_code, edited_flags, edited_name_len, edited_slot, planned_name, put_bytes,
+    Origin, PlanRows, edited_code, edited_flags, edited_name_len, origin_of, planned_name,
+    put_bytes,
 };
 use record::{
     Trees, attribute_at, code_at, flags_at, kind_at, length_of, name_from, name_len_at, word_bytes,
@@ -105,26 +106,20 @@ fn planned_bytes<'a>(trees: &Trees<'a>, source: u32, id: u32, kids: u32, at: u32
         (trees_in trees.now).added_records (trees_in trees.now).edits
         source id kids at }
 {
-    let k = source as usize;
-    if k < 1024 {
-        return kept_bytes(trees.records, k, id, kids, at);
+    match origin_of(source) {
+        Origin::Base(slot) => kept_bytes(trees.records, slot, id, kids, at),
+        Origin::Added(slot) => kept_bytes(trees.added_records, slot, id, kids, at),
+        Origin::Edited(edited) => changed_bytes(
+            trees.records,
+            edited.slot,
+            id,
+            kids,
+            at,
+            edited_name_len(trees, edited),
+            edited_flags(trees, edited),
+            edited_code(trees, edited),
+        ),
     }
-    if k < 2048 {
-        return kept_bytes(trees.added_records, k - 1024, id, kids, at);
-    }
-    let len = edited_name_len(trees, k);
-    let flags = edited_flags(trees, k);
-    let code = edited_code(trees, k);
-    changed_bytes(
-        trees.records,
-        edited_slot(k),
-        id,
-        kids,
-        at,
-        len,
-        flags,
-        code,
-    )
 }
 
 // The planned record i into its place among the records; the rest of them stays. Answers how long its name is.
@@ -186,17 +181,15 @@ fn run_from<'a>(trees: &Trees<'a>, plan: &PlanRows, m: usize, i: usize, from: us
         result.next }
 {
     let records = trees.records;
-    let mut next = i;
     let mut end = from;
-    while next < m {
+    for next in i..m {
         let k = source_at(plan, next) as usize;
         if !joins(records, k, end) {
             return Run { end, next };
         }
         end += name_len_at(records, k);
-        next += 1;
     }
-    Run { end, next }
+    Run { end, next: m }
 }
 
 // A plan's names, packed from offset 0; bytes beyond stay. Answers how many name bytes there are.
@@ -210,6 +203,7 @@ fn put_names<'a>(trees: &Trees<'a>, plan: &PlanRows, m: usize, out: &mut [u8]) -
     let pool = trees.pool;
     let mut i = 0;
     let mut to = 0;
+    // no `for`: a step passes over a whole run
     while i < m {
         let source = source_at(plan, i);
         if 1024 <= source {

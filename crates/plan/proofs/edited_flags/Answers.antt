@@ -1,10 +1,11 @@
--- What the mark leaves.
-use Rattle.plan.proofs.Sourcing.{sourcing, marking}
-use borrow.Author.Rules.{rules}
+-- Relaxed or as they are.
+use Rattle.plan.specs.Origin.{edited_flags}
 use Rattle.plan.proofs.edited_flags.Goals as goal
 
-pub returns-then-mark_of-eq1 : goal.returns-then-mark_of-eq1
-returns-then-mark_of-eq1 c = search (sourcing, marking, rules)
+pub returns-then-edited : goal.returns-then-edited
+unfolding edited_flags
+returns-then-edited c = rw (c.if-edited.true, ← c.flags_at-flags.ensures) c.relaxed_flags.ensures
 
 pub returns : goal.returns
-returns c = search (sourcing, marking, rules)
+unfolding edited_flags
+returns c = rw c.if-edited.false c.flags_at-flags.ensures

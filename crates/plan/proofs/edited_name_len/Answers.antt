@@ -1,10 +1,11 @@
--- What the mark leaves.
-use Rattle.plan.proofs.Sourcing.{sourcing, marking}
-use borrow.Author.Rules.{rules}
+-- Its own, or its edit's.
+use Rattle.plan.specs.Origin.{edited_len}
 use Rattle.plan.proofs.edited_name_len.Goals as goal
 
-pub returns-then-low-lt2 : goal.returns-then-low-lt2
-returns-then-low-lt2 c = search (sourcing, marking, rules)
+pub returns-in-None : goal.returns-in-None
+unfolding edited_len
+returns-in-None c = rw c.in-None.is c.name_len_at.ensures
 
-pub returns : goal.returns
-returns c = search (sourcing, marking, rules)
+pub returns-in-Some : goal.returns-in-Some
+unfolding edited_len
+returns-in-Some c = rw c.in-Some.is c.new_name_len.ensures

@@ -1,17 +1,22 @@
 -- The three kinds of sources in turn.
-use Rattle.plan.proofs.Sourcing.{sourcing}
-use Rattle.plan.specs.Sources.{source_code}
+use Rattle.plan.proofs.Origins.{telling}
 use borrow.Author.Rules.{rules}
 use Rattle.plan.proofs.planned_code.Goals as goal
 
-pub returns-then-k-lt1024 : goal.returns-then-k-lt1024
-unfolding source_code
-returns-then-k-lt1024 c = search (sourcing, rules)
+pub code_at-requires : goal.code_at-requires
+code_at-requires c = search (telling, rules)
 
-pub returns-then-k-lt2048 : goal.returns-then-k-lt2048
-unfolding source_code
-returns-then-k-lt2048 c = search (sourcing, rules)
+pub code_at-requires-in-Added : goal.code_at-requires-in-Added
+code_at-requires-in-Added c = search (telling, rules)
 
-pub returns : goal.returns
-unfolding source_code
-returns c = search (sourcing, rules)
+pub edited_code-requires : goal.edited_code-requires
+edited_code-requires c = search (telling, rules)
+
+pub returns-in-Base : goal.returns-in-Base
+returns-in-Base c = search (telling, rules)
+
+pub returns-in-Added : goal.returns-in-Added
+returns-in-Added c = search (telling, rules)
+
+pub returns-in-Edited : goal.returns-in-Edited
+returns-in-Edited c = search (telling, rules)

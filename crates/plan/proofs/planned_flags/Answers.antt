@@ -1,17 +1,22 @@
 -- The three kinds of sources in turn.
-use Rattle.plan.proofs.Sourcing.{sourcing}
-use Rattle.plan.specs.Sources.{source_flags}
+use Rattle.plan.proofs.Origins.{telling}
 use borrow.Author.Rules.{rules}
 use Rattle.plan.proofs.planned_flags.Goals as goal
 
-pub returns-then-k-lt1024 : goal.returns-then-k-lt1024
-unfolding source_flags
-returns-then-k-lt1024 c = search (sourcing, rules)
+pub flags_at-requires : goal.flags_at-requires
+flags_at-requires c = search (telling, rules)
 
-pub returns-then-k-lt2048 : goal.returns-then-k-lt2048
-unfolding source_flags
-returns-then-k-lt2048 c = search (sourcing, rules)
+pub flags_at-requires-in-Added : goal.flags_at-requires-in-Added
+flags_at-requires-in-Added c = search (telling, rules)
 
-pub returns : goal.returns
-unfolding source_flags
-returns c = search (sourcing, rules)
+pub edited_flags-requires : goal.edited_flags-requires
+edited_flags-requires c = search (telling, rules)
+
+pub returns-in-Base : goal.returns-in-Base
+returns-in-Base c = search (telling, rules)
+
+pub returns-in-Added : goal.returns-in-Added
+returns-in-Added c = search (telling, rules)
+
+pub returns-in-Edited : goal.returns-in-Edited
+returns-in-Edited c = search (telling, rules)

@@ -1,17 +1,22 @@
 -- The three kinds of sources in turn.
-use Rattle.plan.proofs.Sourcing.{sourcing, kind_edited}
-use Rattle.plan.specs.Sources.{source_kind}
+use Rattle.plan.proofs.Origins.{telling}
 use borrow.Author.Rules.{rules}
 use Rattle.plan.proofs.planned_kind.Goals as goal
 
-pub returns-then-k-lt1024 : goal.returns-then-k-lt1024
-unfolding source_kind
-returns-then-k-lt1024 c = search (sourcing, rules)
+pub kind_at-requires : goal.kind_at-requires
+kind_at-requires c = search (telling, rules)
 
-pub returns-then-k-lt2048 : goal.returns-then-k-lt2048
-unfolding source_kind
-returns-then-k-lt2048 c = search (sourcing, rules)
+pub kind_at-requires-in-Added : goal.kind_at-requires-in-Added
+kind_at-requires-in-Added c = search (telling, rules)
 
-pub returns : goal.returns
-unfolding source_kind
-returns c = search (kind_edited, rules)
+pub kind_at-requires-in-Edited : goal.kind_at-requires-in-Edited
+kind_at-requires-in-Edited c = search (telling, rules)
+
+pub returns-in-Base : goal.returns-in-Base
+returns-in-Base c = search (telling, rules)
+
+pub returns-in-Added : goal.returns-in-Added
+returns-in-Added c = search (telling, rules)
+
+pub returns-in-Edited : goal.returns-in-Edited
+returns-in-Edited c = search (telling, rules)

@@ -1,17 +1,22 @@
 -- The three kinds of sources in turn.
-use Rattle.plan.proofs.Sourcing.{sourcing}
-use Rattle.plan.specs.Sources.{source_len}
+use Rattle.plan.proofs.Origins.{telling}
 use borrow.Author.Rules.{rules}
 use Rattle.plan.proofs.planned_name_len.Goals as goal
 
-pub returns-then-k-lt1024 : goal.returns-then-k-lt1024
-unfolding source_len
-returns-then-k-lt1024 c = search (sourcing, rules)
+pub name_len_at-requires : goal.name_len_at-requires
+name_len_at-requires c = search (telling, rules)
 
-pub returns-then-k-lt2048 : goal.returns-then-k-lt2048
-unfolding source_len
-returns-then-k-lt2048 c = search (sourcing, rules)
+pub name_len_at-requires-in-Added : goal.name_len_at-requires-in-Added
+name_len_at-requires-in-Added c = search (telling, rules)
 
-pub returns : goal.returns
-unfolding source_len
-returns c = search (sourcing, rules)
+pub edited_name_len-requires : goal.edited_name_len-requires
+edited_name_len-requires c = search (telling, rules)
+
+pub returns-in-Base : goal.returns-in-Base
+returns-in-Base c = search (telling, rules)
+
+pub returns-in-Added : goal.returns-in-Added
+returns-in-Added c = search (telling, rules)
+
+pub returns-in-Edited : goal.returns-in-Edited
+returns-in-Edited c = search (telling, rules)
