@@ -1,13 +1,12 @@
 // The steps by which a type is widened: a constant table by version and code pair, and the rule for decimals beside it.
 #![tactic(auto)]
 
-ghost use Rattle.std.specs.Prelude.{◌≡◌, ◌<◌, get_or};
+ghost use Rattle.std.specs.Prelude.{◌≡◌};
 ghost use Rattle.paper.specs.Answer.{any};
 ghost use Rattle.paper.specs.Promotions.{
   precision,
   scale,
   is_decimal,
-  step,
   promotions,
   is_step,
   more_digits,
@@ -28,48 +27,31 @@ const TIMESTAMP: u32 = 7;
 
 const TIMESTAMP_NS: u32 = 8;
 
-// A row has a version, an old code and a new one.
-const PROMOTIONS: [[u32; 3]; 6] = [
-    [2, INT, LONG],
-    [2, FLOAT, DOUBLE],
-    [3, INT, LONG],
-    [3, FLOAT, DOUBLE],
-    [3, DATE, TIMESTAMP],
-    [3, DATE, TIMESTAMP_NS],
-];
+// A step: a version, an old code, a new one.
+#[derive(Clone, Copy, PartialEq, Eq)]
+struct Step(u32, u32, u32);
 
-// Whether a row of the table is this step.
-fn is_step(row: usize, version: u32, old: u32, new: u32) -> bool
-    requires { row < 6 }
-    ensures { result ≡ is_step version old new (get_or promotions row (step 0 0 0)) }
-{
-    let step = PROMOTIONS[row];
-    (step[0] == version) & ((step[1] == old) & (step[2] == new))
-}
+const PROMOTIONS: [Step; 6] = [
+    Step(2, INT, LONG),
+    Step(2, FLOAT, DOUBLE),
+    Step(3, INT, LONG),
+    Step(3, FLOAT, DOUBLE),
+    Step(3, DATE, TIMESTAMP),
+    Step(3, DATE, TIMESTAMP_NS),
+];
 
 // Whether the table has the step.
 fn is_listed(version: u32, old: u32, new: u32) -> bool
     ensures { result ≡ any (is_step version old new) promotions }
 {
-    let mut row = 0;
-    while row < 6 {
-        if is_step(row, version, old, new) {
-            return true;
-        }
-        row += 1;
-    }
-    false
+    PROMOTIONS.contains(&Step(version, old, new))
 }
 
 // The digits of a decimal, 0 where the code is below those of decimals; and how many of them stand behind the point.
 fn precision_of(code: u32) -> u32
     ensures { result ≡ precision code }
 {
-    let digits = code / 256;
-    if digits < 256 {
-        return 0;
-    }
-    digits - 256
+    (code / 256).saturating_sub(256)
 }
 
 fn scale_of(code: u32) -> u32
@@ -79,25 +61,28 @@ fn scale_of(code: u32) -> u32
 }
 
 // Whether a code is a decimal's.
+#[tactic(auto, unfolding(paper::specs::Promotions::is_decimal))]
 fn is_decimal(code: u32) -> bool
     ensures { result ≡ is_decimal code }
 {
     let digits = precision_of(code);
-    (1 <= digits) & ((digits <= 38) & (scale_of(code) <= digits))
+    1 <= digits && digits <= 38 && scale_of(code) <= digits
 }
 
 // Whether a decimal gets more digits, and as many behind the point as before.
+#[tactic(auto, unfolding(paper::specs::Promotions::more_digits))]
 fn more_digits(old: u32, new: u32) -> bool
     ensures { result ≡ more_digits old new }
 {
     let wider = precision_of(old) < precision_of(new);
     let alike = scale_of(old) == scale_of(new);
-    is_decimal(old) & (is_decimal(new) & (wider & alike))
+    is_decimal(old) && is_decimal(new) && wider && alike
 }
 
 // Whether a version allows that a column of the old code gets the new one.
+#[tactic(auto, unfolding(paper::specs::Promotions::allowed))]
 pub fn is_allowed(version: u32, old: u32, new: u32) -> bool
     ensures { result ≡ allowed version old new }
 {
-    is_listed(version, old, new) | more_digits(old, new)
+    is_listed(version, old, new) || more_digits(old, new)
 }
