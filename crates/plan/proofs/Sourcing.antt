@@ -1,142 +1,23 @@
--- A planned record is the base's, the additions' or the base's as edits leave it. `search sourcing`.
-use Prim.Native.Nat.{ℕ, zero, suc, ◌+◌, ◌-◌, ◌*◌, ◌/◌, ◌%◌, ◌<◌, ◌≤◌}
-use mathlib.Core.Path.{◌≡◌, sym, ◌∙◌}
-use mathlib.Core.Bool.{Bool, true, false, true≢false}
+-- A planned record is the base's, the additions' or the base's as edits leave it.
+use Prim.Native.Nat.{ℕ, ◌+◌, ◌-◌, ◌/◌, ◌<◌, ◌≤◌}
+use mathlib.Core.Path.{◌≡◌}
+use mathlib.Core.Bool.{true, false}
 use mathlib.Core.Logic.{⊎_elim}
 use mathlib.Core.List.{List}
 use native.Mathlib.Omega.{arith}
-use borrow.Author.Tests.{leb-true, lt-ltb, le-ltb, eq-eqb, ne_eqb}
+use borrow.Author.Tests.{leb-true, lt-ltb, le-ltb}
 use lib.Dec.{ltb}
 use lib.ListN.{length, drop, length-drop}
 use lib.Seq.{length-take-le}
 use denote.Ref.{Bor}
-use Rattle.paper.specs.declared.Kind.{Kind}
-use Rattle.paper.specs.Bytes.{rec_at, kind_at, name_of, in_pool, field_at}
-use Rattle.paper.specs.Field.{is_required}
+use Rattle.paper.specs.Bytes.{rec_at, name_of, in_pool, field_at}
 use Rattle.paper.specs.Lists.{edit_at, edit_in, new_name}
-use Rattle.paper.specs.Edits.{relaxed}
 use Rattle.tree.proofs.Filled.{lt_or_le}
 use Rattle.record.specs.declared.Trees.{Trees as LentTrees}
-use Rattle.record.specs.Trees.{Trees, lent_trees, trees_in}
+use Rattle.record.specs.Trees.{Trees, trees_in}
 use Rattle.record_entries.proofs.Entries.{edit_ends}
-use Rattle.plan.specs.Plan.{edited_slot, mark_of, low_part, renaming, widening, marked_name, marked_flags, marked_code, marked_field, by_source, source_field, Sits}
+use Rattle.plan.specs.Plan.{edited_slot, mark_of, low_part, renaming, marked_name, marked_field, source_field, Sits}
 use Rattle.plan.specs.Sources.{source_kind, marked_len, source_len, source_flags, source_code, NameAt, In}
-
--- ---- what the code reads
-
-module _ (base added edits : List ℕ) (x : ℕ) (h : In base added edits x) where
-  pub in_base : x < 1024 → x * 24 + 24 ≤ length base
-  in_base = h.base_in
-
-  pub in_added : 1024 ≤ x → x < 2048 → (x - 1024) * 24 + 24 ≤ length added
-  in_added = h.added_in
-
-  module _ (l : 2048 ≤ x) where
-    pub in_edited : (slot : ℕ) → slot ≡ edited_slot x → slot * 24 + 24 ≤ length base
-    in_edited slot e = rw e (h.edited_in l)
-
-    pub in_renamed : (low : ℕ) → low ≡ low_part (mark_of x) → 2 ≤ low → (low / 2 - 1) * 16 + 16 ≤ length edits
-    in_renamed low e m = rw e (h.renamed_in l (rw e at m))
-
-    pub in_widened : (mark : ℕ) → mark ≡ mark_of x → 256 ≤ mark → widening mark * 16 + 16 ≤ length edits
-    in_widened mark e m = rw e (h.widened_in l (rw e at m))
-
-module _ {A : Type 0} (x : ℕ) (r a b c : A) where
-  pub from_base : x < 1024 → r ≡ a → r ≡ by_source x a b c
-  from_base l e = rw (lt-ltb x 1024 l) e
-
-  pub from_added : 1024 ≤ x → x < 2048 → r ≡ b → r ≡ by_source x a b c
-  from_added l m e = rw (le-ltb x 1024 l, lt-ltb x 2048 m) e
-
-  pub from_edited : 2048 ≤ x → r ≡ c → r ≡ by_source x a b c
-  from_edited l e = let m : 1024 ≤ x = omega arith in rw (le-ltb x 1024 m, le-ltb x 2048 l) e
-
-module _ (s p b r e : List ℕ) (x : ℕ) (h : Sits (lent_trees s p b r e) x) where
-  pub sits_base : x < 1024 → x * 24 + 24 ≤ length s
-  sits_base = h.base_in
-
-  pub named_base : x < 1024 → in_pool (length p) s x ≡ true
-  named_base = h.base_named
-
-  pub sits_added : 1024 ≤ x → x < 2048 → (x - 1024) * 24 + 24 ≤ length b
-  sits_added = h.added_in
-
-  pub named_added : 1024 ≤ x → x < 2048 → in_pool (length r) b (x - 1024) ≡ true
-  named_added = h.added_named
-
-  module _ (l : 2048 ≤ x) where
-    module _ (slot : ℕ) (q : slot ≡ edited_slot x) where
-      pub sits_edited : slot * 24 + 24 ≤ length s
-      sits_edited = rw q (h.edited_in l)
-
-      pub named_edited : in_pool (length p) s slot ≡ true
-      named_edited = rw q (h.edited_named l)
-
-    module _ (low : ℕ) (q : low ≡ low_part (mark_of x)) (m : 2 ≤ low) where
-      pub sits_renamed : (low / 2 - 1) * 16 + 16 ≤ length e
-      sits_renamed = rw q (h.renamed_in l (rw q at m))
-
-      pub what_renamed : (edit_at e (low / 2 - 1)).what ≡ 1
-      what_renamed = rw q (h.renamed_what l (rw q at m))
-
-      pub named_renamed : edit_in (length r) e (low / 2 - 1) ≡ true
-      named_renamed = rw q (h.renamed_named l (rw q at m))
-
-    pub sits_widened : (mark : ℕ) → mark ≡ mark_of x → 256 ≤ mark → widening mark * 16 + 16 ≤ length e
-    sits_widened mark q m = rw q (h.widened_in l (rw q at m))
-
--- ---- what a mark leaves
-
-module _ (flags : ℕ) (b : Bool) (e : b ≡ is_required flags) where
-  pub required_some : b ≡ true → 1 ≤ flags
-  required_some q = go flags (sym e ∙ q)
-    where
-      go : (flags : ℕ) → is_required flags ≡ true → 1 ≤ flags
-      go zero h = absurd (true≢false (sym h))
-      go (suc flags) h = omega arith
-
-  pub relaxed_less : b ≡ true → flags - 1 ≡ relaxed flags
-  relaxed_less q = rw (← e, q)
-
-  pub relaxed_same : b ≡ false → flags ≡ relaxed flags
-  relaxed_same q = rw (← e, q)
-
-pub ruleset relaxing = (required_some, relaxed_less, relaxed_same)
-
-module _ (base edits : List ℕ) (x mark slot : ℕ) (em : mark ≡ mark_of x) where
-  module _ (es : slot ≡ edited_slot x) where
-    module _ (flags : ℕ) (ef : flags ≡ (rec_at base slot).flags) where
-      pub flags_relaxed : (r : ℕ) → mark % 2 ≡ 1 → r ≡ relaxed flags → r ≡ marked_flags base (mark_of x) (edited_slot x)
-      unfolding marked_flags
-      flags_relaxed r q e = rw (← es, ← em, eq-eqb (mark % 2) 1 q, ← ef) e
-
-      pub flags_kept : (mark % 2 ≡ 1 → ⊥) → flags ≡ marked_flags base (mark_of x) (edited_slot x)
-      unfolding marked_flags
-      flags_kept q = rw (← es, ← em, ne_eqb (mark % 2) 1 q) ef
-
-    pub code_kept : (r : ℕ) → mark < 256 → r ≡ (rec_at base slot).code → r ≡ marked_code base edits (mark_of x) (edited_slot x)
-    unfolding marked_code
-    code_kept r q e = rw (← es, ← em, lt-ltb mark 256 q) e
-
-  pub code_new : (r : ℕ) → 256 ≤ mark → r ≡ (edit_at edits (widening mark)).code → r ≡ marked_code base edits (mark_of x) (edited_slot x)
-  unfolding marked_code
-  code_new r q e = rw (← em, le-ltb mark 256 q) e
-
-module _ (base edits : List ℕ) (x low slot : ℕ) (em : low ≡ low_part (mark_of x)) where
-  pub len_kept : (r : ℕ) → slot ≡ edited_slot x → low < 2 → r ≡ (rec_at base slot).name_len → r ≡ marked_len base edits (mark_of x) (edited_slot x)
-  unfolding marked_len
-  len_kept r es q e = rw (← es, ← em, lt-ltb low 2 q) e
-
-  pub len_new : (r : ℕ) → 2 ≤ low → r ≡ (edit_at edits (low / 2 - 1)).name_len → r ≡ marked_len base edits (mark_of x) (edited_slot x)
-  unfolding marked_len
-  len_new r q e = rw (← em, le-ltb low 2 q) e
-
-pub ruleset marking = (flags_relaxed, flags_kept, code_kept, code_new, len_kept, len_new)
-
-module _ (base added edits : List ℕ) (x slot : ℕ) (l : 2048 ≤ x) (es : slot ≡ edited_slot x) where
-  pub kind_edited : (r : Kind) → r ≡ kind_at base slot → r ≡ source_kind base added x
-  unfolding source_kind
-  kind_edited r e = from_edited x r _ _ (kind_at base (edited_slot x)) l (rw (← es) e)
 
 -- ---- the name as a part of its pool
 
@@ -173,11 +54,6 @@ module _ (lent : LentTrees) (x : ℕ) (r : Bor (List ℕ)) where
     name_new b e =
         let p = le-ltb low 2 b in
         record { name = rw (not_base, not_added, ← em, p) e.0; pool = rw (not_base, not_added, ← em, p) e.1; offset = rw (not_base, not_added, ← em, p) e.2 }
-
-pub ruleset parting = (name_base, name_added, name_kept, name_new)
-
-pub ruleset sourcing =
-    (in_base, in_added, in_edited, in_renamed, in_widened, from_base, from_added, from_edited, sits_base, named_base, sits_added, named_added, sits_edited, named_edited, sits_renamed, what_renamed, named_renamed, sits_widened)
 
 -- ---- the same of the planned field
 
