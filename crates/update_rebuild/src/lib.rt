@@ -7,7 +7,6 @@ ghost use Rattle.paper.specs.Bytes.{turned, kids_at, kind_at};
 ghost use Rattle.paper.specs.Field.{is_struct};
 ghost use Rattle.paper.specs.Rebuild.{arriving};
 ghost use Rattle.tree.specs.Read.{reads};
-ghost use Rattle.record.specs.Trees.{trees_in};
 ghost use Rattle.update_rebuild.specs.Sources.{parent, added_tree, rebuilt_base, passed_base};
 ghost use Rattle.update_rebuild.specs.Planned.{
   Readable,
@@ -28,7 +27,7 @@ ghost use Rattle.update_rebuild.specs.Planned.{
 
 use paper::is_struct;
 use plan::{PlanRows, put_planned};
-use record::{Siblings, Trees, id_bits_at, kids_at, kind_at, long, low_32, under_of};
+use record::{Siblings, id_bits_at, kids_at, kind_at, long, low_32, under_of};
 use tree::{row_end, tree_end};
 use update_dropped::Dropped;
 
@@ -67,6 +66,17 @@ impl Decisions {
             starts: [0; 64],
         }
     }
+}
+
+// What a rebuild reads: the base's records and the added ones, how much a request has, the ids that go, and what was decided.
+#[derive(Clone, Copy)]
+pub struct Rebuilder<'a> {
+    pub records: &'a [u8],
+    pub added: &'a [u8],
+    pub given: Given,
+    pub dropped: &'a Dropped,
+    pub decisions: &'a Decisions,
+    ghost resolved: { ResolvedIn added.now given decisions.now },
 }
 
 // Where a walk stands: the next slot that it reads, the next place of the plan; of these siblings, those planned so far, and the records
@@ -199,178 +209,146 @@ fn add_tree(
     Some(behind(place, size))
 }
 
-// The additions under q, in entry order.
-fn add_all(
-    added: &[u8],
-    given: Given,
-    decisions: &Decisions,
-    q: u64,
-    levels: usize,
-    plan: &mut PlanRows,
-    place: Place,
-) -> Option<Place>
-    requires { ResolvedIn added.now given decisions.now × (q ≤ 4294967296) × (levels ≤ 16)
-        × (place.at ≤ 1024) × (place.count ≤ place.at) × (place.visited ≤ place.at + 1024) }
-    ensures { Planned (arriving (additions_in added.now given
-        decisions.now) (parent q)) 0 place.next levels place.at place.count
-        place.visited plan.old result plan.new }
-{
-    let mut here = place;
-    for j in 0..given.additions {
-        if decisions.unders[j] != q {
-            continue;
+impl<'a> Rebuilder<'a> {
+    // The additions under q, in entry order.
+    fn add_all(&self, q: u64, levels: usize, plan: &mut PlanRows, place: Place) -> Option<Place>
+        requires { (q ≤ 4294967296) × (levels ≤ 16) × (place.at ≤ 1024)
+            × (place.count ≤ place.at) × (place.visited ≤ place.at + 1024) }
+        ensures { Planned (arriving (additions_in self.now.added.now self.now.given
+            self.now.decisions.now) (parent q)) 0 place.next levels place.at
+            place.count place.visited plan.old result plan.new }
+    {
+        let mut here = place;
+        for j in 0..self.given.additions {
+            if self.decisions.unders[j] != q {
+                continue;
+            }
+            let first = self.decisions.firsts[j];
+            let start = self.decisions.starts[j];
+            here = add_tree(
+                self.added,
+                self.given.added,
+                first,
+                start,
+                levels,
+                plan,
+                here,
+            )?;
         }
-        let first = decisions.firsts[j];
-        let start = decisions.starts[j];
-        here = add_tree(added, given.added, first, start, levels, plan, here)?;
+        Some(here)
     }
-    Some(here)
-}
 
-// The end of a row: additions follow the members of the root list or of a struct.
-fn close(
-    under: Under,
-    added: &[u8],
-    given: Given,
-    decisions: &Decisions,
-    levels: usize,
-    plan: &mut PlanRows,
-    place: Place,
-) -> Option<Place>
-    requires { ResolvedIn added.now given decisions.now × (under.q ≤ 4294967296)
-        × (levels ≤ 16) × (place.at ≤ 1024) × (place.count ≤ place.at)
-        × (place.visited ≤ place.at + 1024) }
-    ensures { Planned (closing (additions_in added.now given
-        decisions.now) (parent under.q) under.opens) 0 place.next levels
-        place.at place.count place.visited plan.old result
-        plan.new }
-{
-    if under.opens {
-        return add_all(added, given, decisions, under.q, levels, plan, place);
-    }
-    Some(place)
-}
-
-// A record that stays, and its inside rebuilt. Its place in the plan is filled once its members are counted. `None`: record 1,025 or
-// level 17 would be planned (refusal 19).
-#[cycle(rebuild_field_rebuild_fields)]
-pub fn rebuild_field<'a>(
-    trees: &Trees<'a>,
-    given: Given,
-    slot: usize,
-    levels: usize,
-    dropped: &Dropped,
-    decisions: &Decisions,
-    plan: &mut PlanRows,
-    place: Place,
-) -> Option<Place>
-    requires { Inside (trees_in trees.now).records given.base levels slot
-        × ResolvedIn (trees_in trees.now).added_records given decisions.now
-        × (place.at ≤ 1024) × (place.count ≤ place.at) × (place.visited ≤ place.at + slot) }
-    ensures { OnePlanned (trees_in trees.now).records
-        (dropped_ids dropped.now)
-        (additions_in (trees_in trees.now).added_records given
-        decisions.now) given.base levels slot plan.old place.at
-        place.count place.visited result plan.new }
-{
-    let at = place.at;
-    if 1024 <= at {
-        return None;
-    }
-    let head = head_at(trees.records, slot);
-    if is_leaf(head) {
-        put_planned(plan, at, slot as u32, head.id, 0);
-        return Some(Place {
-            next: slot + 1,
-            at: at + 1,
-            count: place.count + 1,
-            visited: place.visited + 1,
-        });
-    }
-    let inside = Siblings {
-        slot: slot + 1,
-        count: head.members,
-        levels: levels - 1,
-    };
-    let w = rebuild_fields(
-        trees,
-        given,
-        inside,
-        head.under,
-        dropped,
-        decisions,
-        plan,
-        at + 1,
-    )?;
-    put_planned(plan, at, slot as u32, head.id, w.count);
-    Some(past(place, w))
-}
-
-// Siblings of the base, rebuilt. `None`: record 1,025 or level 17 would be planned (refusal 19).
-#[cycle(rebuild_field_rebuild_fields)]
-pub fn rebuild_fields<'a>(
-    trees: &Trees<'a>,
-    given: Given,
-    row: Siblings,
-    under: Under,
-    dropped: &Dropped,
-    decisions: &Decisions,
-    plan: &mut PlanRows,
-    at: usize,
-) -> Option<Place>
-    requires { Readable (trees_in trees.now).records given.base row.levels row.count
-        row.slot × (under.q ≤ 4294967296)
-        × ResolvedIn (trees_in trees.now).added_records given decisions.now × (at ≤ 1024) }
-    ensures { RowPlanned (trees_in trees.now).records
-        (dropped_ids dropped.now)
-        (additions_in (trees_in trees.now).added_records given
-        decisions.now) given.base row.levels row.count row.slot
-        (parent under.q) under.opens plan.old at result plan.new }
-{
-    let records = trees.records;
-    let levels = row.levels;
-    let mut here = Place {
-        next: row.slot,
-        at,
-        count: 0,
-        visited: 0,
-    };
-    for passed in 0..row.count {
-        let k = here.next;
-        if dropped.drops_member(records, k, under.opens) {
-            here = over(here, tree_end(records, given.base, k, levels - 1, 0));
-            continue;
+    // The end of a row: additions follow the members of the root list or of a struct.
+    fn close(&self, under: Under, levels: usize, plan: &mut PlanRows, place: Place) -> Option<Place>
+        requires { (under.q ≤ 4294967296) × (levels ≤ 16) × (place.at ≤ 1024)
+            × (place.count ≤ place.at) × (place.visited ≤ place.at + 1024) }
+        ensures { Planned (closing (additions_in self.now.added.now self.now.given
+            self.now.decisions.now) (parent under.q) under.opens) 0 place.next
+            levels place.at place.count place.visited plan.old result plan.new }
+    {
+        if under.opens {
+            return self.add_all(under.q, levels, plan, place);
         }
-        here = rebuild_field(trees, given, k, levels, dropped, decisions, plan, here)?;
+        Some(place)
     }
-    let added = trees.added_records;
-    close(under, added, given, decisions, levels, plan, here)
-}
 
-// The whole base, rebuilt; `roots` is the number of its roots. `None`: record 1,025 or level 17 would be planned (refusal 19).
-pub fn rebuild<'a>(
-    trees: &Trees<'a>,
-    given: Given,
-    roots: u32,
-    dropped: &Dropped,
-    decisions: &Decisions,
-    plan: &mut PlanRows,
-) -> Option<Place>
-    requires { Based (trees_in trees.now).records given.base roots
-        × ResolvedIn (trees_in trees.now).added_records given decisions.now }
-    ensures { Rebuilds (rebuilt_base (trees_in trees.now).records given.base
-        (dropped_ids dropped.now)
-        (additions_in (trees_in trees.now).added_records given
-        decisions.now))
-        (passed_base (trees_in trees.now).records given.base
-        (dropped_ids dropped.now))
-        given.base plan.old result plan.new }
-{
-    let all = Siblings {
-        slot: 0,
-        count: roots,
-        levels: 16,
-    };
-    let under = Under { opens: true, q: 0 };
-    rebuild_fields(trees, given, all, under, dropped, decisions, plan, 0)
+    // A record that stays, and its inside rebuilt. Its place in the plan is filled once its members are counted. `None`: record 1,025
+    // or level 17 would be planned (refusal 19).
+    #[cycle(rebuild_field_rebuild_fields)]
+    pub fn rebuild_field(
+        &self,
+        slot: usize,
+        levels: usize,
+        plan: &mut PlanRows,
+        place: Place,
+    ) -> Option<Place>
+        requires { Inside self.now.records.now self.now.given.base levels slot
+            × (place.at ≤ 1024) × (place.count ≤ place.at)
+            × (place.visited ≤ place.at + slot) }
+        ensures { OnePlanned self.now.records.now
+            (dropped_ids self.now.dropped.now)
+            (additions_in self.now.added.now self.now.given
+            self.now.decisions.now) self.now.given.base levels slot plan.old
+            place.at place.count place.visited result plan.new }
+    {
+        let at = place.at;
+        if 1024 <= at {
+            return None;
+        }
+        let head = head_at(self.records, slot);
+        if is_leaf(head) {
+            put_planned(plan, at, slot as u32, head.id, 0);
+            return Some(Place {
+                next: slot + 1,
+                at: at + 1,
+                count: place.count + 1,
+                visited: place.visited + 1,
+            });
+        }
+        let inside = Siblings {
+            slot: slot + 1,
+            count: head.members,
+            levels: levels - 1,
+        };
+        let w = self.rebuild_fields(inside, head.under, plan, at + 1)?;
+        put_planned(plan, at, slot as u32, head.id, w.count);
+        Some(past(place, w))
+    }
+
+    // Siblings of the base, rebuilt. `None`: record 1,025 or level 17 would be planned (refusal 19).
+    #[cycle(rebuild_field_rebuild_fields)]
+    pub fn rebuild_fields(
+        &self,
+        row: Siblings,
+        under: Under,
+        plan: &mut PlanRows,
+        at: usize,
+    ) -> Option<Place>
+        requires { Readable self.now.records.now self.now.given.base row.levels
+            row.count row.slot × (under.q ≤ 4294967296) × (at ≤ 1024) }
+        ensures { RowPlanned self.now.records.now
+            (dropped_ids self.now.dropped.now)
+            (additions_in self.now.added.now self.now.given
+            self.now.decisions.now) self.now.given.base row.levels row.count
+            row.slot (parent under.q) under.opens plan.old at result plan.new }
+    {
+        let levels = row.levels;
+        let mut here = Place {
+            next: row.slot,
+            at,
+            count: 0,
+            visited: 0,
+        };
+        for passed in 0..row.count {
+            let k = here.next;
+            if self.dropped.drops_member(self.records, k, under.opens) {
+                here = over(
+                    here,
+                    tree_end(self.records, self.given.base, k, levels - 1, 0),
+                );
+                continue;
+            }
+            here = self.rebuild_field(k, levels, plan, here)?;
+        }
+        self.close(under, levels, plan, here)
+    }
+
+    // The whole base, rebuilt; `roots` is the number of its roots. `None`: record 1,025 or level 17 would be planned (refusal 19).
+    pub fn rebuild(&self, roots: u32, plan: &mut PlanRows) -> Option<Place>
+        requires { Based self.now.records.now self.now.given.base roots }
+        ensures { Rebuilds (rebuilt_base self.now.records.now self.now.given.base
+            (dropped_ids self.now.dropped.now)
+            (additions_in self.now.added.now self.now.given
+            self.now.decisions.now))
+            (passed_base self.now.records.now self.now.given.base
+            (dropped_ids self.now.dropped.now))
+            self.now.given.base plan.old result plan.new }
+    {
+        let all = Siblings {
+            slot: 0,
+            count: roots,
+            levels: 16,
+        };
+        self.rebuild_fields(all, Under { opens: true, q: 0 }, plan, 0)
+    }
 }

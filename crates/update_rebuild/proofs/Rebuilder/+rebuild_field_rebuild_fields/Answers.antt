@@ -1,7 +1,7 @@
 -- Siblings are planned by the loop, whose invariant is that the rest plans the whole; a record that stays is planned after its inside.
 use borrow.Author.Rules.{rules}
 use Rattle.update_rebuild.proofs.Rebuilding.{inside_few, one_wide, one_leaf, one_stops, one_few, one_past, rebuild_ends, seen_few, inside_reads, inside_stands, next_room, next_low, held_past, held_few, left_some, left_less, rebuild_skips, rebuild_stops, rebuild_goes}
-use Rattle.update_rebuild.proofs.+rebuild_field_rebuild_fields.Goals as goal
+use Rattle.update_rebuild.proofs.Rebuilder.+rebuild_field_rebuild_fields.Goals as goal
 
 pub rebuild_field-returns-then-at-ge1024 : goal.rebuild_field-returns-then-at-ge1024
 rebuild_field-returns-then-at-ge1024 t c = search (one_wide, rules)

@@ -1,13 +1,13 @@
 -- What arrives from the j-th addition on plans the rest.
 use borrow.Author.Rules.{rules}
 use Rattle.update_rebuild.proofs.Arriving.{arrivals, all_goes}
-use Rattle.update_rebuild.proofs.add_all.Goals as goal
+use Rattle.update_rebuild.proofs.Rebuilder.add_all.Goals as goal
 
 pub loop-j-init : goal.loop-j-init
 loop-j-init c = search (arrivals, rules)
 
-pub loop-j-preserved-then-decisions-j : goal.loop-j-preserved-then-decisions-j
-loop-j-preserved-then-decisions-j c = search (arrivals, rules)
+pub loop-j-preserved-then-self-j : goal.loop-j-preserved-then-self-j
+loop-j-preserved-then-self-j c = search (arrivals, rules)
 
 pub returns-in_err-here : goal.returns-in_err-here
 returns-in_err-here c = rw c.from_residual.ensures (search (arrivals, rules, c.in_err-here.was))

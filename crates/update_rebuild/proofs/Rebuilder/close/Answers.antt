@@ -1,7 +1,7 @@
 -- Only open siblings take additions.
 use borrow.Author.Rules.{rules}
 use Rattle.update_rebuild.proofs.Rebuilding.{closes}
-use Rattle.update_rebuild.proofs.close.Goals as goal
+use Rattle.update_rebuild.proofs.Rebuilder.close.Goals as goal
 
 pub returns-then-under : goal.returns-then-under
 returns-then-under c = search (closes, rules)
