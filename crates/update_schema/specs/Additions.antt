@@ -27,6 +27,7 @@ use Rattle.std.specs.Prelude.{Ok, Err}
 use Rattle.update_schema.specs.Base.{Entries}
 use Rattle.update_schema.specs.declared.Spot.{Spot}
 use Rattle.plan.specs.declared.PlanRows.{PlanRows}
+use Rattle.update_rebuild.specs.declared.Decisions.{Decisions}
 
 -- How many records the column at a slot of the m added records has.
 unfoldable pub column_size : (added : List ℕ) (m slot : ℕ) → ℕ
@@ -100,7 +101,7 @@ pub record PlacesAll (t : Forest Field) (dropped request added additions : List 
 abbrev pub ColumnsIn : Trees → (additions : List ℕ) → Given → Type 0
 ColumnsIn l additions given = Columns l.request_pool l.added_records additions given.additions given.added
 
-pub record PlacesIn (l : Trees) (additions : List ℕ) (given : Given) (plan : PlanRows) (dropped : Dropped) (r : Decided) (old new : List (List ℕ)) : Type 0 where
+pub record PlacesIn (l : Trees) (additions : List ℕ) (given : Given) (plan : PlanRows) (dropped : Dropped) (r : Decided) (old new : Decisions) : Type 0 where
   pub places : PlacesAll (fields_in l plan given.base) (dropped_ids dropped) l.request_pool l.added_records additions
       given.additions given.added given.last r (unders_in new) (firsts_in new) (starts_in new)
   pub same_drops : drops_in new ≡ drops_in old

@@ -13,9 +13,7 @@ use Rattle.record_entries.specs.declared.PathList.{PathList}
 use Rattle.record_entries.specs.Rule.{width_of, inside_of}
 use Rattle.plan.specs.Plan.{plan_fields, Plan}
 use Rattle.plan.specs.Table.{sources, numbers, members}
-use Rattle.update_rebuild.specs.Planned.{drops_in, unders_in, firsts_in, starts_in}
 use Rattle.plan.specs.declared.PlanRows.{PlanRows}
-use Rattle.update_rebuild.specs.declared.Decisions.{Decisions}
 
 -- The n records of the base, with their trees, are the plan, and no id of it stands twice.
 pub record Based (l : Trees) (xs is ks : List ℕ) (n : ℕ) : Type 0 where
@@ -48,11 +46,3 @@ BasedIn l plan n = Based l (sources plan) (numbers plan) (members plan) n
 
 abbrev pub AdditionIn : Trees → (additions : List ℕ) (k slot : ℕ) → Type 0
 AdditionIn l additions k slot = Addition l.request_pool l.added_records additions k slot
-
--- Four rows of 64 numbers.
-pub record DecisionsRoom (decisions : Decisions) : Type 0 where
-  pub rows : length decisions ≡ 4
-  pub drops_room : length (drops_in decisions) ≡ 64
-  pub unders_room : length (unders_in decisions) ≡ 64
-  pub firsts_room : length (firsts_in decisions) ≡ 64
-  pub starts_room : length (starts_in decisions) ≡ 64

@@ -12,8 +12,7 @@ use Rattle.record.specs.Trees.{Trees, Lists}
 use Rattle.plan.specs.Table.{fields_in}
 use Rattle.update_dropped.specs.Gathered.{row_ids}
 use Rattle.update_rebuild.specs.declared.Given.{Given}
-use Rattle.update_rebuild.specs.Planned.{drops_in}
-use Rattle.update_schema.specs.Base.{DecisionsRoom}
+use Rattle.update_rebuild.specs.Planned.{drops_in, DecisionsRoom}
 use Rattle.plan.specs.declared.PlanRows.{PlanRows}
 use Rattle.update_rebuild.specs.declared.Decisions.{Decisions}
 

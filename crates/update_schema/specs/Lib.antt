@@ -1,3 +1,4 @@
+pub mod Answers
 pub mod Base
 pub mod Deletions
 pub mod Additions

@@ -6,12 +6,13 @@ ghost use Rattle.paper.specs.Bytes.{name_of};
 ghost use Rattle.paper.specs.Lists.{parent_path};
 ghost use Rattle.paper.specs.Update.{placed};
 ghost use Rattle.tree.specs.Read.{Standing};
-ghost use Rattle.update_dropped.specs.Set.{dropped_ids, set_of, Good};
+ghost use Rattle.update_dropped.specs.Set.{dropped_ids};
 ghost use Rattle.update_decide.specs.Entry.{goes};
 ghost use Rattle.record.specs.Trees.{trees_in, lists_in};
 ghost use Rattle.plan.specs.Table.{fields_in};
 ghost use Rattle.index.specs.Index.{Index};
-ghost use Rattle.update_schema.specs.Base.{BasedIn, AdditionIn, DecisionsRoom};
+ghost use Rattle.update_rebuild.specs.Planned.{DecisionsRoom};
+ghost use Rattle.update_schema.specs.Base.{BasedIn, AdditionIn};
 ghost use Rattle.update_schema.specs.Additions.{
   column_size,
   numbered,
@@ -28,10 +29,8 @@ use plan::PlanRows;
 use record::{Lists, Refusal, Trees, long, name_at};
 use record_entries::{has_path, path_at};
 use tree::tree_end;
-use update_decide::{
-    assign_fresh_ids, check_added, drop_one, place_at_root, place_under,
-};
-use update_dropped::{Dropped, gather};
+use update_decide::{assign_fresh_ids, check_added, drop_one, place_at_root, place_under};
+use update_dropped::Dropped;
 use update_rebuild::{Decisions, Given};
 
 // An addition that is accepted: where it goes, the bits of its first id, the last id consumed, and the slot behind its column.
@@ -41,20 +40,6 @@ pub struct Spot {
     pub start: u32,
     pub last: u64,
     pub next: usize,
-}
-
-// One addition: its spot, or one of the refusals 13 to 16, 22, 17, 18.
-#[derive(Clone, Copy)]
-pub enum Spotted {
-    At(Spot),
-    Refused(Refusal),
-}
-
-// All additions: the last id consumed, shifted by 2^31, or the first refusal.
-#[derive(Clone, Copy)]
-pub enum Decided {
-    Last(u64),
-    Refused(Refusal),
 }
 
 // The deletions, one at a time: refusal 11 or 12, or the ids that they drop.
@@ -71,20 +56,11 @@ fn drop_columns<'a>(
     ensures { DropsIn (trees_in trees.now) (lists_in lists.now) given
         plan.now result decisions.new }
 {
-    let deletions = lists.deletions;
-    let mut k = 0;
-    while k < given.deletions {
-        let path = path_at(trees.request_pool, deletions, k);
+    for k in 0..given.deletions {
+        let path = path_at(trees.request_pool, lists.deletions, k);
         let found = look_name(trees, plan, given.base, index, path);
-        match drop_one(found, lists.identifiers, k as u32) {
-            Ok(id) => {
-                decisions.drops[k] = long(id.0);
-            }
-            Err(r) => {
-                return Err(r);
-            }
-        }
-        k += 1;
+        let id = drop_one(found, lists.identifiers, k as u32)?;
+        decisions.drops[k] = long(id.0);
     }
     Ok(())
 }
@@ -98,15 +74,13 @@ fn find_place<'a>(
     index: &IndexRows,
     k: usize,
     slot: usize,
-    dropped: &[u32; 64],
-    drops: usize,
+    dropped: &Dropped,
 ) -> Result<u64, Refusal>
     requires { BasedIn (trees_in trees.now) plan.now n
         × Index (trees_in trees.now) plan.now n index.now
-        × AdditionIn (trees_in trees.now) additions.now k slot
-        × Good (set_of dropped.now drops) }
+        × AdditionIn (trees_in trees.now) additions.now k slot }
     ensures { result ≡ goes (placed (fields_in (trees_in trees.now)
-        plan.now n) (dropped_ids (set_of dropped.now drops)) k
+        plan.now n) (dropped_ids dropped.now) k
         (name_of (trees_in trees.now).request_pool
         (trees_in trees.now).added_records slot)
         (parent_path (trees_in trees.now).request_pool additions.now k)) }
@@ -124,32 +98,36 @@ fn find_place<'a>(
             name,
             k as u32,
             dropped,
-            drops,
         );
     }
     let taken = look_name(trees, plan, n, index, name);
-    place_at_root(taken, k as u32, dropped, drops)
+    place_at_root(taken, k as u32, dropped)
 }
 
 // The ids of an addition that has its place: refusal 18.
-fn number(added: &[u8], m: usize, slot: usize, under: u64, place: u32, last: u64) -> Result<Spot, Refusal>
+fn number(
+    added: &[u8],
+    m: usize,
+    slot: usize,
+    under: u64,
+    place: u32,
+    last: u64,
+) -> Result<Spot, Refusal>
     requires { Standing 1 added.now m 15 slot × (last < 4294967296) }
     ensures { result ≡ numbered under last place slot
         (column_size added.now m slot) }
 {
     let next = tree_end(added, m, slot, 15, 1);
-    match assign_fresh_ids(last, next - slot, place) {
-        Ok((start, end)) => Ok(Spot {
-            under,
-            start,
-            last: end,
-            next,
-        }),
-        Err(r) => Err(r),
-    }
+    let (start, end) = assign_fresh_ids(last, next - slot, place)?;
+    Ok(Spot {
+        under,
+        start,
+        last: end,
+        next,
+    })
 }
 
-// The addition k, whole: refusals 13 and 14, its place, its ids behind the given last one.
+// The addition k, whole: refusals 13 and 14, its place, its ids behind the given last one: its spot, or one of 13 to 16, 22, 17, 18.
 fn place_one<'a>(
     trees: &Trees<'a>,
     additions: &[u8],
@@ -158,77 +136,60 @@ fn place_one<'a>(
     index: &IndexRows,
     k: usize,
     slot: usize,
-    dropped: &[u32; 64],
-    drops: usize,
+    dropped: &Dropped,
 ) -> Result<Spot, Refusal>
     requires { BasedIn (trees_in trees.now) plan.now given.base
         × Index (trees_in trees.now) plan.now given.base index.now
         × AdditionIn (trees_in trees.now) additions.now k slot
-        × Good (set_of dropped.now drops)
         × Standing 1 (trees_in trees.now).added_records given.added 15 slot
         × (given.last < 4294967296) }
     ensures { OneSpotted (fields_in (trees_in trees.now) plan.now
-        given.base) (dropped_ids (set_of dropped.now drops))
+        given.base) (dropped_ids dropped.now)
         (trees_in trees.now).request_pool
         (trees_in trees.now).added_records additions.now given.added
         given.last k slot result }
 {
     let added = trees.added_records;
     check_added(added, trees.request_pool, slot, k as u32)?;
-    let going = find_place(
-        trees, additions, given.base, plan, index, k, slot, dropped, drops,
-    );
-    match going {
-        Ok(under) => number(added, given.added, slot, under, k as u32, given.last),
-        Err(r) => Err(r),
-    }
+    let under = find_place(trees, additions, given.base, plan, index, k, slot, dropped)?;
+    number(added, given.added, slot, under, k as u32, given.last)
 }
 
-// The additions, one at a time: where each goes, its first slot, the bits of its first id.
+// The additions, one at a time: where each goes, its first slot, the bits of its first id. The last id consumed, plus 2^31, or the
+// first refusal.
 fn place_columns<'a>(
     trees: &Trees<'a>,
     additions: &[u8],
     given: Given,
     plan: &PlanRows,
     index: &IndexRows,
-    dropped: &[u32; 64],
-    drops: usize,
+    dropped: &Dropped,
     decisions: &mut Decisions,
 ) -> Result<u64, Refusal>
     requires { BasedIn (trees_in trees.now) plan.now given.base
         × Index (trees_in trees.now) plan.now given.base index.now
         × ColumnsIn (trees_in trees.now) additions.now given
-        × Good (set_of dropped.now drops)
         × (given.last < 4294967296) × DecisionsRoom decisions.old }
     ensures { PlacesIn (trees_in trees.now) additions.now given
-        plan.now (set_of dropped.now drops) result decisions.old
+        plan.now dropped.now result decisions.old
         decisions.new }
 {
-    let mut k = 0;
     let mut slot = 0;
     let mut last = given.last;
-    while k < given.additions {
+    for k in 0..given.additions {
         let so_far = Given { last, ..given };
-        match place_one(
-            trees, additions, so_far, plan, index, k, slot, dropped, drops,
-        ) {
-            Ok(spot) => {
-                decisions.unders[k] = spot.under;
-                decisions.firsts[k] = slot as u64;
-                decisions.starts[k] = long(spot.start);
-                slot = spot.next;
-                last = spot.last;
-            }
-            Err(r) => {
-                return Err(r);
-            }
-        }
-        k += 1;
+        let spot = place_one(trees, additions, so_far, plan, index, k, slot, dropped)?;
+        decisions.unders[k] = spot.under;
+        decisions.firsts[k] = slot as u64;
+        decisions.starts[k] = long(spot.start);
+        slot = spot.next;
+        last = spot.last;
     }
     Ok(last)
 }
 
-// Deletions one at a time, then additions one at a time: refusals 11 to 18 and 22, or all that the rebuild needs.
+// Deletions one at a time, then additions one at a time: refusals 11 to 18 and 22, or all that the rebuild needs, and the last id
+// consumed, plus 2^31.
 pub fn decide_changes<'a>(
     trees: &Trees<'a>,
     lists: &Lists<'a>,
@@ -243,16 +204,14 @@ pub fn decide_changes<'a>(
         given plan.now result decisions.new }
 {
     drop_columns(trees, lists, given, plan, index, decisions)?;
-    let mut dropped = Dropped { ids: [0; 64], n: 0 };
-    dropped.n = gather(&decisions.drops, given.deletions, &mut dropped.ids);
+    let dropped = Dropped::gather(&decisions.drops, given.deletions);
     place_columns(
         trees,
         lists.additions,
         given,
         plan,
         index,
-        &dropped.ids,
-        dropped.n,
+        &dropped,
         decisions,
     )
 }

@@ -44,12 +44,12 @@ verdict_mapped : (g : Source → Source) (n k : ℕ) (t : Forest Source) → ver
 unfolding verdict
 verdict_mapped g n k t = rw (fits_mapped g t, size_mapped g t, siblings_mapped g t)
 
-pub mark_asks : (t : Forest Source) (k n : ℕ) (plan plan' : PlanRows) (r : Step) → Rebuilds t k n plan r plan' → (w : Place) → r ≡ Some w → (w.at ≤ 1024) × (length plan' ≡ 3)
+pub mark_asks : (t : Forest Source) (k n : ℕ) (plan plan' : PlanRows) (r : Step) → Rebuilds t k n plan r plan' → (w : Place) → r ≡ Some w → w.at ≤ 1024
 mark_asks t k n plan plan' r v w d =
     let z = verdict_went n k t r w v.answer d in
     let f = (of_fits t z.0).1 in
     let e = z.1 in
-    (omega arith, (v.laid z.0).rows)
+    omega arith
 
 module _ (t : Forest Source) (k n : ℕ) (marks : List ℕ) (plan plan' : PlanRows) (r : Step) (v : Rebuilds t k n plan r plan') where
   pub full_edited : r ≡ None → Rebuilds (mapped (remark marks) t) k n plan None plan'
@@ -68,5 +68,5 @@ module _ (t : Forest Source) (k n : ℕ) (marks : List ℕ) (plan plan' : PlanRo
         let z = verdict_went n k t r w v.answer d in
         record {
           answer = sym d ∙ v.answer ∙ sym (verdict_mapped (remark marks) n k t);
-          laid = λ e. remarked_laid marks t w.at plan plan' plan'' z.1 (let f = (mark_asks t k n plan plan' r v w d).0 in let s = room.sources_room in omega arith) (v.laid z.0) m;
+          laid = λ e. remarked_laid marks t w.at plan plan' plan'' z.1 (let f = mark_asks t k n plan plan' r v w d in let s = room.sources_room in omega arith) (v.laid z.0) m;
         }

@@ -51,7 +51,7 @@ use Rattle.plan.proofs.Taking.{added_sits}
 use Rattle.index_ids.specs.Table.{Fresh}
 use Rattle.index.specs.Index.{Indexing}
 use Rattle.update_dropped.specs.declared.Dropped.{Dropped}
-use Rattle.update_dropped.specs.Set.{dropped_ids, Good}
+use Rattle.update_dropped.specs.Set.{dropped_ids}
 use Rattle.update_rebuild.specs.declared.Given.{Given}
 use Rattle.update_rebuild.specs.declared.Place.{Place}
 use Rattle.update_rebuild.specs.Answers.{Step}
@@ -152,8 +152,8 @@ module _ (l : Trees) (i : List ℕ) (given : Given) (c : ℕ) (decisions : Decis
         (each_rebuilt Seated source_id (source_kind l.records) (dropped_ids held) _ (all_added Seated added_seated (dropped_ids held) 0 given.additions (omega arith)) none true
         (mapped (base_source l.records) (got (roots 0 (kids_at l.records) given.base given.base 0)).trees) base_seated)
 
-    pub rebuild_asks : Based l.records given.base c × Good held × ResolvedIn l.added_records given decisions × Roomy plan × (given.edits ≡ 0 → Unmarked marks)
-    rebuild_asks = (based, g.good, h.resolved, h.plan_room, h.unmarked)
+    pub rebuild_asks : Based l.records given.base c × Roomy plan × (given.edits ≡ 0 → Unmarked marks)
+    rebuild_asks = (based, h.plan_room, h.unmarked)
 
     -- the planned tree is the paper's
     tree_is : (base : Forest Field) → decode 0 l.records l.pool ≡ ok base → (edits : List Edited) → Carries l given.base marks edits

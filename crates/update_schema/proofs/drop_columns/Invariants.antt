@@ -1,15 +1,10 @@
 -- What is left of the deletions, behind the ids in the row, is the whole.
-use Prim.Native.Nat.{◌-◌}
 use Rattle.paper.specs.Lists.{id_list}
 use Rattle.record.specs.Trees.{trees_in, lists_in}
 use Rattle.plan.specs.Table.{fields_in}
-use Rattle.update_rebuild.specs.Planned.{drops_in}
-use Rattle.update_schema.specs.Base.{DecisionsRoom}
+use Rattle.update_rebuild.specs.Planned.{drops_in, DecisionsRoom}
 use Rattle.update_schema.proofs.Deleting.{Deleting}
 use Rattle.update_schema.proofs.drop_columns.Given as goal
 
 abbrev pub invariant-loop-k : goal.invariant-loop-k
 invariant-loop-k l = Deleting (fields_in (trees_in l.trees) l.plan l.given.base) (id_list (lists_in l.lists).identifiers) (trees_in l.trees).request_pool (lists_in l.lists).deletions l.given.deletions l.k (drops_in l.decisions) × DecisionsRoom l.decisions
-
-abbrev pub decreases-loop-k : goal.decreases-loop-k
-decreases-loop-k l = l.given.deletions - l.k

@@ -5,7 +5,7 @@ use borrow.Author.Rules.{rules}
 use Rattle.update_schema.proofs.find_place.Goals as goal
 
 pub place_under-requires : goal.place_under-requires
-place_under-requires c = let p = c.requires in (found_sited _ _ _ _ _ p.0 _ _ c.look_name-parent.ensures, rises _ _ _ _ _ p.0 _ p.1.raised, p.3)
+place_under-requires c = let p = c.requires in (found_sited _ _ _ _ _ p.0 _ _ c.look_name-parent.ensures, rises _ _ _ _ _ p.0 _ p.1.raised)
 
 pub returns-then-has_path : goal.returns-then-has_path
 returns-then-has_path c = goes_under _ _ _ _ _ c.requires.0 _ _ _ _ c.name_at-name.ensures.0 _ _ _ c.has_path.ensures _ _ _ (search rules) c.path_at-path.ensures.0 c.look_name-parent.ensures c.place_under.ensures

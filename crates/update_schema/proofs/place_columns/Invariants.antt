@@ -1,14 +1,10 @@
 -- What is left of the additions, behind the places in the rows, is the whole.
-use Prim.Native.Nat.{◌-◌}
 use Rattle.record.specs.Trees.{trees_in}
 use Rattle.plan.specs.Table.{fields_in}
-use Rattle.update_dropped.specs.Set.{dropped_ids, set_of}
+use Rattle.update_dropped.specs.Set.{dropped_ids}
 use Rattle.update_schema.proofs.Rows.{Held}
 use Rattle.update_schema.proofs.Columns.{Placing}
 use Rattle.update_schema.proofs.place_columns.Given as goal
 
 abbrev pub invariant-loop-k : goal.invariant-loop-k
-invariant-loop-k l = Held (Placing (fields_in (trees_in l.trees) l.plan l.given.base) (dropped_ids (set_of l.dropped l.drops)) (trees_in l.trees).request_pool (trees_in l.trees).added_records l.additions l.given.additions l.given.added l.given.last l.k l.slot l.last) l.initial.decisions l.decisions
-
-abbrev pub decreases-loop-k : goal.decreases-loop-k
-decreases-loop-k l = l.given.additions - l.k
+invariant-loop-k l = Held (Placing (fields_in (trees_in l.trees) l.plan l.given.base) (dropped_ids l.dropped) (trees_in l.trees).request_pool (trees_in l.trees).added_records l.additions l.given.additions l.given.added l.given.last l.k l.slot l.last) l.initial.decisions l.decisions

@@ -2,14 +2,14 @@
 use Rattle.update_write.proofs.Edited.{full_edited, unmarked_edited, mark_asks, marked_edited}
 use Rattle.update_write.proofs.rebuild_edited.Goals as goal
 
-pub returns-in_default : goal.returns-in_default
-returns-in_default c = full_edited _ _ _ _ _ _ _ c.rebuild-step.ensures c.in_default.is
+pub returns-in_err-place : goal.returns-in_err-place
+returns-in_err-place c = rw c.from_residual.ensures (full_edited _ _ _ _ _ _ _ c.rebuild.ensures c.in_err-place.was)
 
-pub returns-then-given-eq0 : goal.returns-then-given-eq0
-returns-then-given-eq0 c = unmarked_edited _ _ _ _ _ _ _ c.rebuild-step.ensures _ c.in-Went.is _ c.if-given-eq0.true c.requires.4
+pub returns-then-rebuilder-eq0 : goal.returns-then-rebuilder-eq0
+returns-then-rebuilder-eq0 c = unmarked_edited _ _ _ _ _ _ _ c.rebuild.ensures _ c.in_ok-place.was _ c.if-rebuilder-eq0.true c.requires.2
 
 pub mark_plan-requires : goal.mark_plan-requires
-mark_plan-requires c = mark_asks _ _ _ _ _ _ c.rebuild-step.ensures _ c.in-Went.is
+mark_plan-requires c = mark_asks _ _ _ _ _ _ c.rebuild.ensures _ c.in_ok-place.was
 
 pub returns : goal.returns
-returns c = marked_edited _ _ _ _ _ _ _ c.rebuild-step.ensures _ c.in-Went.is _ c.requires.3 c.mark_plan.ensures
+returns c = marked_edited _ _ _ _ _ _ _ c.rebuild.ensures _ c.in_ok-place.was _ c.requires.1 c.mark_plan.ensures
