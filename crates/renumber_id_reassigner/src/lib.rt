@@ -7,7 +7,7 @@ ghost use Rattle.paper.specs.Bytes.{kind_at, kids_at, slots};
 ghost use Rattle.paper.specs.Field.{is_map};
 ghost use Rattle.renumber_id_reassigner.specs.Numbers.{Room, Given};
 
-use record::{kids_at, kind_at, turn};
+use record::{Siblings, kids_at, kind_at, turn};
 use tree_walk::is_map;
 
 // Where the renumbering goes on: at which slot, and with which number.
@@ -17,28 +17,27 @@ pub struct Reassigned {
     pub next_field_id: u32,
 }
 
-// The roots, the members of a struct or a list's element: `count` siblings from `slot` on get the numbers from `first` on,
-// in order, and their insides, in order, those that follow.
-#[cycle(reassign_field_ids_reassign_ids_visit_type_reassign_key_and_value)]
+// The roots, the members of a struct or a list's element: siblings get the numbers from `first` on, in order, and their
+// insides, in order, those that follow.
+#[cycle(reassign)]
 pub fn reassign_field_ids(
     recs: &[u8],
-    slot: usize,
-    count: u32,
-    levels: usize,
+    row: Siblings,
     ids: &mut [u32; 1024],
     first: u32,
 ) -> Reassigned
-    requires { Room recs.now levels count slot ids.old first }
-    ensures { Given recs.now false levels count slot ids.old first result
-        ids.new }
+    requires { Room recs.now row.levels row.count row.slot ids.old first }
+    ensures { Given recs.now false row.levels row.count row.slot ids.old first
+        result ids.new }
 {
-    let mut at = slot;
-    let mut left = count;
+    let mut at = row.slot;
+    let mut left = row.count;
     let mut own = first;
-    let mut inside = first + count;
+    let mut inside = first + row.count;
+    // no `for`: a step passes over a whole subtree
     while 0 < left {
         ids[at] = turn(own);
-        let after = reassign_ids_visit_type(recs, at, levels - 1, ids, inside);
+        let after = reassign_ids_visit_type(recs, at, row.levels - 1, ids, inside);
         at = after.next;
         inside = after.next_field_id;
         own += 1;
@@ -51,25 +50,24 @@ pub fn reassign_field_ids(
 }
 
 // A map's key and value: each gets its number just before its inside.
-#[cycle(reassign_field_ids_reassign_ids_visit_type_reassign_key_and_value)]
+#[cycle(reassign)]
 fn reassign_key_and_value(
     recs: &[u8],
-    slot: usize,
-    count: u32,
-    levels: usize,
+    row: Siblings,
     ids: &mut [u32; 1024],
     first: u32,
 ) -> Reassigned
-    requires { Room recs.now levels count slot ids.old first }
-    ensures { Given recs.now true levels count slot ids.old first result
-        ids.new }
+    requires { Room recs.now row.levels row.count row.slot ids.old first }
+    ensures { Given recs.now true row.levels row.count row.slot ids.old first
+        result ids.new }
 {
-    let mut at = slot;
-    let mut left = count;
+    let mut at = row.slot;
+    let mut left = row.count;
     let mut own = first;
+    // no `for`: a step passes over a whole subtree
     while 0 < left {
         ids[at] = turn(own);
-        let after = reassign_ids_visit_type(recs, at, levels - 1, ids, own + 1);
+        let after = reassign_ids_visit_type(recs, at, row.levels - 1, ids, own + 1);
         at = after.next;
         own = after.next_field_id;
         left -= 1;
@@ -81,7 +79,7 @@ fn reassign_key_and_value(
 }
 
 // The inside of the record at `slot`, from `first` on.
-#[cycle(reassign_field_ids_reassign_ids_visit_type_reassign_key_and_value)]
+#[cycle(reassign)]
 pub fn reassign_ids_visit_type(
     recs: &[u8],
     slot: usize,
@@ -101,8 +99,13 @@ pub fn reassign_ids_visit_type(
             next_field_id: first,
         };
     }
+    let inside = Siblings {
+        slot: slot + 1,
+        count: members,
+        levels,
+    };
     if is_map(kind_at(recs, slot)) {
-        return reassign_key_and_value(recs, slot + 1, members, levels, ids, first);
+        return reassign_key_and_value(recs, inside, ids, first);
     }
-    reassign_field_ids(recs, slot + 1, members, levels, ids, first)
+    reassign_field_ids(recs, inside, ids, first)
 }

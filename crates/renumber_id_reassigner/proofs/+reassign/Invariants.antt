@@ -2,25 +2,25 @@
 use mathlib.Core.Bool.{true, false}
 use Rattle.renumber_id_reassigner.proofs.Numbering.{Left}
 use Prim.Native.Nat.{◌+◌, ◌*◌, ◌-◌}
-use Rattle.renumber_id_reassigner.proofs.+reassign_field_ids_reassign_ids_visit_type_reassign_key_and_value.Given as goal
+use Rattle.renumber_id_reassigner.proofs.+reassign.Given as goal
 
 abbrev pub invariant-reassign_field_ids-loop-left : goal.invariant-reassign_field_ids-loop-left
-invariant-reassign_field_ids-loop-left l = Left l.recs false l.levels l.count l.slot l.initial.ids l.first l.left l.at l.own l.inside l.ids
+invariant-reassign_field_ids-loop-left l = Left l.recs false l.row.levels l.row.count l.row.slot l.initial.ids l.first l.left l.at l.own l.inside l.ids
 
 abbrev pub decreases-reassign_field_ids-loop-left : goal.decreases-reassign_field_ids-loop-left
 decreases-reassign_field_ids-loop-left l = l.left
 
 abbrev pub invariant-reassign_key_and_value-loop-left : goal.invariant-reassign_key_and_value-loop-left
-invariant-reassign_key_and_value-loop-left l = Left l.recs true l.levels l.count l.slot l.initial.ids l.first l.left l.at l.own (l.own + 1) l.ids
+invariant-reassign_key_and_value-loop-left l = Left l.recs true l.row.levels l.row.count l.row.slot l.initial.ids l.first l.left l.at l.own (l.own + 1) l.ids
 
 abbrev pub decreases-reassign_key_and_value-loop-left : goal.decreases-reassign_key_and_value-loop-left
 decreases-reassign_key_and_value-loop-left l = l.left
 
 abbrev pub decreases-reassign_field_ids : goal.decreases-reassign_field_ids
-decreases-reassign_field_ids l = l.levels * 1025 + (1024 - l.slot)
+decreases-reassign_field_ids l = l.row.levels * 1025 + (1024 - l.row.slot)
 
 abbrev pub decreases-reassign_ids_visit_type : goal.decreases-reassign_ids_visit_type
 decreases-reassign_ids_visit_type l = l.levels * 1025 + (1024 - l.slot)
 
 abbrev pub decreases-reassign_key_and_value : goal.decreases-reassign_key_and_value
-decreases-reassign_key_and_value l = l.levels * 1025 + (1024 - l.slot)
+decreases-reassign_key_and_value l = l.row.levels * 1025 + (1024 - l.row.slot)

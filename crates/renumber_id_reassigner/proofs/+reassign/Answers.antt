@@ -2,10 +2,10 @@
 use native.Mathlib.Omega.{arith}
 use borrow.Author.Rules.{rules}
 use Rattle.renumber_id_reassigner.proofs.Numbering.{numbering, level_left, member_goes}
-use Rattle.renumber_id_reassigner.proofs.+reassign_field_ids_reassign_ids_visit_type_reassign_key_and_value.Goals as goal
+use Rattle.renumber_id_reassigner.proofs.+reassign.Goals as goal
 
-pub reassign_field_ids-overflow_sub-levels : goal.reassign_field_ids-overflow_sub-levels
-reassign_field_ids-overflow_sub-levels t c = search (numbering, rules)
+pub reassign_field_ids-overflow_sub-row : goal.reassign_field_ids-overflow_sub-row
+reassign_field_ids-overflow_sub-row t c = search (numbering, rules)
 
 pub reassign_field_ids-reassign_ids_visit_type-after-requires : goal.reassign_field_ids-reassign_ids_visit_type-after-requires
 reassign_field_ids-reassign_ids_visit_type-after-requires t c = (omega (arith, level_left _ _ _ _ _ _ _ _ _ _ _ _ c.loop-left.invariant c.loop-left-test.true), search (numbering, rules))
@@ -31,8 +31,8 @@ reassign_ids_visit_type-returns-then-members-eq0 t c = search (numbering, rules)
 pub reassign_key_and_value-bounds-ids-at : goal.reassign_key_and_value-bounds-ids-at
 reassign_key_and_value-bounds-ids-at t c = search (numbering, rules)
 
-pub reassign_key_and_value-overflow_sub-levels : goal.reassign_key_and_value-overflow_sub-levels
-reassign_key_and_value-overflow_sub-levels t c = search (numbering, rules)
+pub reassign_key_and_value-overflow_sub-row : goal.reassign_key_and_value-overflow_sub-row
+reassign_key_and_value-overflow_sub-row t c = search (numbering, rules)
 
 pub reassign_key_and_value-overflow_add-own : goal.reassign_key_and_value-overflow_add-own
 reassign_key_and_value-overflow_add-own t c = search (numbering, rules)
