@@ -25,7 +25,7 @@ ghost use Rattle.prune_columns.specs.Projected.{
 
 use paper::{Kind, Role, is_key, is_struct, next_role};
 use plan::{PlanRows, copy_records, put_planned};
-use record::{Refusal, id_bits_at, kids_at, kind_at};
+use record::{Refusal, Siblings, id_bits_at, kids_at, kind_at};
 use tree::{inside_role, row_past};
 use tree_walk::is_map;
 
@@ -127,26 +127,23 @@ impl<'a> Choice<'a> {
             && is_nested(kind_at(self.records, slot))
     }
 
-    // Refusal 20 among `count` siblings and in their insides, which come first; or the slot after them.
-    pub fn check_direct(
-        &self,
-        slot: usize,
-        count: u32,
-        levels: usize,
-        role: Role,
-    ) -> Result<usize, Refusal>
-        requires { There self.now.records.now levels count slot }
+    // Refusal 20 among siblings and in their insides, which come first; or the slot after them.
+    pub fn check_direct(&self, row: Siblings, role: Role) -> Result<usize, Refusal>
+        requires { There self.now.records.now row.levels row.count row.slot }
         ensures { Checked self.now.records.now self.now.marks.now
-            self.now.full levels count slot role result }
+            self.now.full row.levels row.count row.slot role result }
     {
-        let mut at = slot;
-        let mut left = count;
+        let mut at = row.slot;
+        let mut left = row.count;
         let mut own = role;
         // no `for`: a step passes over a whole subtree
         while 0 < left {
-            let kids = kids_at(self.records, at);
-            let inside = inside_role(self.records, at);
-            let next = self.check_direct(at + 1, kids, levels - 1, inside)?;
+            let inside = Siblings {
+                slot: at + 1,
+                count: kids_at(self.records, at),
+                levels: row.levels - 1,
+            };
+            let next = self.check_direct(inside, inside_role(self.records, at))?;
             if self.is_direct(at, own) {
                 return Err(Refusal {
                     number: 20, // refusal 20
@@ -163,26 +160,19 @@ impl<'a> Choice<'a> {
 
     // What is kept of the roots, or of the members of a struct: what each keeps, in order.
     #[cycle(project)]
-    pub fn project_fields(
-        &self,
-        slot: usize,
-        count: u32,
-        levels: usize,
-        plan: &mut PlanRows,
-        at: usize,
-    ) -> Step
-        requires { Row self.now.records.now levels count slot at }
+    pub fn project_fields(&self, row: Siblings, plan: &mut PlanRows, at: usize) -> Step
+        requires { Row self.now.records.now row.levels row.count row.slot at }
         ensures { Kept self.now.records.now self.now.marks.now
-            self.now.full Member levels count slot plan.old at
+            self.now.full Member row.levels row.count row.slot plan.old at
             result plan.new }
     {
-        let mut next = slot;
-        let mut left = count;
+        let mut next = row.slot;
+        let mut left = row.count;
         let mut place = at;
         let mut kept: u32 = 0;
         // no `for`: a step passes over a whole subtree
         while 0 < left {
-            let one = self.project_field(next, levels - 1, plan, place);
+            let one = self.project_field(next, row.levels - 1, plan, place);
             next = one.next;
             place = one.at;
             kept += one.count;
@@ -252,65 +242,61 @@ impl<'a> Choice<'a> {
                 count: 0,
             };
         }
+        let inside = Siblings {
+            slot: slot + 1,
+            count: members,
+            levels,
+        };
         let kind = kind_at(self.records, slot);
         if is_map(kind) {
-            return self.project_map(slot + 1, members, levels, plan, at);
+            return self.project_map(inside, plan, at);
         }
         if is_nested(kind) {
-            return self.project_list(slot + 1, members, levels, plan, at);
+            return self.project_list(inside, plan, at);
         }
-        self.project_fields(slot + 1, members, levels, plan, at)
+        self.project_fields(inside, plan, at)
     }
 
     // A list: the same tests on its element.
     #[cycle(project)]
-    fn project_list(
-        &self,
-        slot: usize,
-        count: u32,
-        levels: usize,
-        plan: &mut PlanRows,
-        at: usize,
-    ) -> Step
-        requires { Row self.now.records.now levels count slot at }
+    fn project_list(&self, row: Siblings, plan: &mut PlanRows, at: usize) -> Step
+        requires { Row self.now.records.now row.levels row.count row.slot at }
         ensures { Kept self.now.records.now self.now.marks.now
-            self.now.full Element levels count slot plan.old at
+            self.now.full Element row.levels row.count row.slot plan.old at
             result plan.new }
     {
-        self.project_fields(slot, count, levels, plan, at)
+        self.project_fields(row, plan, at)
     }
 
     // A map, from its key's slot on: the key whole if the value keeps something; else all of it for a chosen key; else nothing.
     #[cycle(project)]
-    fn project_map(
-        &self,
-        slot: usize,
-        count: u32,
-        levels: usize,
-        plan: &mut PlanRows,
-        at: usize,
-    ) -> Step
-        requires { (0 < count) × Row self.now.records.now levels count slot at }
+    fn project_map(&self, row: Siblings, plan: &mut PlanRows, at: usize) -> Step
+        requires { (0 < row.count) × Row self.now.records.now row.levels row.count row.slot at }
         ensures { Kept self.now.records.now self.now.marks.now
-            self.now.full Key levels count slot plan.old at
+            self.now.full Key row.levels row.count row.slot plan.old at
             result plan.new }
     {
         let n = self.records.len() / 24;
-        let kids = kids_at(self.records, slot);
-        let value = row_past(self.records, n, slot + 1, kids, levels - 1, 0);
-        let behind = at + (value - slot);
-        let rest = self.project_fields(value, count - 1, levels, plan, behind);
+        let key = row.slot;
+        let kids = kids_at(self.records, key);
+        let value = row_past(self.records, n, key + 1, kids, row.levels - 1, 0);
+        let values = Siblings {
+            slot: value,
+            count: row.count - 1,
+            levels: row.levels,
+        };
+        let rest = self.project_fields(values, plan, at + (value - key));
         let past = rest.next;
         if 0 < rest.count {
-            project_whole(self.records, slot, levels - 1, plan, at);
+            project_whole(self.records, key, row.levels - 1, plan, at);
             return Step {
                 next: past,
                 at: rest.at,
                 count: rest.count + 1,
             };
         }
-        if self.is_chosen(slot) {
-            return copy_trees(self.records, slot, past, count, plan, at);
+        if self.is_chosen(key) {
+            return copy_trees(self.records, key, past, row.count, plan, at);
         }
         Step {
             next: past,

@@ -5,14 +5,14 @@ use Rattle.tree_walk.proofs.Standing.{standing}
 use Rattle.prune_columns.proofs.Directing.{directing}
 use Rattle.prune_columns.proofs.Choice.+check_direct.Goals as goal
 
-pub inside_role-inside-requires : goal.inside_role-inside-requires
-inside_role-inside-requires t c = search (standing, directing, rules)
+pub inside_role-requires : goal.inside_role-requires
+inside_role-requires t c = search (standing, directing, rules)
 
-pub kids_at-kids-requires : goal.kids_at-kids-requires
-kids_at-kids-requires t c = search (standing, directing, rules)
+pub kids_at-requires : goal.kids_at-requires
+kids_at-requires t c = search (standing, directing, rules)
 
-pub overflow_sub-levels : goal.overflow_sub-levels
-overflow_sub-levels t c = search (standing, directing, rules)
+pub overflow_sub-inside : goal.overflow_sub-inside
+overflow_sub-inside t c = search (standing, directing, rules)
 
 pub check_direct-requires : goal.check_direct-requires
 check_direct-requires t c = search (standing, directing, rules)

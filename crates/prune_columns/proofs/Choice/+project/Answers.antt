@@ -17,8 +17,8 @@ project_field-returns-then-inside-eq0 t c = search (single, planning, rules)
 pub project_field-returns : goal.project_field-returns
 project_field-returns t c = search (single, planning, rules)
 
-pub project_fields-overflow_sub-levels : goal.project_fields-overflow_sub-levels
-project_fields-overflow_sub-levels t c = search (going, rules)
+pub project_fields-overflow_sub-row : goal.project_fields-overflow_sub-row
+project_fields-overflow_sub-row t c = search (going, rules)
 
 pub project_fields-project_field-one-requires : goal.project_fields-project_field-one-requires
 project_fields-project_field-one-requires t c = search (going, rules)
@@ -38,20 +38,20 @@ project_list-returns t c = search (list_kept, rules)
 pub project_map-kids_at-kids-requires : goal.project_map-kids_at-kids-requires
 project_map-kids_at-kids-requires t c = search (pairing, standing, rules)
 
-pub project_map-overflow_sub-levels : goal.project_map-overflow_sub-levels
-project_map-overflow_sub-levels t c = search (pairing, standing, rules)
+pub project_map-overflow_sub-value : goal.project_map-overflow_sub-value
+project_map-overflow_sub-value t c = search (pairing, standing, rules)
 
 pub project_map-row_past-value-requires : goal.project_map-row_past-value-requires
 project_map-row_past-value-requires t c = search (pairing, standing, rules)
 
-pub project_map-overflow_sub-behind : goal.project_map-overflow_sub-behind
-project_map-overflow_sub-behind t c = search (pairing, standing, rules)
+pub project_map-overflow_sub-row : goal.project_map-overflow_sub-row
+project_map-overflow_sub-row t c = search (pairing, standing, rules)
 
 pub project_map-project_fields-rest-requires : goal.project_map-project_fields-rest-requires
 project_map-project_fields-rest-requires t c = search (pairing, standing, rules)
 
-pub project_map-overflow_sub-levels-then-rest-gt0 : goal.project_map-overflow_sub-levels-then-rest-gt0
-project_map-overflow_sub-levels-then-rest-gt0 t c = search (pairing, standing, rules)
+pub project_map-overflow_sub-row-then-rest-gt0 : goal.project_map-overflow_sub-row-then-rest-gt0
+project_map-overflow_sub-row-then-rest-gt0 t c = search (pairing, standing, rules)
 
 pub project_map-project_whole-requires : goal.project_map-project_whole-requires
 project_map-project_whole-requires t c = search (row_spot, rules)

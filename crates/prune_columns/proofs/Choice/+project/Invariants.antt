@@ -4,7 +4,7 @@ use Prim.Native.Nat.{◌+◌, ◌*◌}
 use Rattle.prune_columns.proofs.Choice.+project.Given as goal
 
 abbrev pub invariant-project_fields-loop-left : goal.invariant-project_fields-loop-left
-invariant-project_fields-loop-left l = Going l.self.records.now l.self.marks.now l.self.full l.levels l.count l.slot l.initial.plan l.at l.left l.next l.place l.kept l.plan
+invariant-project_fields-loop-left l = Going l.self.records.now l.self.marks.now l.self.full l.row.levels l.row.count l.row.slot l.initial.plan l.at l.left l.next l.place l.kept l.plan
 
 abbrev pub decreases-project_fields-loop-left : goal.decreases-project_fields-loop-left
 decreases-project_fields-loop-left l = l.left
@@ -13,13 +13,13 @@ abbrev pub decreases-project_field : goal.decreases-project_field
 decreases-project_field l = l.levels * 5 + 4
 
 abbrev pub decreases-project_fields : goal.decreases-project_fields
-decreases-project_fields l = l.levels * 5
+decreases-project_fields l = l.row.levels * 5
 
 abbrev pub decreases-project_list : goal.decreases-project_list
-decreases-project_list l = l.levels * 5 + 1
+decreases-project_list l = l.row.levels * 5 + 1
 
 abbrev pub decreases-project_map : goal.decreases-project_map
-decreases-project_map l = l.levels * 5 + 1
+decreases-project_map l = l.row.levels * 5 + 1
 
 abbrev pub decreases-project_selected_struct : goal.decreases-project_selected_struct
 decreases-project_selected_struct l = l.levels * 5 + 3
