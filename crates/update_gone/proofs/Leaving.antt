@@ -3,13 +3,11 @@ use Prim.Native.Nat.{ℕ, zero, suc, ◌+◌, ◌-◌, ◌*◌, ◌<◌, ◌≤�
 use mathlib.Core.Path.{◌≡◌, refl, sym, ap, ◌∙◌}
 use mathlib.Core.Bool.{Bool, true, false, ◌||◌}
 use mathlib.Core.List.{List, []}
-use native.Mathlib.Numerals.{add-one, sub-one}
+use native.Mathlib.Numerals.{add-one}
 use native.Mathlib.Omega.{arith}
 use lib.ListN.{length, get_or}
-use Rattle.paper.specs.declared.Kind.{Kind}
 use Rattle.paper.specs.Answer.{among}
 use Rattle.paper.specs.Bytes.{kids_at, kind_at}
-use Rattle.paper.specs.Field.{is_struct}
 use Rattle.paper.specs.Forest.{Forest, preorder}
 use Rattle.paper.specs.Gone.{dropped_member, gone}
 use Rattle.laws.specs.Members.{◌∈◌}
@@ -18,16 +16,10 @@ use Rattle.laws.proofs.Going.{gone_there}
 use Rattle.plan.specs.Walk.{trees_of}
 use Rattle.plan.proofs.Walks.{roots_are}
 use Rattle.index_names.specs.Full.{ups}
-use Rattle.index_names.proofs.Rising.{Climbs, climbs, risen, rising_left, rising_on, slot_there, up_ends}
+use Rattle.index_names.proofs.Rising.{Climbs, climbs, risen, rising_on, slot_there, up_ends}
 use Rattle.index_names.proofs.Telling.{ups_fall}
 use Rattle.update_gone.specs.Gone.{base_slots, slot_id, ids_gone, open_under, Rises}
 use Rattle.update_gone.proofs.Climbing.{goes_at, steps}
-
--- ---- who stands under a place
-
-pub opens_under : (records : List ℕ) (u : ℕ) (k : Kind) (b : Bool) → (u ≡ 0 → ⊥) → k ≡ kind_at records (u - 1) → b ≡ is_struct k → b ≡ open_under records u
-opens_under records zero k b f ek eb = absurd (f refl)
-opens_under records (suc p) k b f ek eb = rw (eb, ek, sub-one (suc p))
 
 -- ---- the base
 
@@ -79,28 +71,25 @@ module _ {records : List ℕ} {n : ℕ} {us : List ℕ} (R : Rises records n us)
 
 -- ---- the loop
 
-pub record Leaving (records : List ℕ) (n : ℕ) (us ds : List ℕ) (slot place left : ℕ) : Type 0 where
+pub record Leaving (records : List ℕ) (n : ℕ) (us ds : List ℕ) (slot place turns : ℕ) : Type 0 where
   pub within : place ≤ n
   pub same : among (slot_id records slot) (ids_gone records n ds) ≡ gone_at records n ds place
-  pub low : risen us left place ≡ 0
-
-module _ {records : List ℕ} {n : ℕ} {us ds : List ℕ} {slot place left : ℕ} (H : Leaving records n us ds slot place left) (l : 0 < place) where
-  -- a level is left for it
-  pub leave_left : 1 ≤ left
-  leave_left = let e : place ≡ suc (place - 1) = omega arith in rising_left us left (place - 1) (rw (← e) H.low)
-
-  pub leave_less : left - 1 < left
-  leave_less = let h = leave_left in omega arith
+  pub low : risen us (16 - turns) place ≡ 0
 
 module _ {records : List ℕ} {n : ℕ} {us : List ℕ} (R : Rises records n us) where
-  pub leave_starts : (ds : List ℕ) (slot : ℕ) → slot < n → Leaving records n us ds slot (slot + 1) 16
+  pub leave_starts : (ds : List ℕ) (slot : ℕ) → slot < n → Leaving records n us ds slot (slot + 1) 0
   leave_starts ds slot l = rw (add-one slot) record { within = l; same = refl; low = base_ends R slot l }
 
-  module _ {ds : List ℕ} {slot place left : ℕ} (H : Leaving records n us ds slot place left) where
-    pub leave_ends : place ≤ 0 → false ≡ among (slot_id records slot) (ids_gone records n ds)
-    leave_ends l = let e : place ≡ 0 = omega arith in sym (H.same ∙ rw e)
+  module _ {ds : List ℕ} {slot place i : ℕ} (H : Leaving records n us ds slot place i) where
+    pub leave_ends : place ≡ 0 → false ≡ among (slot_id records slot) (ids_gone records n ds)
+    leave_ends e = sym (H.same ∙ rw e)
 
-    module _ (l : 0 < place) (k : ℕ) (ek : k ≡ place - 1) where
+    -- no level is left
+    pub leave_last : 16 ≤ i → false ≡ among (slot_id records slot) (ids_gone records n ds)
+    unfolding risen
+    leave_last l = let z : 16 - i ≡ 0 = omega arith in leave_ends (rw z at H.low)
+
+    module _ (l : place ≡ 0 → ⊥) (k : ℕ) (ek : k ≡ place - 1) where
       is_next : place ≡ suc k
       is_next = omega arith
 
@@ -124,12 +113,13 @@ module _ {records : List ℕ} {n : ℕ} {us : List ℕ} (R : Rises records n us)
           pub leave_taken : b ≡ true → true ≡ among (slot_id records slot) (ids_gone records n ds)
           leave_taken e = sym (level ∙ rw e)
 
-          pub leave_goes : (left' : ℕ) → b ≡ false → left' ≡ left - 1 → Leaving records n us ds slot above left'
-          leave_goes left' e el =
+          pub leave_goes : b ≡ false → Leaving records n us ds slot above (i + 1)
+          leave_goes e =
+              let el : 16 - (i + 1) ≡ 16 - i - 1 = omega arith in
               record {
                 within = let w = there_still in let f = up_falls R k w in omega arith;
                 same = level ∙ rw e;
-                low = rw (ea, el) (rising_on us left k (rw is_next at H.low));
+                low = rw (ea, el) (rising_on us (16 - i) k (rw is_next at H.low));
               }
 
-pub ruleset leaving = (leave_starts, leave_small, leave_room, leave_left, leave_less, above_room, leave_taken, leave_goes, leave_ends)
+pub ruleset leaving = (leave_starts, leave_small, leave_room, above_room, leave_taken, leave_goes, leave_ends, leave_last)

@@ -4,49 +4,39 @@
 ghost use Rattle.std.specs.Prelude.{◌≡◌, ◌*◌, ◌≤◌, ◌<◌, length};
 ghost use Rattle.paper.specs.Answer.{among};
 ghost use Rattle.index_ids.specs.Table.{ups_in};
-ghost use Rattle.update_dropped.specs.Set.{dropped_ids, set_of, Good};
+ghost use Rattle.update_dropped.specs.Set.{dropped_ids};
 ghost use Rattle.update_gone.specs.Gone.{slot_id, ids_gone, open_under, Rises};
 
 use index_ids::{IndexRows, UPS, cell};
 use paper::is_struct;
 use record::kind_at;
-use update_dropped::dropped_member;
+use update_dropped::Dropped;
 
 // Whether the siblings under a place are open to change: those of the root list, and the members of a struct.
 fn open_under(recs: &[u8], above: usize) -> bool
     requires { above * 24 ≤ length recs.now }
     ensures { result ≡ open_under recs.now above }
 {
-    if above == 0 {
-        return true;
-    }
-    is_struct(kind_at(recs, above - 1))
+    above == 0 || is_struct(kind_at(recs, above - 1))
 }
 
-// Whether the record at a slot goes: it, or a record above it, is dropped as a member of a struct or of the root list. Each turn
-// is a level up, and there are 16 levels, so `left` is never below 0.
-pub fn is_gone(
-    recs: &[u8],
-    n: usize,
-    index: &IndexRows,
-    slot: usize,
-    dropped: &[u32; 64],
-    drops: usize,
-) -> bool
-    requires { Rises recs.now n (ups_in index.now) × (slot < n)
-        × Good (set_of dropped.now drops) }
+// Whether the record at a slot goes: it, or a record above it, is dropped as a member of a struct or of the root list.
+pub fn is_gone(recs: &[u8], n: usize, index: &IndexRows, slot: usize, dropped: &Dropped) -> bool
+    requires { Rises recs.now n (ups_in index.now) × (slot < n) }
     ensures { result ≡ among (slot_id recs.now slot) (ids_gone recs.now n
-        (dropped_ids (set_of dropped.now drops))) }
+        (dropped_ids dropped.now)) }
 {
     let mut place = slot + 1;
-    let mut left = 16u32;
-    while 0 < place {
+    // each turn is a level up, and there are 16 levels
+    for _ in 0..16u32 {
+        if place == 0 {
+            return false;
+        }
         let k = place - 1;
         let above = cell(index, UPS, k);
-        if dropped_member(recs, k, open_under(recs, above), dropped, drops) {
+        if dropped.drops_member(recs, k, open_under(recs, above)) {
             return true;
         }
-        left -= 1;
         place = above;
     }
     false
