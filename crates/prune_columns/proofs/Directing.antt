@@ -82,11 +82,11 @@ module _ (s marks : List ℕ) (full : Bool) (lv c k : ℕ) (r : Role) where
         unfolding walked_to
         left_direct t = record { says = sym (ap (walked_to 20 0 rest.next) (later_direct t)) ∙ onward }
 
-        pub left_goes : (own' : Role) → b ≡ false → own' ≡ after own → Left s marks full lv c k r (left - 1) j own'
+        pub left_goes : (own' : Role) (left' : ℕ) → b ≡ false → own' ≡ after own → left' ≡ left - 1 → Left s marks full lv c k r left' j own'
         unfolding inside rest
-        left_goes own' t eo =
+        left_goes own' left' t eo el =
             let e = (walked_end 20 0 _ j _ w ew.says d).1 in
-            record {
+            rw el record {
               there = rest_there s lv left at h.there l m em j (sym e);
               same = rw (← e, eo) (sym (ap (walked_to 20 0 rest.next) (later_goes t)) ∙ onward);
             }

@@ -232,13 +232,13 @@ module _ (s marks : List ℕ) (full : Bool) (lv c k : ℕ) (plan : PlanRows) (i 
         both : (row_of s lv left next).trees ≡ node next (row_of s (lv - 1) (kids_at s next) (next + 1)).trees (row_of s lv (left - 1) a.next).trees
         both = ap (λ (p : Part). p.trees) (split s lv left next h.row.there l (kids_at s next) refl) ∙ rw p.next
 
-        pub going_goes : Going s marks full lv c k plan i (left - 1) a.next a.at (kept + a.count) plan₁
-        going_goes =
+        pub going_goes : (left' : ℕ) → left' ≡ left - 1 → Going s marks full lv c k plan i left' a.next a.at (kept + a.count) plan₁
+        going_goes left' el =
             let e = siblings_size (projected (marked marks) (kind_at s) full Member (tree_at s (lv - 1) next)) in
             let f = p.at in
             let g = p.count in
             let w = h.few in
-            record {
+            rw el record {
               row = record { there = rest_there s lv left next h.row.there l (kids_at s next) refl a.next p.next; room = p.room };
               few = omega arith;
               go = λ r plan₂ q.

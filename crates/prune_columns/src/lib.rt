@@ -134,10 +134,8 @@ impl<'a> Choice<'a> {
             self.now.full row.levels row.count row.slot role result }
     {
         let mut at = row.slot;
-        let mut left = row.count;
         let mut own = role;
-        // no `for`: a step passes over a whole subtree
-        while 0 < left {
+        for passed in 0..row.count {
             let inside = Siblings {
                 slot: at + 1,
                 count: kids_at(self.records, at),
@@ -153,7 +151,6 @@ impl<'a> Choice<'a> {
             }
             at = next;
             own = next_role(own);
-            left -= 1;
         }
         Ok(at)
     }
@@ -167,16 +164,13 @@ impl<'a> Choice<'a> {
             result plan.new }
     {
         let mut next = row.slot;
-        let mut left = row.count;
         let mut place = at;
         let mut kept: u32 = 0;
-        // no `for`: a step passes over a whole subtree
-        while 0 < left {
+        for passed in 0..row.count {
             let one = self.project_field(next, row.levels - 1, plan, place);
             next = one.next;
             place = one.at;
             kept += one.count;
-            left -= 1;
         }
         Step {
             next,

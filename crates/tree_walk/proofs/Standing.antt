@@ -17,6 +17,16 @@ above_zero : (i : ℕ) → (i ≡ 0 → ⊥) → 0 < i
 above_zero zero q = absurd (q refl)
 above_zero (suc i) q = omega arith
 
+-- Of `count` siblings so many are left while fewer are passed.
+pub left_some : {passed count : ℕ} → passed < count → 0 < count - passed
+left_some l = omega arith
+
+pub left_none : {passed count : ℕ} → count ≤ passed → count - passed ≤ 0
+left_none l = omega arith
+
+pub left_less : (passed count : ℕ) → count - (passed + 1) ≡ count - passed - 1
+left_less passed count = omega arith
+
 pub there_row : (s : List ℕ) (lv c k : ℕ) → There s lv c k → Rowed 0 s (slots s) lv c k
 there_row s lv c k h = record { whole = omega arith; small = h.few; within = h.within; read = h.read }
 
@@ -71,5 +81,7 @@ module _ (s : List ℕ) (lv c k : ℕ) where
 
         pub rest_next : (j : ℕ) → j ≡ (row_of s (lv - 1) m (k + 1)).next → (row_of s lv (c - 1) j).next ≡ (row_of s lv c k).next
         rest_next j e = rw e (sym (ap (λ (p : Part). p.next) split))
+
+pub ruleset passing = (left_some, left_none, left_less)
 
 pub ruleset standing = (level_left, level_falls, record_left, bytes_left, place_left, inner_there, inner_row)

@@ -1,6 +1,6 @@
 -- What is kept is laid one record behind the other; a measure of five to a level falls. Assumes nothing.
 use borrow.Author.Rules.{rules}
-use Rattle.tree_walk.proofs.Standing.{standing}
+use Rattle.tree_walk.proofs.Standing.{standing, passing}
 use Rattle.prune_columns.proofs.Planning.{planning}
 use Rattle.prune_columns.proofs.Projecting.{going, single, typing, list_kept, pairing, row_spot, map_span}
 use Rattle.prune_columns.proofs.Choice.+project.Goals as goal
@@ -18,19 +18,19 @@ pub project_field-returns : goal.project_field-returns
 project_field-returns t c = search (single, planning, rules)
 
 pub project_fields-overflow_sub-row : goal.project_fields-overflow_sub-row
-project_fields-overflow_sub-row t c = search (going, rules)
+project_fields-overflow_sub-row t c = search (going, passing, rules)
 
 pub project_fields-project_field-one-requires : goal.project_fields-project_field-one-requires
-project_fields-project_field-one-requires t c = search (going, rules)
+project_fields-project_field-one-requires t c = search (going, passing, rules)
 
 pub project_fields-overflow_add-kept : goal.project_fields-overflow_add-kept
-project_fields-overflow_add-kept t c = search (going, rules)
+project_fields-overflow_add-kept t c = search (going, passing, rules)
 
-pub project_fields-loop-left-preserved : goal.project_fields-loop-left-preserved
-project_fields-loop-left-preserved t c = search (going, rules)
+pub project_fields-loop-passed-preserved : goal.project_fields-loop-passed-preserved
+project_fields-loop-passed-preserved t c = search (going, passing, rules)
 
 pub project_fields-returns : goal.project_fields-returns
-project_fields-returns t c = search (going, rules)
+project_fields-returns t c = search (going, passing, rules)
 
 pub project_list-returns : goal.project_list-returns
 project_list-returns t c = search (list_kept, rules)

@@ -1,13 +1,10 @@
 -- What is kept is laid one record behind the other; a measure of five to a level falls. Assumes nothing.
 use Rattle.prune_columns.proofs.Projecting.{Going}
-use Prim.Native.Nat.{◌+◌, ◌*◌}
+use Prim.Native.Nat.{◌+◌, ◌-◌, ◌*◌}
 use Rattle.prune_columns.proofs.Choice.+project.Given as goal
 
-abbrev pub invariant-project_fields-loop-left : goal.invariant-project_fields-loop-left
-invariant-project_fields-loop-left l = Going l.self.records.now l.self.marks.now l.self.full l.row.levels l.row.count l.row.slot l.initial.plan l.at l.left l.next l.place l.kept l.plan
-
-abbrev pub decreases-project_fields-loop-left : goal.decreases-project_fields-loop-left
-decreases-project_fields-loop-left l = l.left
+abbrev pub invariant-project_fields-loop-passed : goal.invariant-project_fields-loop-passed
+invariant-project_fields-loop-passed l = Going l.self.records.now l.self.marks.now l.self.full l.row.levels l.row.count l.row.slot l.initial.plan l.at (l.row.count - l.passed) l.next l.place l.kept l.plan
 
 abbrev pub decreases-project_field : goal.decreases-project_field
 decreases-project_field l = l.levels * 5 + 4
