@@ -2,7 +2,7 @@
 // the full name of each record; or the line of a refusal.
 #![tactic(auto)]
 
-ghost use Rattle.std.specs.Prelude.{◌≤◌, ◌<◌, length};
+ghost use Rattle.std.specs.Prelude.{◌≤◌, ◌<◌, length, IfOk};
 
 use lister_lines::listing;
 use std::env::{Env, FillError};
@@ -11,13 +11,6 @@ use std::fs::File;
 use std::io;
 use std::io::{Error, ErrorKind, Read};
 use std::rt::Files;
-
-// Whether a file was read, and how many bytes of the buffer it filled.
-#[derive(Clone, Copy)]
-struct Taken {
-    is_read: bool,
-    bytes: usize,
-}
 
 fn main(rt: HostRuntime) -> io::Result<()> {
     if !has_argument(&rt, 1) {
@@ -42,17 +35,11 @@ fn list_named(rt: &(impl Env + Files + Print + Eprint)) {
     let mut names = [0u8; 4096];
     let r = match rt.arg(1, &mut records) {
         Ok(r) => r,
-        Err(error) => {
-            fail(rt, b"the first argument", reason(error));
-            return;
-        }
+        Err(error) => return fail(rt, b"the first argument", reason(error)),
     };
     let n = match rt.arg(2, &mut names) {
         Ok(n) => n,
-        Err(error) => {
-            fail(rt, b"the second argument", reason(error));
-            return;
-        }
+        Err(error) => return fail(rt, b"the second argument", reason(error)),
     };
     list_files(rt, &records[..r], &names[..n]);
 }
@@ -65,38 +52,29 @@ fn reason(error: FillError) -> &'static str {
     }
 }
 
-// Lists two files. Each buffer has one byte more than the limit, so that a longer file is refused and not cut short.
+// Lists two files, or says why one can't be read. Each buffer has one byte more than the limit, so that a longer file is refused and not
+// cut short.
 fn list_files(rt: &(impl Files + Print + Eprint), records_path: &[u8], names_path: &[u8]) {
     let mut records = [0u8; 24577];
     let mut names = [0u8; 32769];
     let mut text = [0u8; 65536];
-    let r = read_file(rt, records_path, &mut records);
-    if !r.is_read {
-        return;
-    }
-    let n = read_file(rt, names_path, &mut names);
-    if !n.is_read {
-        return;
-    }
-    let records_end = r.bytes;
-    let names_end = n.bytes;
-    write_listing(rt, &records[..records_end], &names[..names_end], &mut text);
+    let r = match read_file(rt, records_path, &mut records) {
+        Ok(r) => r,
+        Err(error) => return fail(rt, records_path, error),
+    };
+    let n = match read_file(rt, names_path, &mut names) {
+        Ok(n) => n,
+        Err(error) => return fail(rt, names_path, error),
+    };
+    write_listing(rt, &records[..r], &names[..n], &mut text);
 }
 
-// Reads a file up to the end of the buffer; says why where it can't.
-fn read_file(rt: &(impl Files + Eprint), path: &[u8], buffer: &mut [u8]) -> Taken
-    ensures { result.bytes ≤ length buffer.new }
+// Reads a file up to the end of the buffer; answers how many bytes it put there.
+fn read_file(rt: &impl Files, path: &[u8], buffer: &mut [u8]) -> io::Result<usize>
+    ensures { IfOk result (λ n. n ≤ length buffer.new) }
 {
-    match open_read(rt, path) {
-        Ok(mut file) => read_on(rt, path, &mut file, buffer),
-        Err(error) => {
-            fail(rt, path, error);
-            Taken {
-                is_read: false,
-                bytes: 0,
-            }
-        }
-    }
+    let mut file = open_read(rt, path)?;
+    read_on(&mut file, buffer)
 }
 
 // Opens a file for reading. The library opens only a path that is text.
@@ -107,33 +85,19 @@ fn open_read<R: Files>(rt: &R, path: &[u8]) -> io::Result<R::File> {
     }
 }
 
-// Reads until the file ends, the buffer is full or a read fails, and says why where it fails.
-fn read_on(rt: &impl Eprint, path: &[u8], file: &mut impl Read, buffer: &mut [u8]) -> Taken
-    ensures { result.bytes ≤ length buffer.new }
+// Reads until the file ends, the buffer is full or a read fails.
+fn read_on(file: &mut impl Read, buffer: &mut [u8]) -> io::Result<usize>
+    ensures { IfOk result (λ n. n ≤ length buffer.new) }
 {
     let mut at = 0;
+    // no `for`: a read puts as many bytes as it has
     while at < buffer.len() {
-        match file.read(&mut buffer[at..]) {
-            Ok(0) => {
-                return Taken {
-                    is_read: true,
-                    bytes: at,
-                };
-            }
-            Ok(n) => at += n,
-            Err(error) => {
-                fail(rt, path, error);
-                return Taken {
-                    is_read: false,
-                    bytes: at,
-                };
-            }
+        match file.read(&mut buffer[at..])? {
+            0 => break,
+            n => at += n,
         }
     }
-    Taken {
-        is_read: true,
-        bytes: at,
-    }
+    Ok(at)
 }
 
 // Writes a line to standard error: what failed, a colon and why. Where that can't be written there is nobody to tell.
@@ -154,16 +118,6 @@ fn without_number(text: &str) -> &str {
     }
 }
 
-// The lesser of two numbers.
-fn least(a: usize, b: usize) -> usize
-    ensures { (result ≤ a) × (result ≤ b) }
-{
-    if a < b {
-        return a;
-    }
-    b
-}
-
 // Writes the listing, a buffer at a time.
 fn write_listing<'a>(
     rt: &(impl Print + Eprint),
@@ -174,12 +128,12 @@ fn write_listing<'a>(
     requires { 0 < length text.old }
 {
     let mut at = 0;
+    // no `for`: how long the listing is, its first part tells
     loop {
         let whole = listing(records, names, at, text);
-        let n = least(whole - at, text.len());
+        let n = text.len().min(whole - at);
         if let Err(error) = rt.write_all(&text[..n]) {
-            fail(rt, b"standard output", error);
-            return;
+            return fail(rt, b"standard output", error);
         }
         at += n;
         if n < text.len() {

@@ -1,10 +1,11 @@
 // What was replayed, and how it came out.
-use record::equal;
-use std::io;
+use recorded_lines::fields::field;
+use std::fmt::Display;
+use std::{fmt, io};
 
-// What a line is: a case of an operation or of the lister, or a comment.
+// What a case calls: an operation, a look-up or the lister.
 #[derive(Clone, Copy)]
-pub enum Line {
+pub enum Operation {
     Update,
     Prune,
     Renumber,
@@ -14,180 +15,132 @@ pub enum Line {
     List,
     Folded,
     Ids,
+}
+
+impl Operation {
+    // All of them, in their order.
+    pub const ALL: [Operation; 9] = [
+        Operation::Update,
+        Operation::Prune,
+        Operation::Renumber,
+        Operation::Name,
+        Operation::Id,
+        Operation::Parent,
+        Operation::List,
+        Operation::Folded,
+        Operation::Ids,
+    ];
+
+    // The word that a case begins with, and that the report counts under.
+    fn word(self) -> &'static str {
+        match self {
+            Operation::Update => "update",
+            Operation::Prune => "prune",
+            Operation::Renumber => "renumber",
+            Operation::Name => "name",
+            Operation::Id => "id",
+            Operation::Parent => "parent",
+            Operation::List => "list",
+            Operation::Folded => "folded",
+            Operation::Ids => "ids",
+        }
+    }
+}
+
+// What a line is. A comment has # first.
+#[derive(Clone, Copy)]
+pub enum Line {
+    Case(Operation),
     Comment,
     Unknown,
 }
 
-// How a case came out.
+// What a line is, by its first field.
+pub fn line_of(text: &[u8]) -> Line {
+    if text.first() == Some(&b'#') {
+        return Line::Comment;
+    }
+    let word = field(text, 0);
+    let operation = Operation::ALL
+        .into_iter()
+        .find(|operation| operation.word().as_bytes() == word);
+    operation.map_or(Line::Unknown, Line::Case)
+}
+
+// Why a case doesn't agree.
 #[derive(Clone, Copy)]
-pub enum Verdict {
-    Agrees,
+pub enum Fault {
     Differs,
     Unreadable,
 }
 
-// The lines so far, the cases of each operation and of the lister, and how many agree and differ.
-#[derive(Clone, Copy)]
-pub struct Tally {
-    pub lines: u64,
-    pub update: u64,
-    pub prune: u64,
-    pub renumber: u64,
-    pub name: u64,
-    pub id: u64,
-    pub parent: u64,
-    pub list: u64,
-    pub folded: u64,
-    pub ids: u64,
-    pub agree: u64,
-    pub differ: u64,
+impl Display for Fault {
+    fn fmt<W: fmt::Write>(&self, f: &mut fmt::Formatter<W>) -> fmt::Result {
+        f.write_str(match self {
+            Fault::Differs => "differs",
+            Fault::Unreadable => "can't be read",
+        })
+    }
 }
+
+// How a case came out.
+pub type Verdict = Result<(), Fault>;
 
 // The verdict on a comparison.
 pub fn verdict_on(agrees: bool) -> Verdict {
-    if agrees {
-        return Verdict::Agrees;
-    }
-    Verdict::Differs
+    if agrees { Ok(()) } else { Err(Fault::Differs) }
+}
+
+// The lines so far, the cases of each operation, and how many agree and differ.
+#[derive(Drop)]
+pub struct Tally {
+    lines: u64,
+    cases: [u64; 9],
+    agree: u64,
+    differ: u64,
 }
 
 // One more. No file has so many lines that this wraps.
-fn more(n: u64) -> u64 {
-    std::num::wrapping_add_u64(n, 1)
-}
-
-// Writes what is wrong with a line. One that can't be written is counted all the same.
-fn tell(rt: &impl Print, line: u64, wrong: &str) {
-    let _ = println!(rt; "line {line} {wrong}");
-}
-
-// Writes one count.
-fn tell_count(rt: &impl Print, word: &str, n: u64) -> io::Result<()> {
-    println!(rt; "{word} {n}")
-}
-
-// What a line is, by its first field. A comment has # first.
-pub fn line_of(text: &[u8], word: &[u8]) -> Line {
-    if 0 < text.len() {
-        if text[0] == b'#' {
-            return Line::Comment;
-        }
-    }
-    if equal(word, b"update") {
-        return Line::Update;
-    }
-    if equal(word, b"prune") {
-        return Line::Prune;
-    }
-    if equal(word, b"renumber") {
-        return Line::Renumber;
-    }
-    if equal(word, b"name") {
-        return Line::Name;
-    }
-    if equal(word, b"id") {
-        return Line::Id;
-    }
-    if equal(word, b"parent") {
-        return Line::Parent;
-    }
-    if equal(word, b"list") {
-        return Line::List;
-    }
-    if equal(word, b"folded") {
-        return Line::Folded;
-    }
-    if equal(word, b"ids") {
-        return Line::Ids;
-    }
-    Line::Unknown
+fn count(n: &mut u64) {
+    *n = n.wrapping_add(1);
 }
 
 impl Tally {
     // Nothing so far.
-    pub fn none() -> Self {
+    pub fn new() -> Self {
         Tally {
             lines: 0,
-            update: 0,
-            prune: 0,
-            renumber: 0,
-            name: 0,
-            id: 0,
-            parent: 0,
-            list: 0,
-            folded: 0,
-            ids: 0,
+            cases: [0; 9],
             agree: 0,
             differ: 0,
         }
     }
 
     // The next line begins; a case counts for its operation.
-    pub fn begun(mut self, line: Line) -> Self {
-        self.lines = more(self.lines);
-        match line {
-            Line::Update => {
-                self.update = more(self.update);
-            }
-            Line::Prune => {
-                self.prune = more(self.prune);
-            }
-            Line::Renumber => {
-                self.renumber = more(self.renumber);
-            }
-            Line::Name => {
-                self.name = more(self.name);
-            }
-            Line::Id => {
-                self.id = more(self.id);
-            }
-            Line::Parent => {
-                self.parent = more(self.parent);
-            }
-            Line::List => {
-                self.list = more(self.list);
-            }
-            Line::Folded => {
-                self.folded = more(self.folded);
-            }
-            Line::Ids => {
-                self.ids = more(self.ids);
-            }
-            Line::Comment => {}
-            Line::Unknown => {}
+    pub fn begin(&mut self, line: Line) {
+        count(&mut self.lines);
+        if let Line::Case(operation) = line {
+            count(&mut self.cases[operation as usize]);
         }
-        self
     }
 
-    // The case of the present line is done; one that does not agree is told.
-    pub fn judged(mut self, rt: &impl Print, verdict: Verdict) -> Self {
-        match verdict {
-            Verdict::Agrees => {
-                self.agree = more(self.agree);
-            }
-            Verdict::Differs => {
-                tell(rt, self.lines, "differs");
-                self.differ = more(self.differ);
-            }
-            Verdict::Unreadable => {
-                tell(rt, self.lines, "can't be read");
-                self.differ = more(self.differ);
-            }
-        }
-        self
+    // The case of the present line is done. One that doesn't agree is told; where that can't be written it is counted all the same.
+    pub fn judge(&mut self, rt: &impl Print, verdict: Verdict) {
+        let Err(fault) = verdict else {
+            count(&mut self.agree);
+            return;
+        };
+        let line = self.lines;
+        let _ = println!(rt; "line {line} {fault}");
+        count(&mut self.differ);
     }
 
     // Writes the counts.
-    pub fn report(self, rt: &impl Print) -> io::Result<()> {
-        tell_count(rt, "update", self.update)?;
-        tell_count(rt, "prune", self.prune)?;
-        tell_count(rt, "renumber", self.renumber)?;
-        tell_count(rt, "name", self.name)?;
-        tell_count(rt, "id", self.id)?;
-        tell_count(rt, "parent", self.parent)?;
-        tell_count(rt, "list", self.list)?;
-        tell_count(rt, "folded", self.folded)?;
-        tell_count(rt, "ids", self.ids)?;
+    pub fn report(&self, rt: &impl Print) -> io::Result<()> {
+        for (operation, n) in Operation::ALL.into_iter().zip(&self.cases) {
+            let word = operation.word();
+            println!(rt; "{word} {n}")?;
+        }
         let agree = self.agree;
         let differ = self.differ;
         println!(rt; "{agree} cases agree, {differ} differ")
