@@ -152,13 +152,13 @@ module _ (s : List ℕ) (m? : Bool) (lv c k : ℕ) (ids : List ℕ) (first left 
 
     -- what follows a sibling, but for the counter
     module _ (x : ℕ) (ex : x ≡ turned own) (r : Reassigned) (ids'' : List ℕ) (g : Given s (is_map (kind_at s at)) (lv - 1) (kids_at s at) (at + 1) (set ids' at x) next r ids'') where
-      goes : (own' next' : ℕ) → own' ≡ cond m? (next + size inner.trees) (suc own) → next' ≡ cond m? (suc (next + size inner.trees)) (next + size inner.trees)
-          → Counted m? own' next' (left - 1) (size rest.trees) (first + size (row_of s lv c k).trees) → Left s m? lv c k ids first (left - 1) r.next own' next' ids''
+      goes : (left' own' next' : ℕ) → left' ≡ left - 1 → own' ≡ cond m? (next + size inner.trees) (suc own) → next' ≡ cond m? (suc (next + size inner.trees)) (next + size inner.trees)
+          → Counted m? own' next' (left - 1) (size rest.trees) (first + size (row_of s lv c k).trees) → Left s m? lv c k ids first left' r.next own' next' ids''
       unfolding inner rest
-      goes own' next' e₁ e₂ q =
+      goes left' own' next' el e₁ e₂ q =
           let e : r.next ≡ inner.next = g.next in
           let i = run x ids'' ex g.given in
-          record {
+          rw el record {
             there = rw e rest_in;
             fits = h.fits;
             counts = rw e q;
@@ -195,14 +195,14 @@ module _ (s : List ℕ) (lv c k : ℕ) (ids : List ℕ) (first left at own next 
         omega arith
 
     pub member_goes : (x : ℕ) (r : Reassigned) (ids'' : List ℕ) → x ≡ turned own → Given s (is_map (kind_at s at)) (lv - 1) (kids_at s at) (at + 1) (set ids' at x) next r ids''
-        → Left s false lv c k ids first (left - 1) r.next (own + 1) r.next_field_id ids''
+        → (left' : ℕ) → left' ≡ left - 1 → Left s false lv c k ids first left' r.next (own + 1) r.next_field_id ids''
     unfolding inner
-    member_goes x r ids'' ex g =
+    member_goes x r ids'' ex g left' el =
         let b = sizes s false lv c k ids first left at own next ids' h l in
         let d = h.counts.0 in
         let e = h.counts.1 in
         let q = g.counter in
-        goes s false lv c k ids first left at own next ids' h l x ex r ids'' g (own + 1) r.next_field_id (add-one own) q (omega arith, omega arith)
+        goes s false lv c k ids first left at own next ids' h l x ex r ids'' g left' (own + 1) r.next_field_id el (add-one own) q (omega arith, omega arith)
 
 -- ---- a key and a value
 
@@ -230,13 +230,13 @@ module _ (s : List ℕ) (lv c k : ℕ) (ids : List ℕ) (first left at own : ℕ
         asked s true lv c k ids first left at own (own + 1) ids' h l x (omega arith)
 
     pub pair_goes : (x : ℕ) (r : Reassigned) (ids'' : List ℕ) → x ≡ turned own → Given s (is_map (kind_at s at)) (lv - 1) (kids_at s at) (at + 1) (set ids' at x) (own + 1) r ids''
-        → Left s true lv c k ids first (left - 1) r.next r.next_field_id (r.next_field_id + 1) ids''
+        → (left' : ℕ) → left' ≡ left - 1 → Left s true lv c k ids first left' r.next r.next_field_id (r.next_field_id + 1) ids''
     unfolding inner
-    pair_goes x r ids'' ex g =
+    pair_goes x r ids'' ex g left' el =
         let b = sizes s true lv c k ids first left at own (own + 1) ids' h l in
         let d = h.counts.0 in
         let q = g.counter in
-        goes s true lv c k ids first left at own (own + 1) ids' h l x ex r ids'' g r.next_field_id (r.next_field_id + 1) q (add-one _ ∙ ap suc q) (omega arith, refl)
+        goes s true lv c k ids first left at own (own + 1) ids' h l x ex r ids'' g left' r.next_field_id (r.next_field_id + 1) el q (add-one _ ∙ ap suc q) (omega arith, refl)
 
 -- ---- a type
 

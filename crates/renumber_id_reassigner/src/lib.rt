@@ -31,17 +31,13 @@ pub fn reassign_field_ids(
         result ids.new }
 {
     let mut at = row.slot;
-    let mut left = row.count;
-    let mut own = first;
-    let mut inside = first + row.count;
-    // no `for`: a step passes over a whole subtree
-    while 0 < left {
+    let past = first + row.count;
+    let mut inside = past;
+    for own in first..past {
         ids[at] = turn(own);
         let after = reassign_ids_visit_type(recs, at, row.levels - 1, ids, inside);
         at = after.next;
         inside = after.next_field_id;
-        own += 1;
-        left -= 1;
     }
     Reassigned {
         next: at,
@@ -62,15 +58,12 @@ fn reassign_key_and_value(
         result ids.new }
 {
     let mut at = row.slot;
-    let mut left = row.count;
     let mut own = first;
-    // no `for`: a step passes over a whole subtree
-    while 0 < left {
+    for passed in 0..row.count {
         ids[at] = turn(own);
         let after = reassign_ids_visit_type(recs, at, row.levels - 1, ids, own + 1);
         at = after.next;
         own = after.next_field_id;
-        left -= 1;
     }
     Reassigned {
         next: at,

@@ -4,17 +4,11 @@ use Rattle.renumber_id_reassigner.proofs.Numbering.{Left}
 use Prim.Native.Nat.{◌+◌, ◌*◌, ◌-◌}
 use Rattle.renumber_id_reassigner.proofs.+reassign.Given as goal
 
-abbrev pub invariant-reassign_field_ids-loop-left : goal.invariant-reassign_field_ids-loop-left
-invariant-reassign_field_ids-loop-left l = Left l.recs false l.row.levels l.row.count l.row.slot l.initial.ids l.first l.left l.at l.own l.inside l.ids
+abbrev pub invariant-reassign_field_ids-loop-own : goal.invariant-reassign_field_ids-loop-own
+invariant-reassign_field_ids-loop-own l = Left l.recs false l.row.levels l.row.count l.row.slot l.initial.ids l.first (l.past - l.own) l.at l.own l.inside l.ids
 
-abbrev pub decreases-reassign_field_ids-loop-left : goal.decreases-reassign_field_ids-loop-left
-decreases-reassign_field_ids-loop-left l = l.left
-
-abbrev pub invariant-reassign_key_and_value-loop-left : goal.invariant-reassign_key_and_value-loop-left
-invariant-reassign_key_and_value-loop-left l = Left l.recs true l.row.levels l.row.count l.row.slot l.initial.ids l.first l.left l.at l.own (l.own + 1) l.ids
-
-abbrev pub decreases-reassign_key_and_value-loop-left : goal.decreases-reassign_key_and_value-loop-left
-decreases-reassign_key_and_value-loop-left l = l.left
+abbrev pub invariant-reassign_key_and_value-loop-passed : goal.invariant-reassign_key_and_value-loop-passed
+invariant-reassign_key_and_value-loop-passed l = Left l.recs true l.row.levels l.row.count l.row.slot l.initial.ids l.first (l.row.count - l.passed) l.at l.own (l.own + 1) l.ids
 
 abbrev pub decreases-reassign_field_ids : goal.decreases-reassign_field_ids
 decreases-reassign_field_ids l = l.row.levels * 1025 + (1024 - l.row.slot)
