@@ -1,22 +1,23 @@
 -- One edit: nothing found, a column that goes, one that may not be changed so, a dot in the new name, no step; else it is decided.
 use Prim.Native.Nat.{ℕ, ◌+◌, ◌*◌, ◌<◌, ◌≤◌}
 use mathlib.Core.Path.{◌≡◌, refl, sym, ap, subst, ◌∙◌}
-use mathlib.Core.Bool.{Bool, true, false, ◌||◌, cond}
+use mathlib.Core.Bool.{Bool, true, false, not, ◌&&◌, ◌||◌, cond}
 use mathlib.Core.List.{List}
 use mathlib.Core.Option.{Option, none, some}
 use native.Mathlib.Omega.{arith}
-use lib.Dec.{eqb}
+use lib.Dec.{eqb, leb}
 use lib.ListN.{length, get_or}
 use borrow.Author.Tests.{eqb-true}
 use Rattle.paper.specs.declared.Role.{Role}
 use Rattle.paper.specs.Answer.{ok, ◌>>=◌, among}
 use Rattle.paper.specs.Refusals.{permitted, dotless, stepped}
-use Rattle.paper.specs.Bytes.{rec_at, kind_at, field_at}
+use Rattle.paper.specs.Bytes.{turned, rec_at, kind_at, field_at}
 use Rattle.paper.specs.Decode.{fields}
 use Rattle.paper.specs.Edits.{Change, rename, relax, widen, Edited, forbidden, again, renamed, widened, has_dot, no_step, edited_one}
 use Rattle.paper.specs.Forest.{Forest}
-use Rattle.paper.specs.Field.{Field}
+use Rattle.paper.specs.Field.{Field, is_member, is_key, is_primitive}
 use Rattle.paper.specs.Gone.{gone_columns}
+use Rattle.paper.specs.Promotions.{allowed}
 use Rattle.paper.specs.Lists.{edit_at, new_name, edit_path, edit_of}
 use Rattle.paper.specs.Rows.{Row, look_name}
 use Rattle.record.specs.declared.FieldId.{FieldId}
@@ -29,6 +30,7 @@ use Rattle.record.proofs.Testing.{checked_ok, checked_refused}
 use Rattle.record_entries.specs.declared.What.{What}
 use Rattle.record_entries.specs.declared.What.TheVariants.{Rename, Relax, Widen}
 use Rattle.record_entries.specs.Rule.{what_of}
+use Rattle.plan.specs.Plan.{low_part}
 use Rattle.update_gone.specs.Gone.{base_slots, slot_id, ids_gone, Rises}
 use Rattle.update_gone.proofs.Fields.{gone_fields}
 use Rattle.update_edits.specs.Answers.{Editing}
@@ -48,7 +50,9 @@ nothing_at r e = let z : ◌≡◌ {A = ℕ} 0 1 = cc in omega arith
 
 at_slot : (x : FieldId) (p : Slot) (r : Row) → Some (x, p) ≡ found_row (some r) → r.slot ≡ p.0
 unfolding found_row
-at_slot x p r e = let z : p ≡ record { 0 = r.slot } = cc in rw z
+at_slot x p r e =
+    let z : (x, p) ≡ (record { 0 = turned r.field.id }, record { 0 = r.slot }) = cc in
+    sym (ap (λ (w : FieldId × Slot). w.1.0) z)
 
 pub lands_in : (n : ℕ) (f : Found) (x : FieldId) (p : Slot) → f ≡ Some (x, p) → Lands n f → p.0 < n
 lands_in n f x p e h = h.at x p e
@@ -109,30 +113,53 @@ module _ (records us : List ℕ) (version : ℕ) (request edits : List ℕ) (k :
   abbrev Fits : Check → Type 0
   Fits r = r ≡ checked (edit_fits records us version request edits k marks slot)
 
-  module _ (w : What) (ew : w ≡ what_of (edit_at edits k).what) (q : Bool) (eq : q ≡ (forbids w (role_at records us slot) || repeats w (get_or marks slot 0))) where
-    pub fits_barred : q ≡ true → Fits (Err (refusal_of 24 6 k))
-    unfolding checked fits ◌>>=◌
-    fits_barred u = rw (← ew, ← eq, u)
+  -- f is the refusal of this number
+  abbrev Refuses : Refusal → ℕ → Type 0
+  Refuses f number = f ≡ refusal_of number 6 k
 
-    module _ (u : q ≡ false) (d : Bool) (ed : d ≡ dots w (new_name request edits k)) where
-      pub fits_dotted : d ≡ true → Fits (Err (refusal_of 13 6 k))
+  module _ (w : What) (ew : w ≡ what_of (edit_at edits k).what) (role : Role) (er : role ≡ role_at records us slot) where
+    module _ (q : w ≡ Rename) (a : Bool) (ea : a ≡ is_member role) (b : Bool) (eb : b ≡ leb 2 (low_part (get_or marks slot 0))) where
+      pub rename_barred : (f : Refusal) → (not a || b) ≡ true → Refuses f 24 → Fits (Err f)
       unfolding checked fits ◌>>=◌
-      fits_dotted v = rw (← ew, ← eq, u, ← ed, v)
+      rename_barred f u e = rw (← ew, q, ← er, ← ea, ← eb, u, e)
 
-      module _ (v : d ≡ false) (z : Bool) (ez : z ≡ stepless w version (kind_at records slot) (rec_at records slot).code (edit_at edits k).code) where
-        pub fits_stepless : z ≡ true → Fits (Err (refusal_of 26 6 k))
+      module _ (u : (not a || b) ≡ false) (x : List ℕ) (ex : x ≡ new_name request edits k) (d : Bool) (ed : d ≡ among 46 x) where
+        pub rename_dotted : (f : Refusal) → d ≡ true → Refuses f 13 → Fits (Err f)
         unfolding checked fits ◌>>=◌
-        fits_stepless y = rw (← ew, ← eq, u, ← ed, v, ← ez, y)
+        rename_dotted f v e = rw (← ew, q, ← er, ← ea, ← eb, u, ← ex, ← ed, v, e)
 
-        pub fits_fine : z ≡ false → Fits (Ok tt)
+        pub rename_fits : d ≡ false → Fits (Ok tt)
         unfolding checked fits ◌>>=◌
-        fits_fine y = rw (← ew, ← eq, u, ← ed, v, ← ez, y)
+        rename_fits v = rw (← ew, q, ← er, ← ea, ← eb, u, ← ex, ← ed, v)
+
+    module _ (q : w ≡ Relax) (a : Bool) (ea : a ≡ is_key role) where
+      pub relax_barred : (f : Refusal) → a ≡ true → Refuses f 24 → Fits (Err f)
+      unfolding checked fits ◌>>=◌
+      relax_barred f u e = rw (← ew, q, ← er, ← ea, u, e)
+
+      pub relax_fits : a ≡ false → Fits (Ok tt)
+      unfolding checked fits ◌>>=◌
+      relax_fits u = rw (← ew, q, ← er, ← ea, u)
+
+    module _ (q : w ≡ Widen) (a : Bool) (ea : a ≡ leb 256 (get_or marks slot 0)) where
+      pub widen_barred : (f : Refusal) → a ≡ true → Refuses f 24 → Fits (Err f)
+      unfolding checked fits ◌>>=◌
+      widen_barred f u e = rw (← ew, q, ← ea, u, e)
+
+      module _ (u : a ≡ false) (x : ℕ) (ex : x ≡ (edit_at edits k).code) (d : Bool) (ed : d ≡ (is_primitive (kind_at records slot) && allowed version (rec_at records slot).code x)) where
+        pub widen_stepless : (f : Refusal) → not d ≡ true → Refuses f 26 → Fits (Err f)
+        unfolding checked fits ◌>>=◌
+        widen_stepless f v e = rw (← ew, q, ← ea, u, ← ex, ← ed, v, e)
+
+        pub widen_fits : not d ≡ false → Fits (Ok tt)
+        unfolding checked fits ◌>>=◌
+        widen_fits v = rw (← ew, q, ← ea, u, ← ex, ← ed, v)
 
 -- a slot of the base has its bytes
 pub slot_whole : (records : List ℕ) (n : ℕ) (us : List ℕ) (slot : ℕ) → Rises records n us → slot < n → slot * 24 + 24 ≤ length records
 slot_whole records n us slot R l = let w = R.whole in omega arith
 
-pub ruleset fitting = (fits_barred, fits_dotted, fits_stepless, fits_fine, slot_whole)
+pub ruleset fitting = (renames_byte, rename_barred, rename_dotted, rename_fits, relax_barred, relax_fits, widen_barred, widen_stepless, widen_fits, slot_whole)
 
 -- ---- the paths: `search deciding`
 
@@ -155,9 +182,9 @@ module _ (f : Found) (records : List ℕ) (n : ℕ) (us : List ℕ) (version : �
   abbrev code : ℕ
   code = (edit_at edits k).code
 
-  pub edit_nothing : f ≡ None → Says (Err (refusal_of 23 6 k))
+  pub edit_nothing : (y : Refusal) → y ≡ refusal_of 23 6 k → f ≡ None → Says (Err y)
   unfolding edit_found ◌>>=◌
-  edit_nothing e = record { by = λ pool o earlier st ef tells. go pool o earlier ef }
+  edit_nothing y ey e = rw ey (record { by = λ pool o earlier st ef tells. go pool o earlier ef })
     where
       go : (pool : List ℕ) (o : Option Row) (earlier : List Edited) → f ≡ found_row o
           → EditedBy (Err (refusal_of 23 6 k)) (edit_found (tree pool) o ds k earlier change) records n change
@@ -202,9 +229,9 @@ module _ (f : Found) (records : List ℕ) (n : ℕ) (us : List ℕ) (version : �
       gone_is : among r.field.id (gone_columns ds (tree pool)) ≡ g
       gone_is = rw (id_is, gone_fields pool records n ds) (sym eg)
 
-    pub edit_gone : g ≡ true → Says (Err (refusal_of 23 6 k))
+    pub edit_gone : (y : Refusal) → y ≡ refusal_of 23 6 k → g ≡ true → Says (Err y)
     unfolding edit_found ◌>>=◌
-    edit_gone t = of_row (Err (refusal_of 23 6 k)) (λ pool r earlier s ef tells. rw (gone_is pool r s ef, t))
+    edit_gone y ey t = rw ey (of_row (Err (refusal_of 23 6 k)) (λ pool r earlier s ef tells. rw (gone_is pool r s ef, t)))
 
     module _ (t : g ≡ false) (l : Lands n f) where
       there : p.0 < n

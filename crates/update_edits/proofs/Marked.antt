@@ -64,7 +64,6 @@ module _ (marks : List ℕ) (t : Forest Source) (m : ℕ) (plan p p' : PlanRows)
             (ap (sets (sources plan) 0) (map-map (remarked marks) slot_of ps ∙ sym (map-map slot_of (remark marks) ps)));
         numbers_set = r.numbers_same ∙ d.numbers_set ∙ rw (preorder_mapped (remark marks) t) (ap (sets (numbers plan) 0) (sym (map-map bits_of (remark marks) ps)));
         members_set = r.members_same ∙ d.members_set ∙ rw (counts_mapped (remark marks) t);
-        rows = r.rows;
       }
 
 -- ---- the fields

@@ -8,7 +8,7 @@ use lib.ListN.{length, get_or, set}
 use lib.Seq.{sets, get_or-set_other}
 use Rattle.paper.specs.Bytes.{from}
 use Rattle.laws.proofs.Runs.{length_from, from_more}
-use Rattle.plan.specs.Table.{sources}
+use Rattle.plan.specs.Table.{sources, numbers, members}
 use Rattle.update_edits.specs.Marks.{remarked, RemarkedIn}
 use Rattle.plan.specs.declared.PlanRows.{PlanRows}
 
@@ -19,44 +19,35 @@ get_or_sets_behind (v ∷ vs) l i j h = get_or_sets_behind vs (set l i v) (suc i
 
 pub record Remarking (marks : List ℕ) (m : ℕ) (plan : PlanRows) (i : ℕ) (plan' : PlanRows) : Type 0 where
   pub within : i ≤ m
-  pub most : m ≤ 1024
   pub set : RemarkedIn marks i plan plan'
 
--- one store into the first row
-stored_first : (marks : List ℕ) (plan p : PlanRows) (i v : ℕ) → RemarkedIn marks i plan p → v ≡ remarked marks (get_or (sources p) i 0) → RemarkedIn marks (i + 1) plan (set p 0 (set (sources p) i v))
-stored_first marks plan (xs ∷ is ∷ ks ∷ []) i v h e =
+-- one store into the row of sources
+abbrev sourced : PlanRows → (i v : ℕ) → PlanRows
+sourced p i v = record { sources = set (sources p) i v; numbers = numbers p; members = members p }
+
+stored_source : (marks : List ℕ) (plan p : PlanRows) (i v : ℕ) → RemarkedIn marks i plan p → v ≡ remarked marks (get_or (sources p) i 0) → RemarkedIn marks (i + 1) plan (sourced p i v)
+stored_source marks plan p i v h e =
     let g : ℕ → ℕ = λ j. remarked marks (get_or (sources plan) j 0) in
-    let z : get_or xs i 0 ≡ get_or (sources plan) i 0 = ap (λ (l : List ℕ). get_or l i 0) h.sources_set ∙ get_or_sets_behind (from g 0 i) (sources plan) 0 i (let q = length_from g 0 i in omega arith) in
+    let z : get_or (sources p) i 0 ≡ get_or (sources plan) i 0 = ap (λ (l : List ℕ). get_or l i 0) h.sources_set ∙ get_or_sets_behind (from g 0 i) (sources plan) 0 i (let q = length_from g 0 i in omega arith) in
     record {
       sources_set =
           rw (e, z, h.sources_set) (ap (λ (j : ℕ). set (sets (sources plan) 0 (from g 0 i)) j (g j)) (sym (zero-add i)) ∙ from_more g (sources plan) 0 0 i);
       numbers_same = h.numbers_same;
       members_same = h.members_same;
-      rows = refl;
     }
-stored_first marks plan [] i v h e = absurd (let q = h.rows in omega arith)
-stored_first marks plan (xs ∷ []) i v h e = absurd (let q = h.rows in omega arith)
-stored_first marks plan (xs ∷ is ∷ []) i v h e = absurd (let q = h.rows in omega arith)
-stored_first marks plan (xs ∷ is ∷ ks ∷ l ∷ ls) i v h e = absurd (let q = h.rows in omega arith)
 
 -- ---- the loop: `search remarking`
 
 module _ (marks : List ℕ) (m : ℕ) (plan : PlanRows) where
-  pub remark_starts : m ≤ 1024 → length plan ≡ 3 → Remarking marks m plan 0 plan
+  pub remark_starts : Remarking marks m plan 0 plan
   unfolding from
-  remark_starts l e = record { within = omega arith; most = l; set = record { sources_set = refl; numbers_same = refl; members_same = refl; rows = e } }
+  remark_starts = record { within = omega arith; set = record { sources_set = refl; numbers_same = refl; members_same = refl } }
 
   module _ (i : ℕ) (p : PlanRows) (h : Remarking marks m plan i p) where
-    pub remark_goes : (v : ℕ) → i < m → v ≡ remarked marks (get_or (sources p) i 0) → Remarking marks m plan (i + 1) (set p 0 (set (sources p) i v))
-    remark_goes v l e = record { within = omega arith; most = h.most; set = stored_first marks plan p i v h.set e }
+    pub remark_goes : (v : ℕ) → i < m → v ≡ remarked marks (get_or (sources p) i 0) → Remarking marks m plan (i + 1) (sourced p i v)
+    remark_goes v l e = record { within = omega arith; set = stored_source marks plan p i v h.set e }
 
     pub remark_ends : m ≤ i → RemarkedIn marks m plan p
     remark_ends l = let a = h.within in let e : i ≡ m = omega arith in rw e at h.set
 
-    pub remark_low : i < m → i < 1024
-    remark_low l = let a = h.most in omega arith
-
-    pub remark_rows : length p ≡ 3
-    remark_rows = h.set.rows
-
-pub ruleset remarking = (remark_starts, remark_goes, remark_ends, remark_low, remark_rows)
+pub ruleset remarking = (remark_starts, remark_goes, remark_ends)

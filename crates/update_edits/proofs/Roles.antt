@@ -1,24 +1,22 @@
 -- The role by the place above a slot is that of the paper's row: a row that a look-up finds is the record at its slot, in its role.
-use Prim.Native.Nat.{ℕ, zero, suc, ◌+◌, ◌-◌, ◌*◌, ◌%◌, ◌<◌, ◌≤◌}
+use Prim.Native.Nat.{ℕ, zero, suc, ◌+◌, ◌-◌, ◌*◌, ◌<◌, ◌≤◌}
 use mathlib.Core.Path.{◌≡◌, refl, sym, ap, ◌∙◌}
-use mathlib.Core.Bool.{Bool, true, false, not, ◌&&◌, cond}
+use mathlib.Core.Bool.{Bool, true, false, cond}
 use mathlib.Core.List.{List}
 use mathlib.Core.Option.{some}
 use native.Mathlib.Numerals.{sub-one}
 use native.Mathlib.Omega.{arith}
-use lib.Dec.{eqb, leb}
+use lib.Dec.{eqb}
 use lib.ListN.{length, get_or}
 use borrow.Author.Tests.{ne_eqb}
 use Rattle.paper.specs.declared.Kind.{Kind}
 use Rattle.paper.specs.declared.Role.{Role}
 use Rattle.paper.specs.declared.Role.TheVariants.{Member, Element, Key, Value}
-use Rattle.paper.specs.Answer.{among}
 use Rattle.paper.specs.Bytes.{kids_at, kind_at, field_at}
 use Rattle.paper.specs.Decode.{fields}
-use Rattle.paper.specs.Field.{Field, first, after, is_primitive}
+use Rattle.paper.specs.Field.{Field, first, after}
 use Rattle.paper.specs.Forest.{Forest, node, size, mapped}
 use Rattle.paper.specs.Layout.{roots}
-use Rattle.paper.specs.Promotions.{allowed}
 use Rattle.paper.specs.Rows.{Row, Start, row, below, beside, look_name}
 use Rattle.laws.proofs.Basics.{eqb_self}
 use Rattle.laws.proofs.Preorder.{size_mapped}
@@ -27,11 +25,9 @@ use Rattle.laws.proofs.Taken.{Laid, roots_take}
 use Rattle.tree.specs.Read.{got}
 use Rattle.tree.proofs.Steps.{fine_got}
 use Rattle.index_names.proofs.Rising.{Climbs}
-use Rattle.record_entries.specs.declared.What.{What}
-use Rattle.record_entries.specs.declared.What.TheVariants.{Rename, Widen}
 use Rattle.update_gone.specs.Gone.{base_slots, Rises}
 use Rattle.update_gone.proofs.Leaving.{base_climbs, up_falls}
-use Rattle.update_edits.specs.Roles.{role_under, role_at, Stood, repeats, dots, stepless}
+use Rattle.update_edits.specs.Roles.{role_under, role_at, Stood}
 
 -- ---- the code: `search roles`
 
@@ -62,25 +58,6 @@ module _ (records us : List ℕ) (slot above : ℕ) (e : above ≡ get_or us slo
           go (suc p) h d q = rw (er, ef, d, sub-one (suc p), ne_eqb slot (suc p) q)
 
 pub ruleset roles = (role_root, role_room, role_first, role_next)
-
--- ---- what is asked of an edit, by what it does: `search asking`
-
-module _ (w : What) (a : Bool) where
-  module _ (e : w ≡ Rename) where
-    pub rename_repeats : (mark : ℕ) → a ≡ leb 2 (mark % 256) → a ≡ repeats w mark
-    rename_repeats mark q = rw e q
-
-    pub rename_dots : (x y : List ℕ) → y ≡ x → a ≡ among 46 y → a ≡ dots w x
-    rename_dots x y ey q = rw (e, ← ey) q
-
-  module _ (e : w ≡ Widen) where
-    pub widen_repeats : (mark : ℕ) → a ≡ leb 256 mark → a ≡ repeats w mark
-    widen_repeats mark q = rw e q
-
-    pub widen_steps : (v : ℕ) (k : Kind) (old new new' : ℕ) (b : Bool) → new' ≡ new → b ≡ (is_primitive k && allowed v old new') → a ≡ not b → a ≡ stepless w v k old new
-    widen_steps v k old new new' b en eb q = rw (e, ← en, ← eb) q
-
-pub ruleset asking = (rename_repeats, rename_dots, widen_repeats, widen_steps)
 
 -- ---- the rows
 

@@ -1,3 +1,4 @@
+pub mod Answers
 pub mod Roles
 pub mod Edit
 pub mod Marks

@@ -52,4 +52,3 @@ pub record RemarkedIn (marks : List ℕ) (m : ℕ) (plan plan' : PlanRows) : Typ
   pub sources_set : sources plan' ≡ sets (sources plan) 0 (from (λ i. remarked marks (get_or (sources plan) i 0)) 0 m)
   pub numbers_same : numbers plan' ≡ numbers plan
   pub members_same : members plan' ≡ members plan
-  pub rows : length plan' ≡ 3
