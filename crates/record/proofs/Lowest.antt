@@ -1,4 +1,4 @@
--- A loop that looks for the lowest place at which a test fails, i counting up to n: `search looking`. W is the whole answer.
+-- A loop that looks for the lowest place at which a test fails, i counting up to n. W is the whole answer.
 use Rattle.std.proofs.Common.{◌≡◌, ℕ, zero, suc, ◌+◌, ◌-◌, ◌<◌, ◌≤◌, Bool, true, false, not, sym, refl, ap, ◌∙◌, add-zero, suc-add, zero-add, add-one, arith}
 use mathlib.Core.Option.{Option, none, some}
 use borrow.Author.Tests.{not-true, not-false}
@@ -17,6 +17,10 @@ module _ (t : ℕ → Bool) where
 
   pub look_starts : (n : ℕ) → lowest t 0 n ≡ lowest t 0 (n - 0)
   look_starts n = let e : n - 0 ≡ n = omega arith in rw e
+
+  pub none_yet : lowest t 0 0 ≡ none
+  unfolding lowest
+  none_yet = refl
 
   -- the lowest of two parts, one behind the other
   lowest_both : (k a b : ℕ) → lowest t k (a + b) ≡ or_else (lowest t k a) (lowest t (k + a) b)
@@ -51,5 +55,3 @@ module _ (t : ℕ → Bool) where
   pub look_ends : (number li : ℕ) (W : Option ℕ) (i n : ℕ) → W ≡ lowest t i (n - i) → n ≤ i → (Ok tt) ≡ tested number li W
   unfolding lowest tested
   look_ends number li W i n e l = let d : n - i ≡ 0 = omega arith in rw (e, d)
-
-pub ruleset looking = (look_starts, look_from, look_goes, look_stops, look_ends)

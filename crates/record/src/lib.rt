@@ -1,7 +1,7 @@
 // Numbers and their bytes. Records of 24 bytes: reading them, and refusals 3 and 4 over a list of them.
 #![tactic(auto)]
 
-ghost use Rattle.std.specs.Prelude.{◌≡◌, ◌+◌, ◌*◌, ◌%◌, ◌<◌, ◌≤◌, true, [], length};
+ghost use Rattle.std.specs.Prelude.{ℕ, Bool, ◌≡◌, ◌+◌, ◌*◌, ◌%◌, ◌<◌, ◌≤◌, true, [], length};
 ghost use Rattle.std.proofs.Math.Option.{none};
 ghost use Rattle.paper.specs.Answer.{among, lowest, same};
 ghost use Rattle.paper.specs.Bytes.{word16, word32, turned, ok_bytes, in_pool, name_of, rec_at, kind_at, kind_from, kids_at};
@@ -13,11 +13,11 @@ ghost use Rattle.record.specs.Trees.{trees_in, alone};
 use paper::Kind;
 
 // The bit pattern of an id; its signed reading is what people see.
-#[derive(Clone, Copy)]
+#[derive(Clone, Copy, PartialEq, Eq, PartialOrd, Ord)]
 pub struct FieldId(pub u32);
 
 // A place in today's list of records.
-#[derive(Clone, Copy)]
+#[derive(Clone, Copy, PartialEq, Eq, PartialOrd, Ord)]
 pub struct Slot(pub usize);
 
 // What is lent as trees: the base's records and their pool, the added records and the request's pool, and the edits, whose new names
@@ -63,7 +63,7 @@ pub struct Siblings {
 }
 
 // Why a request is turned down: 01's number, the list and the place in it.
-#[derive(Clone, Copy)]
+#[derive(Clone, Copy, PartialEq, Eq)]
 pub struct Refusal {
     pub number: u32,
     pub list: u32,
@@ -78,7 +78,7 @@ pub struct Sifted {
 }
 
 // How much an accepted answer holds: records, name bytes; and for an update the last id consumed and the records visited.
-#[derive(Clone, Copy)]
+#[derive(Clone, Copy, PartialEq, Eq)]
 pub struct Sizes {
     pub records: u32,
     pub names: u32,
@@ -118,7 +118,7 @@ pub fn long(x: u32) -> u64
 pub fn low_32(x: u64) -> u32
     ensures { result ≡ x % 4294967296 }
 {
-    (x % 4294967296) as u32
+    (x & 0xffff_ffff) as u32
 }
 
 // The bits of an id from the id plus 2^31, and the other way round.
@@ -153,10 +153,7 @@ pub fn word_bytes(x: u32) -> [u8; 4]
 pub fn slot_before(at: usize) -> Option<Slot>
     ensures { result ≡ slot_before at }
 {
-    if at == 0 {
-        return None;
-    }
-    Some(Slot(at - 1))
+    at.checked_sub(1).map(Slot)
 }
 
 // The little-endian word of 16 bits at a place.
@@ -164,7 +161,7 @@ pub fn le16(s: &[u8], at: usize) -> u32
     requires { at + 2 ≤ length s.now }
     ensures { (result ≡ word16 s.now at) × (result < 65536) }
 {
-    wide(s[at]) + wide(s[at + 1]) * 256
+    u16::from_le_bytes([s[at], s[at + 1]]) as u32
 }
 
 // The little-endian word of 32 bits at a place.
@@ -172,7 +169,7 @@ pub fn le32(s: &[u8], at: usize) -> u32
     requires { at + 4 ≤ length s.now }
     ensures { result ≡ word32 s.now at }
 {
-    wide(s[at]) + wide(s[at + 1]) * 256 + wide(s[at + 2]) * 65536 + wide(s[at + 3]) * 16777216
+    u32::from_le_bytes([s[at], s[at + 1], s[at + 2], s[at + 3]])
 }
 
 // The bits of a record's id.
@@ -276,22 +273,38 @@ pub fn bytes_ok(recs: &[u8], slot: usize) -> bool
         & (code == 0)
 }
 
-// The lowest of n records that breaks a byte rule, where none before `from` does: refusal 3.
-pub fn check_bytes(recs: &[u8], from: usize, n: usize, list: u32) -> Result<(), Refusal>
-    requires { (n * 24 ≤ length recs.now) × (n ≤ 1024) × (from ≤ n)
-        × (lowest (ok_bytes recs.now) 0 from ≡ none) }
-    ensures { result ≡ tested 3 list (lowest (ok_bytes recs.now) 0 n) }
+// The lowest place below n at which a test fails, where none before `from` does: refusal `number` of a list.
+pub fn check_each<F: Fn(usize) -> bool>(
+    from: usize,
+    n: usize,
+    number: u32,
+    list: u32,
+    holds: F,
+) -> Result<(), Refusal>
+    requires few { (from ≤ n) × (n ≤ 1024) }
+    requires callable { (i : ℕ) → i < n → F.pre holds i }
+    ensures { (test : ℕ → Bool) → ((i : ℕ) (b : Bool) → i < n → F.post holds i b → b ≡ test i)
+        → lowest test 0 from ≡ none → result ≡ tested number list (lowest test 0 n) }
 {
     for i in from..n {
-        if !bytes_ok(recs, i) {
+        if !holds(i) {
             return Err(Refusal {
-                number: 3,
+                number,
                 list,
                 place: i as u32,
             });
         }
     }
     Ok(())
+}
+
+// The lowest of n records that breaks a byte rule, where none before `from` does: refusal 3.
+pub fn check_bytes(recs: &[u8], from: usize, n: usize, list: u32) -> Result<(), Refusal>
+    requires { (n * 24 ≤ length recs.now) × (n ≤ 1024) × (from ≤ n)
+        × (lowest (ok_bytes recs.now) 0 from ≡ none) }
+    ensures { result ≡ tested 3 list (lowest (ok_bytes recs.now) 0 n) }
+{
+    check_each(from, n, 3, list, |i| bytes_ok(recs, i))
 }
 
 // Whether a record's name lies in a pool of a length. The sum is of 64 bits, so it can't wrap.
@@ -316,16 +329,7 @@ pub fn check_bounds(
         × (lowest (in_pool pool recs.now) 0 from ≡ none) }
     ensures { result ≡ tested 4 list (lowest (in_pool pool recs.now) 0 n) }
 {
-    for i in from..n {
-        if !name_ok(recs, pool, i) {
-            return Err(Refusal {
-                number: 4,
-                list,
-                place: i as u32,
-            });
-        }
-    }
-    Ok(())
+    check_each(from, n, 4, list, |i| name_ok(recs, pool, i))
 }
 
 // Whether a record keeps its byte rules and has its name in a pool of a length.

@@ -9,7 +9,7 @@ ghost use Rattle.paper.specs.Lists.{edit_at, ok_edit, edit_in, edit_path, new_na
 ghost use Rattle.record.specs.Says.{tested, checked};
 ghost use Rattle.record_entries.specs.Rule.{number_of, width_of, rule_of, inside_of, what_of};
 
-use record::{Refusal, le16, le32, length_of};
+use record::{Refusal, check_each, le16, le32, length_of};
 
 // The lists whose entries have paths. They differ in their number, the width of an entry, and what 3 and 4 ask of it.
 #[derive(Clone, Copy)]
@@ -252,16 +252,7 @@ fn check_rules(entries: &[u8], n: usize, number: u32, list: PathList) -> Result<
     requires { (n * width_of list ≤ length entries.now) × (n ≤ 64) }
     ensures { result ≡ tested 3 number (lowest (rule_of list entries.now) 0 n) }
 {
-    for i in 0..n {
-        if !entry_ok(entries, i, list) {
-            return Err(Refusal {
-                number: 3,
-                list: number,
-                place: i as u32,
-            });
-        }
-    }
-    Ok(())
+    check_each(0, n, 3, number, |k| entry_ok(entries, k, list))
 }
 
 // The lowest of n entries that points past the end of the request pool: refusal 4.
@@ -276,16 +267,7 @@ fn check_paths(
     ensures { result ≡ tested 4 number
         (lowest (inside_of list pool entries.now) 0 n) }
 {
-    for k in 0..n {
-        if !is_inside(entries, pool, k, list) {
-            return Err(Refusal {
-                number: 4,
-                list: number,
-                place: k as u32,
-            });
-        }
-    }
-    Ok(())
+    check_each(0, n, 4, number, |k| is_inside(entries, pool, k, list))
 }
 
 // Refusal 3 over a whole list of entries, then refusal 4. Refusal 2 was tested before, hence the length.

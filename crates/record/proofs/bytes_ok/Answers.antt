@@ -4,7 +4,7 @@ use Rattle.std.proofs.Common.{refl, arith}
 use Rattle.record.proofs.bytes_ok.Goals as goal
 
 pub returns-then-kind-eq0 : goal.returns-then-kind-eq0
-returns-then-kind-eq0 c = rule_primitive _ _ _ _ _ refl c.le32-head.ensures c.le32-kids.ensures (λ i. omega (arith, c.shared_slice_known-1.given i)) _ _ c.if-kind-eq0.true c.long.ensures.0 c.long-then-kind-eq0.ensures.0
+returns-then-kind-eq0 c = rule_primitive _ _ _ _ _ refl c.le32-head.ensures c.le32-kids.ensures (λ i. (c.type_inv.recs i).fits) _ _ c.if-kind-eq0.true c.long.ensures.0 c.long-then-kind-eq0.ensures.0
 
 pub returns : goal.returns
-returns c = rule_nested _ _ _ _ _ refl c.le32-head.ensures c.le32-kids.ensures (λ i. omega (arith, c.shared_slice_known-1.given i)) _ _ c.if-kind-eq0.false c.le32-code.ensures c.wide.ensures.0
+returns c = rule_nested _ _ _ _ _ refl c.le32-head.ensures c.le32-kids.ensures (λ i. (c.type_inv.recs i).fits) _ _ c.if-kind-eq0.false c.le32-code.ensures c.wide.ensures.0

@@ -1,10 +1,8 @@
--- A place is one more than a slot, or 0.
+-- A place above 0 has a slot before it.
+use Rattle.std.proofs.Common.{arith}
+use Rattle.std.proofs.lemmas.Grind.{common_steps}
 use Rattle.record.proofs.Slots.{slotting}
-use Rattle.std.proofs.Common.{rules}
 use Rattle.record.proofs.slot_before.Goals as goal
 
-pub returns-then-at-eq0 : goal.returns-then-at-eq0
-returns-then-at-eq0 c = search (slotting, rules)
-
 pub returns : goal.returns
-returns c = search (slotting, rules)
+returns c = grind (arith, common_steps, slotting)

@@ -1,13 +1,8 @@
--- What is left of the list gives the whole answer.
-use Rattle.record.proofs.Lowest.{looking}
-use borrow.Author.Rules.{rules}
+-- The test is the rule of the list.
+use Rattle.std.proofs.Common.{rules}
+use Rattle.record.proofs.Lowest.{none_yet}
+use Rattle.record_entries.specs.Rule.{inside_of}
 use Rattle.record_entries.proofs.check_paths.Goals as goal
 
-pub returns-then-not-is_inside : goal.returns-then-not-is_inside
-returns-then-not-is_inside c = search (looking, rules)
-
-pub loop-k-preserved : goal.loop-k-preserved
-loop-k-preserved c = search (looking, rules)
-
 pub returns : goal.returns
-returns c = search (looking, rules)
+returns c = c.check_each.ensures (inside_of c.args.list c.args.pool c.args.entries.now) (λ i b l p. search rules) (none_yet _)

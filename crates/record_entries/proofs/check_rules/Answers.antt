@@ -1,13 +1,8 @@
--- What is left of the list gives the whole answer.
-use Rattle.record.proofs.Lowest.{looking}
-use borrow.Author.Rules.{rules}
+-- The test is the rule of the list.
+use Rattle.std.proofs.Common.{rules}
+use Rattle.record.proofs.Lowest.{none_yet}
+use Rattle.record_entries.specs.Rule.{rule_of}
 use Rattle.record_entries.proofs.check_rules.Goals as goal
 
-pub returns-then-not-entry_ok : goal.returns-then-not-entry_ok
-returns-then-not-entry_ok c = search (looking, rules)
-
-pub loop-i-preserved : goal.loop-i-preserved
-loop-i-preserved c = search (looking, rules)
-
 pub returns : goal.returns
-returns c = search (looking, rules)
+returns c = c.check_each.ensures (rule_of c.args.list c.args.entries.now) (λ i b l p. search rules) (none_yet _)
