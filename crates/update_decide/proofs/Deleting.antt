@@ -27,9 +27,9 @@ pub record Seeking (s : List ℕ) (n x i : ℕ) : Type 0 where
   pub within : i ≤ n
   pub same : among x (id_list s) ≡ among x (from (id_at s) i (n - i))
 
-pub seek_starts : (s : List ℕ) (n x : ℕ) → n ≡ length s / 4 → Seeking s n x 0
+pub seek_starts : (s : List ℕ) (x : ℕ) → Seeking s (length s / 4) x 0
 unfolding id_list
-seek_starts s n x e = record { within = omega arith; same = rw e (ap (λ (l : List ℕ). among x l) (sym (from_all (id_at s) (length s / 4)))) }
+seek_starts s x = record { within = omega arith; same = ap (λ (l : List ℕ). among x l) (sym (from_all (id_at s) (length s / 4))) }
 
 module _ (s : List ℕ) (n b i : ℕ) (H : Seeking s n (turned b) i) where
   pub seek_ends : n ≤ i → false ≡ among (turned b) (id_list s)
@@ -56,7 +56,9 @@ known r h = h
 
 found_is : (x : FieldId) (k : Slot) (r : Row) → Some (x, k) ≡ found_row (some r) → x.0 ≡ turned r.field.id
 unfolding found_row
-found_is x k r e = let z : x ≡ record { 0 = turned r.field.id } = cc in rw z
+found_is x k r e =
+    let p : (x, k) ≡ (record { 0 = turned r.field.id }, record { 0 = r.slot }) = cc in
+    ap (λ (q : FieldId × Slot). q.0.0) p
 
 pub at_none : (x : FieldId) (k : Slot) → Some (x, k) ≡ found_row none → ⊥
 unfolding found_row

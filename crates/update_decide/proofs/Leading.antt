@@ -1,12 +1,12 @@
 -- Under a parent: the row that the path finds is the record at its slot, so its receiver is the struct that the step leads to.
 use Prim.Native.Nat.{ℕ, ◌+◌}
-use mathlib.Core.Path.{◌≡◌, refl, sym, ◌∙◌}
+use mathlib.Core.Path.{◌≡◌, refl, sym, ap, ◌∙◌}
 use mathlib.Core.Bool.{true}
 use mathlib.Core.List.{List}
 use mathlib.Core.Option.{Option, none, some}
 use Rattle.paper.specs.Answer.{◌>>=◌}
 use Rattle.paper.specs.Rows.{Row}
-use Rattle.paper.specs.Bytes.{kids_at, field_at, ok_bytes}
+use Rattle.paper.specs.Bytes.{turned, kids_at, field_at, ok_bytes}
 use Rattle.paper.specs.Decode.{fields}
 use Rattle.paper.specs.Update.{receiver}
 use Rattle.tree.specs.Read.{part}
@@ -17,8 +17,7 @@ use Rattle.std.specs.Prelude.{Err, Some, None}
 use Rattle.record.specs.Says.{found_row, refusal_of}
 use Rattle.update_gone.specs.Gone.{base_slots}
 use Rattle.update_gone.proofs.Fields.{gone_fields}
-use Rattle.update_parents.specs.declared.Target.{Target}
-use Rattle.update_parents.specs.declared.Target.TheVariants as target
+use Rattle.update_parents.specs.Answers.{Target}
 use Rattle.tree.specs.Read.{Standing}
 use Rattle.update_parents.specs.Target.{receiving, targeted, receiver_at, Stands}
 use Rattle.update_parents.proofs.Receiving.{receiver_is, receiving_stands}
@@ -36,15 +35,17 @@ parent_nothing f pool s n ds k x e = record { says = λ o. go o }
 
 pub slot_is : (x : FieldId) (p : Slot) (r : Row) → Some (x, p) ≡ found_row (some r) → r.slot ≡ p.0
 unfolding found_row
-slot_is x p r e = let z : p ≡ record { 0 = r.slot } = cc in rw z
+slot_is x p r e =
+    let z : (x, p) ≡ (record { 0 = turned r.field.id }, record { 0 = r.slot }) = cc in
+    ap (λ (q : FieldId × Slot). q.1.0) (sym z)
 
 -- the targets tell
-to_none : (o : Option ℕ) (t : Target) → t ≡ targeted o → t ≡ target.Nothing → o ≡ none
+to_none : (o : Option ℕ) (t : Target) → t ≡ targeted o → t ≡ None → o ≡ none
 unfolding targeted
 to_none none t e f = refl
 to_none (some j) t e f = cc
 
-to_some : (o : Option ℕ) (t : Target) (j : Slot) → t ≡ targeted o → t ≡ target.Struct j → o ≡ some j.0
+to_some : (o : Option ℕ) (t : Target) (j : Slot) → t ≡ targeted o → t ≡ Some j → o ≡ some j.0
 unfolding targeted
 to_some none t j e f = cc
 to_some (some i) t j e f = let z : j ≡ record { 0 = i } = cc in rw z
@@ -52,7 +53,7 @@ to_some (some i) t j e f = let z : j ≡ record { 0 = i } = cc in rw z
 pub parent_stands : (f : Found) (pool s : List ℕ) (n : ℕ) (i : FieldId) (p : Slot) → f ≡ Some (i, p) → FoundSited pool s n f → Standing 0 s n 15 p.0 × (ok_bytes s p.0 ≡ true)
 parent_stands f pool s n i p e h = let z = h.at i p e in (z.0.stands, z.1)
 
-pub target_sited : (f : Found) (pool s : List ℕ) (n : ℕ) (i : FieldId) (p : Slot) (t : Target) (j : Slot) → f ≡ Some (i, p) → FoundSited pool s n f → t ≡ targeted (receiving s n p.0) → t ≡ target.Struct j → Sited pool s n j.0
+pub target_sited : (f : Found) (pool s : List ℕ) (n : ℕ) (i : FieldId) (p : Slot) (t : Target) (j : Slot) → f ≡ Some (i, p) → FoundSited pool s n f → t ≡ targeted (receiving s n p.0) → t ≡ Some j → Sited pool s n j.0
 target_sited f pool s n i p t j e h et q =
     let z = h.at i p e in
     record { stands = receiving_stands s n p.0 z.0.stands j.0 z.1 (to_some (receiving s n p.0) t j et q); named = z.0.named }
@@ -69,7 +70,7 @@ module _ (f : Found) (pool s : List ℕ) (n : ℕ) (ds : List ℕ) (k : ℕ) (x 
         let en : r.inside ≡ fields pool s (part 0 (kids_at s) n 15 (kids_at s p.0) (p.0 + 1)).trees = rw ek at st.inside in
         rw (ef, en) (receiver_is pool s n p.0 z.0.stands z.1)
 
-    pub parent_shut : t ≡ target.Nothing → UnderParent f pool s n ds k x (Err (refusal_of 16 3 k))
+    pub parent_shut : t ≡ None → UnderParent f pool s n ds k x (Err (refusal_of 16 3 k))
     unfolding parent_place ◌>>=◌ goes
     parent_shut q = record { says = λ o. go o }
       where
@@ -77,7 +78,7 @@ module _ (f : Found) (pool s : List ℕ) (n : ℕ) (ds : List ℕ) (k : ℕ) (x 
         go none st a = absurd (at_none i p (sym e ∙ a))
         go (some r) st a = rw (received r (st r refl) a, to_none (receiving s n p.0) t et q)
 
-    pub parent_joins : (j : Slot) (g : Going) → t ≡ target.Struct j → g ≡ goes (under_place pool s n j.0 ds k x) → UnderParent f pool s n ds k x g
+    pub parent_joins : (j : Slot) (g : Going) → t ≡ Some j → g ≡ goes (under_place pool s n j.0 ds k x) → UnderParent f pool s n ds k x g
     unfolding parent_place under_place taken_at ◌>>=◌ goes
     parent_joins j g q eg = record { says = λ o. go o }
       where

@@ -2,7 +2,7 @@
 #![tactic(auto)]
 
 ghost use Rattle.std.specs.Prelude.{◌≡◌, true, ◌+◌, ◌*◌, ◌≤◌, ◌<◌, length};
-ghost use Rattle.update_dropped.specs.Set.{dropped_ids, set_of, Good};
+ghost use Rattle.update_dropped.specs.Set.{dropped_ids};
 ghost use Rattle.index_ids.specs.Table.{ups_in};
 ghost use Rattle.update_gone.specs.Gone.{Rises};
 ghost use Rattle.paper.specs.Answer.{among};
@@ -12,52 +12,31 @@ ghost use Rattle.record.specs.Says.{checked};
 ghost use Rattle.update_decide.specs.Entry.{Deleted, unbarred, goes, AtRoot, taken_at, under_place, Sited, FoundSited, UnderParent, freshly};
 
 use index_ids::IndexRows;
-use record::{FieldId, Refusal, flags_at, has_dot, id_bits_at, name_at, turn_back, under_of};
+use record::{FieldId, Refusal, Slot, flags_at, has_dot, id_bits_at, name_at, turn_back, under_of};
 use record_entries::id_at;
-use update_dropped::holds;
+use update_dropped::Dropped;
 use update_gone::is_gone;
 use update_parents::{name_taken, resolve_parent_target};
-
-// The id that a deletion drops, or refusal 11 or 12.
-#[derive(Clone, Copy)]
-pub enum Dropping {
-    Id(FieldId),
-    Refused(Refusal),
-}
-
-// Where an addition goes: 0 is the root list, 1 + x the struct whose id has the bits x; or refusal 15, 16, 22 or 17.
-#[derive(Clone, Copy)]
-pub enum Going {
-    Under(u64),
-    Refused(Refusal),
-}
-
-// The bits of an addition's first id, and the last id that it consumes, shifted by 2^31; or refusal 18.
-#[derive(Clone, Copy)]
-pub enum Fresh {
-    Ids(u32, u64),
-    Refused(Refusal),
-}
 
 // Whether an id is among the identifiers.
 pub fn is_identifier(identifiers: &[u8], id: FieldId) -> bool
     requires { length identifiers.now ≤ 256 }
     ensures { result ≡ among (turned id.0) (id_list identifiers.now) }
 {
-    let n = identifiers.len() / 4;
-    let x = id.0;
-    let mut i = 0;
-    while i < n {
-        if x == id_at(identifiers, i) {
+    for i in 0..identifiers.len() / 4 {
+        if id.0 == id_at(identifiers, i) {
             return true;
         }
-        i += 1;
     }
     false
 }
 
-// One deletion. A found column that is no identifier is dropped.
-pub fn drop_one(found: Option<(FieldId, Slot)>, identifiers: &[u8], place: u32) -> Result<FieldId, Refusal>
+// One deletion: the id that it drops, of a found column (else refusal 11) that is no identifier (else 12).
+pub fn drop_one(
+    found: Option<(FieldId, Slot)>,
+    identifiers: &[u8],
+    place: u32,
+) -> Result<FieldId, Refusal>
     requires { length identifiers.now ≤ 256 }
     ensures { Deleted found (id_list identifiers.now) place result }
 {
@@ -105,15 +84,18 @@ pub fn check_added(recs: &[u8], pool: &[u8], slot: usize, place: u32) -> Result<
     Ok(())
 }
 
-// A root addition: its name is taken if look-up found it undeleted.
-pub fn place_at_root(found: Option<(FieldId, Slot)>, place: u32, dropped: &[u32; 64], drops: usize) -> Result<u64, Refusal>
-    requires { Good (set_of dropped.now drops) }
-    ensures { AtRoot found (dropped_ids (set_of dropped.now drops)) place result }
+// A root addition goes to 0, the root list, unless look-up found its name undeleted: refusal 17.
+pub fn place_at_root(
+    found: Option<(FieldId, Slot)>,
+    place: u32,
+    dropped: &Dropped,
+) -> Result<u64, Refusal>
+    ensures { AtRoot found (dropped_ids dropped.now) place result }
 {
     let Some((id, _)) = found else {
         return Ok(0);
     };
-    if holds(dropped, drops, id) {
+    if dropped.holds(id) {
         return Ok(0);
     }
     // refusal 17
@@ -125,26 +107,16 @@ pub fn place_at_root(found: Option<(FieldId, Slot)>, place: u32, dropped: &[u32;
 }
 
 // Whether the name is taken in the struct at a slot: a member that stays has it. In a dropped struct every name is free.
-fn is_taken(
-    recs: &[u8],
-    pool: &[u8],
-    n: usize,
-    slot: usize,
-    name: &[u8],
-    dropped: &[u32; 64],
-    drops: usize,
-) -> bool
-    requires { Sited pool.now recs.now n slot × Good (set_of dropped.now drops) }
-    ensures { result ≡ taken_at pool.now recs.now n slot
-        (dropped_ids (set_of dropped.now drops)) name.now }
+#[tactic(auto, unfolding(crate::specs::Entry::taken_at))]
+fn is_taken(recs: &[u8], pool: &[u8], n: usize, slot: usize, name: &[u8], dropped: &Dropped) -> bool
+    requires { Sited pool.now recs.now n slot }
+    ensures { result ≡ taken_at pool.now recs.now n slot (dropped_ids dropped.now) name.now }
 {
-    if holds(dropped, drops, FieldId(id_bits_at(recs, slot))) {
-        return false;
-    }
-    name_taken(recs, pool, n, slot, name, dropped, drops)
+    !dropped.holds(FieldId(id_bits_at(recs, slot)))
+        && name_taken(recs, pool, n, slot, name, dropped)
 }
 
-// The struct at a slot takes an addition unless it goes, or the name is taken in it.
+// The struct at a slot takes an addition unless it goes (refusal 22), or the name is taken in it (17).
 fn join(
     recs: &[u8],
     pool: &[u8],
@@ -153,15 +125,13 @@ fn join(
     slot: usize,
     name: &[u8],
     place: u32,
-    dropped: &[u32; 64],
-    drops: usize,
+    dropped: &Dropped,
 ) -> Result<u64, Refusal>
-    requires { Sited pool.now recs.now n slot × Rises recs.now n (ups_in index.now)
-        × Good (set_of dropped.now drops) }
+    requires { Sited pool.now recs.now n slot × Rises recs.now n (ups_in index.now) }
     ensures { result ≡ goes (under_place pool.now recs.now n slot
-        (dropped_ids (set_of dropped.now drops)) place name.now) }
+        (dropped_ids dropped.now) place name.now) }
 {
-    if is_gone(recs, n, index, slot, dropped, drops) {
+    if is_gone(recs, n, index, slot, dropped) {
         // refusal 22
         return Err(Refusal {
             number: 22,
@@ -169,7 +139,7 @@ fn join(
             place,
         });
     }
-    if is_taken(recs, pool, n, slot, name, dropped, drops) {
+    if is_taken(recs, pool, n, slot, name, dropped) {
         // refusal 17
         return Err(Refusal {
             number: 17,
@@ -180,7 +150,8 @@ fn join(
     Ok(under_of(id_bits_at(recs, slot)))
 }
 
-// An addition under a parent: the struct that its path leads to by one step receives it.
+// An addition under a parent goes to 1 + x, where the struct that its path leads to by one step has the bits x: refusals 15 (no
+// parent), 16 (no struct), 22 and 17.
 pub fn place_under(
     found: Option<(FieldId, Slot)>,
     recs: &[u8],
@@ -189,13 +160,11 @@ pub fn place_under(
     index: &IndexRows,
     name: &[u8],
     place: u32,
-    dropped: &[u32; 64],
-    drops: usize,
+    dropped: &Dropped,
 ) -> Result<u64, Refusal>
-    requires { FoundSited pool.now recs.now n found × Rises recs.now n (ups_in index.now)
-        × Good (set_of dropped.now drops) }
+    requires { FoundSited pool.now recs.now n found × Rises recs.now n (ups_in index.now) }
     ensures { UnderParent found pool.now recs.now n
-        (dropped_ids (set_of dropped.now drops)) place name.now result }
+        (dropped_ids dropped.now) place name.now result }
 {
     let Some((_, parent)) = found else {
         // refusal 15
@@ -205,8 +174,7 @@ pub fn place_under(
             place,
         });
     };
-    let target = resolve_parent_target(recs, n, parent.0);
-    let Some(slot) = target else {
+    let Some(slot) = resolve_parent_target(recs, n, parent.0) else {
         // refusal 16
         return Err(Refusal {
             number: 16,
@@ -214,10 +182,11 @@ pub fn place_under(
             place,
         });
     };
-    join(recs, pool, n, index, slot.0, name, place, dropped, drops)
+    join(recs, pool, n, index, slot.0, name, place, dropped)
 }
 
-// The ids of an addition, in preorder after the last one that was consumed.
+// The ids of an addition, in preorder after the last one that was consumed, shifted by 2^31: the bits of the first, and the last; or
+// refusal 18.
 pub fn assign_fresh_ids(last: u64, records: usize, place: u32) -> Result<(u32, u64), Refusal>
     requires { (last < 4294967296) × (records ≤ 1024) }
     ensures { result ≡ freshly last records place }

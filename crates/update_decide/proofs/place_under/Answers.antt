@@ -5,14 +5,14 @@ use Rattle.update_decide.proofs.place_under.Goals as goal
 pub returns-in_default : goal.returns-in_default
 returns-in_default c = parent_nothing _ _ _ _ _ _ _ c.in_default.is
 
-pub resolve_parent_target-target-requires : goal.resolve_parent_target-target-requires
-resolve_parent_target-target-requires c = parent_stands _ _ _ _ _ _ c.in-At.is c.requires.0
+pub resolve_parent_target-requires : goal.resolve_parent_target-requires
+resolve_parent_target-requires c = parent_stands _ _ _ _ _ _ c.in-Some.is c.requires.0
 
-pub returns-in_default-target : goal.returns-in_default-target
-returns-in_default-target c = parent_shut _ _ _ _ _ _ _ _ _ c.in-At.is c.requires.0 _ c.resolve_parent_target-target.ensures c.in_default-target.is
+pub returns-in_default-resolve_parent_target : goal.returns-in_default-resolve_parent_target
+returns-in_default-resolve_parent_target c = parent_shut _ _ _ _ _ _ _ _ _ c.in-Some.is c.requires.0 _ c.resolve_parent_target.ensures c.in_default-resolve_parent_target.is
 
 pub join-requires : goal.join-requires
-join-requires c = (target_sited _ _ _ _ _ _ _ _ c.in-At.is c.requires.0 c.resolve_parent_target-target.ensures c.in-Struct.is, c.requires.1, c.requires.2)
+join-requires c = (target_sited _ _ _ _ _ _ _ _ c.in-Some.is c.requires.0 c.resolve_parent_target.ensures c.in-Some-resolve_parent_target.is, c.requires.1)
 
 pub returns : goal.returns
-returns c = parent_joins _ _ _ _ _ _ _ _ _ c.in-At.is c.requires.0 _ c.resolve_parent_target-target.ensures _ _ c.in-Struct.is c.join.ensures
+returns c = parent_joins _ _ _ _ _ _ _ _ _ c.in-Some.is c.requires.0 _ c.resolve_parent_target.ensures _ _ c.in-Some-resolve_parent_target.is c.join.ensures
