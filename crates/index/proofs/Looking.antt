@@ -24,7 +24,7 @@ use Rattle.record.specs.Trees.{Trees}
 use Rattle.plan.specs.Plan.{kids_in, planned_field, plan_fields, Plan}
 use Rattle.plan.specs.Table.{numbers}
 use Rattle.plan.proofs.Standing.{field_in, field_id, plan_is}
-use Rattle.index_ids.specs.Chain.{Below, lowest_below}
+use Rattle.index_ids.specs.Chain.{Below, held, lowest_below}
 use Rattle.index_ids.specs.Ids.{is_id}
 use Rattle.index_ids.specs.Table.{ups_in}
 use Rattle.index_ids.proofs.Chains.{found_within, found_below_room}
@@ -46,7 +46,7 @@ use Rattle.index_short_names.specs.Seek.{seek_in, outcome, sighting}
 use Rattle.index_short_names.proofs.Seeking.{past_is, found_is}
 use Rattle.index_short_names.proofs.Entered as short
 use Rattle.index_short_names.proofs.Entered.{short_rel, dotless, found_in}
-use Rattle.index.specs.Index.{Falling, at_slot, found_slot, held, ById, ByParent, short_slot}
+use Rattle.index.specs.Index.{Falling, at_slot, found_slot, ById, ByParent, short_slot}
 use Rattle.plan.specs.declared.PlanRows.{PlanRows}
 
 -- ---- places: `search placing`

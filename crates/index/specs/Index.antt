@@ -9,7 +9,7 @@ use Rattle.paper.specs.Limits.{sized}
 use Rattle.paper.specs.Lists.{id_list}
 use Rattle.paper.specs.Rows.{look_id, look_parent}
 use Rattle.paper.specs.Sound.{sound}
-use Rattle.record.specs.Answers.{Check, FoundSlot, Found}
+use Rattle.record.specs.Answers.{Check, Found}
 use Rattle.std.specs.Prelude.{Ok, Some, None}
 use Rattle.record.specs.Says.{tested, checked, found_row}
 use Rattle.record.specs.Trees.{Trees}
@@ -84,7 +84,7 @@ pub record Readable (l : Trees) (n : ℕ) : Type 0 where
   pub decodes : fine (decode 0 l.records l.pool) ≡ true
 
 -- The base as a plan of itself: the refusal of 7 to 9, or the plan with its index. The tree is the plan's in any case.
-pub record BaseIndexed (l : Trees) (n : ℕ) (identifiers : List ℕ) (r : Check) (old new : List (List ℕ)) (index : List (List ℕ)) : Type 0 where
+pub record BaseIndexed (l : Trees) (n : ℕ) (identifiers : List ℕ) (r : Check) (old new : PlanRows) (index : List (List ℕ)) : Type 0 where
   pub taken : TakenIn l.records n old new
   pub planned : PlanIn l new n
   pub tree : decode 0 l.records l.pool ≡ ok (fields_in l new n)

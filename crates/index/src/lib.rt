@@ -8,7 +8,7 @@ ghost use Rattle.paper.specs.Rows.{look_name};
 ghost use Rattle.record.specs.Says.{found_row, looked};
 ghost use Rattle.record.specs.Trees.{trees_in};
 ghost use Rattle.plan.specs.Table.{sources, numbers, members, PlanIn, fields_in, Roomy};
-ghost use Rattle.index_ids.specs.Chain.{Below, Cleared};
+ghost use Rattle.index_ids.specs.Chain.{Below, Cleared, held};
 ghost use Rattle.index_ids.specs.Table.{ups_in, name_heads, Rooms, Fresh};
 ghost use Rattle.index_ids.specs.Path.{IdsChained};
 ghost use Rattle.plan.specs.Named.{SourcesIn};
@@ -19,7 +19,6 @@ ghost use Rattle.index.specs.Index.{
   Indexing,
   at_slot,
   found_slot,
-  held,
   short_slot,
   ById,
   ByParent,
@@ -34,8 +33,8 @@ use index_names::{Prefix, mark_row};
 use index_short_names::{Sighting, seek};
 use paper::Role;
 use plan::{PlanRows, take_base};
-use record::{FieldId, Siblings, Slot, Trees, has_dot};
-use tree::{read_tree};
+use record::{FieldId, Refusal, Siblings, Slot, Trees, has_dot};
+use tree::read_tree;
 
 // Refusal 8, and the index of full names. Ids stand on their paths by then, so of the heads only those of the names are still cleared.
 fn index_names<'a>(
@@ -124,7 +123,12 @@ pub fn look_id(plan: &PlanRows, m: usize, index: &IndexRows, id: FieldId) -> Opt
 }
 
 // The record above the one that has the id.
-pub fn look_parent(plan: &PlanRows, m: usize, index: &IndexRows, id: FieldId) -> Option<(FieldId, Slot)>
+pub fn look_parent(
+    plan: &PlanRows,
+    m: usize,
+    index: &IndexRows,
+    id: FieldId,
+) -> Option<(FieldId, Slot)>
     requires { (m ≤ 1024) × (IdsChained (numbers plan.now) index.now m
         × Falling m (ups_in index.now)) }
     ensures { ByParent plan.now index.now m id.0 result }
@@ -143,7 +147,12 @@ pub fn look_parent(plan: &PlanRows, m: usize, index: &IndexRows, id: FieldId) ->
 }
 
 // The first entered record that has the short name.
-fn look_short<'a>(trees: &Trees<'a>, plan: &PlanRows, m: usize, name: &[u8]) -> Option<(FieldId, Slot)>
+fn look_short<'a>(
+    trees: &Trees<'a>,
+    plan: &PlanRows,
+    m: usize,
+    name: &[u8],
+) -> Option<(FieldId, Slot)>
     requires { SourcesIn (trees_in trees.now) plan.now m }
     ensures { result ≡ found_slot (numbers plan.now)
         (short_slot (trees_in trees.now) (sources plan.now)
@@ -186,7 +195,11 @@ pub fn look_name<'a>(
 
 // 2 to 8, then the look-up by name, in any bytes. The tables are made when 2 to 6 are passed, as in each look-up: to fill them takes
 // longer than to read a small tree.
-pub fn find_name<'a>(records: &'a [u8], pool: &'a [u8], name: &[u8]) -> Result<Option<(FieldId, Slot)>, Refusal>
+pub fn find_name<'a>(
+    records: &'a [u8],
+    pool: &'a [u8],
+    name: &[u8],
+) -> Result<Option<(FieldId, Slot)>, Refusal>
     ensures { result ≡ looked (find_name records.now pool.now
         name.now) }
 {
@@ -200,7 +213,11 @@ pub fn find_name<'a>(records: &'a [u8], pool: &'a [u8], name: &[u8]) -> Result<O
 }
 
 // 2 to 8, then the look-up by id, in any bytes.
-pub fn find_id<'a>(records: &'a [u8], pool: &'a [u8], id: FieldId) -> Result<Option<(FieldId, Slot)>, Refusal>
+pub fn find_id<'a>(
+    records: &'a [u8],
+    pool: &'a [u8],
+    id: FieldId,
+) -> Result<Option<(FieldId, Slot)>, Refusal>
     ensures { result ≡ looked (find_id records.now pool.now id.0) }
 {
     read_tree(records, pool)?;
@@ -213,7 +230,11 @@ pub fn find_id<'a>(records: &'a [u8], pool: &'a [u8], id: FieldId) -> Result<Opt
 }
 
 // 2 to 8, then the look-up of the record above an id, in any bytes.
-pub fn find_parent<'a>(records: &'a [u8], pool: &'a [u8], id: FieldId) -> Result<Option<(FieldId, Slot)>, Refusal>
+pub fn find_parent<'a>(
+    records: &'a [u8],
+    pool: &'a [u8],
+    id: FieldId,
+) -> Result<Option<(FieldId, Slot)>, Refusal>
     ensures { result ≡ looked (find_parent records.now pool.now id.0) }
 {
     read_tree(records, pool)?;

@@ -29,10 +29,10 @@ use Rattle.plan.specs.Table.{fields_in}
 use Rattle.plan.specs.Walk.{walk, trees_of}
 use Rattle.plan.proofs.Standing.{field_in, field_id, plan_is, plan_sources}
 use Rattle.plan.proofs.Walks.{all_there, all_numbered}
-use Rattle.index_ids.specs.Chain.{Below}
+use Rattle.index_ids.specs.Chain.{Below, held}
 use Rattle.index_turns.specs.Turn.{left_at, seen}
 use Rattle.index_turns.proofs.Fitting.{left_in}
-use Rattle.index.specs.Index.{found_slot, held}
+use Rattle.index.specs.Index.{found_slot}
 use Rattle.index.proofs.Opening.{Opened, reading}
 use Rattle.index_folded_names.specs.declared.Met.{Met}
 use Rattle.index_folded_names.specs.declared.Met.TheVariants.{Twice, Past}

@@ -28,10 +28,10 @@ use Rattle.record.specs.Trees.{Trees, alone}
 use Rattle.record.proofs.Testing.{refused_as}
 use Rattle.record_limits.proofs.Within.{whole_most}
 use Rattle.plan.specs.Table.{numbers, PlanIn, fields_in}
-use Rattle.index_ids.specs.Chain.{lowest_below}
+use Rattle.index_ids.specs.Chain.{held, lowest_below}
 use Rattle.index_ids.specs.Ids.{is_id}
 use Rattle.index_ids.proofs.Chains.{found_below_room}
-use Rattle.index.specs.Index.{found_slot, held}
+use Rattle.index.specs.Index.{found_slot}
 use Rattle.index.proofs.Opening.{Opened, reading}
 use Rattle.index.proofs.Looking.{finds_id}
 use Rattle.index_many.specs.Answers.{Searched}
