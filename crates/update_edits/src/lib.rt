@@ -26,9 +26,8 @@ use update_dropped::Dropped;
 use update_gone::is_gone;
 use update_promotions::is_allowed;
 
-// One number for each slot of the base: 0 as it was, 1 relaxed, 2 * (k + 1) more where edit k renames it, and 256 * (k + 1) more
-// where edit k widens it. Two bytes a slot, in a row: fixed memory. The functions behind this are all that
-// make a mark or take one apart.
+// A mark for each slot of the base: 0 as it was, 1 relaxed, 2 * (k + 1) more where edit k renames it, 256 * (k + 1) more where edit k
+// widens it. A number, no struct: 2 KB of a small stack, and `Carries` tells of numbers. The next four functions alone make and read it.
 pub type Marks = [u16; 1024];
 
 // Whether an edit renames a column of this mark.
@@ -84,8 +83,9 @@ fn marked_source(marks: &Marks, source: u32) -> u32
 }
 
 // The first m sources of a plan as their marks have them; all else stays.
+#[tactic(auto, using(crate::proofs::Remarking::remarking))]
 pub fn mark_plan(plan: &mut PlanRows, m: usize, marks: &Marks)
-    requires { (m ≤ 1024) }
+    requires { m ≤ 1024 }
     ensures { RemarkedIn marks.now m plan.old plan.new }
 {
     for i in 0..m {
@@ -94,6 +94,7 @@ pub fn mark_plan(plan: &mut PlanRows, m: usize, marks: &Marks)
 }
 
 // The role of the base record at a slot. The first record inside another stands right behind it.
+#[tactic(auto, using(crate::proofs::Roles::roles))]
 fn role_at(recs: &[u8], n: usize, index: &IndexRows, slot: usize) -> Role
     requires { Rises recs.now n (ups_in index.now) × (slot < n) }
     ensures { result ≡ role_at recs.now (ups_in index.now) slot }
