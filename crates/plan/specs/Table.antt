@@ -1,5 +1,5 @@
 -- A plan as one table: its three rows by their names, and what is said of a plan, said of its table.
-use Rattle.std.specs.Prelude.{ℕ, ◌≡◌, List, map, length, set}
+use Rattle.std.specs.Prelude.{ℕ, ◌≡◌, List, map, length, set, replicate}
 use Rattle.std.proofs.lemmas.List.Edits.{sets}
 use Rattle.paper.specs.Forest.{Forest, preorder, counts}
 use Rattle.paper.specs.Field.{Field}
@@ -25,6 +25,15 @@ pub record Roomy (plan : PlanRows) : Type 0 where
   pub sources_room : length (sources plan) ≡ 1024
   pub numbers_room : length (numbers plan) ≡ 1024
   pub members_room : length (members plan) ≡ 1024
+
+-- Rows of zeros.
+unfoldable pub no_rows : PlanRows
+no_rows =
+    record {
+      sources = replicate 1024 0;
+      numbers = replicate 1024 0;
+      members = replicate 1024 0;
+    }
 
 abbrev pub PlanIn : Trees → (plan : PlanRows) (m : ℕ) → Type 0
 PlanIn l plan m = Plan l (sources plan) (numbers plan) (members plan) m

@@ -10,7 +10,7 @@ ghost use Rattle.plan.specs.Origin.{named, origin_of, edited_len, edited_flags, 
 ghost use Rattle.plan.specs.Sources.{source_kind, source_len, source_flags, source_code};
 ghost use Rattle.plan.specs.Sources.{NameAt, In, Summed};
 ghost use Rattle.plan.specs.Named.{names_in, SourcesIn};
-ghost use Rattle.plan.specs.Table.{sources, InsideIn, Roomy, planned_at, CopiedIn, TakenIn};
+ghost use Rattle.plan.specs.Table.{sources, InsideIn, Roomy, no_rows, planned_at, CopiedIn, TakenIn};
 
 use paper::{Kind, is_required};
 use record::{Trees, code_at, flags_at, id_bits_at, kids_at, kind_at, name_at, name_len_at};
@@ -44,7 +44,8 @@ pub struct PlanRows {
 impl PlanRows {
     // Rows of zeros.
     pub fn empty() -> PlanRows
-        ensures { Roomy result }
+        ensures zeros { result ≡ no_rows }
+        ensures room { Roomy result }
     {
         PlanRows {
             sources: [0; 1024],

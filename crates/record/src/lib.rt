@@ -100,13 +100,6 @@ pub fn length_of(x: u8) -> usize
     x as usize
 }
 
-// A number of 32 bits as a place or a length.
-fn size(x: u32) -> usize
-    ensures { result ≡ x }
-{
-    x as usize
-}
-
 // A number of 32 bits as one of 64.
 pub fn long(x: u32) -> u64
     ensures { (result ≡ x) × (result < 4294967296) }
@@ -185,7 +178,7 @@ pub fn name_from(recs: &[u8], slot: usize) -> usize
     requires { slot * 24 + 24 ≤ length recs.now }
     ensures { (result ≡ (rec_at recs.now slot).name_at) × (result < 4294967296) }
 {
-    size(le32(recs, slot * 24 + 4))
+    le32(recs, slot * 24 + 4) as usize
 }
 
 // The length of a record's name.
@@ -193,7 +186,7 @@ pub fn name_len_at(recs: &[u8], slot: usize) -> usize
     requires { slot * 24 + 24 ≤ length recs.now }
     ensures { (result ≡ (rec_at recs.now slot).name_len) × (result ≤ 255) }
 {
-    length_of(recs[slot * 24 + 8])
+    usize::from(recs[slot * 24 + 8])
 }
 
 // The flags of a record.
@@ -264,10 +257,10 @@ pub fn bytes_ok(recs: &[u8], slot: usize) -> bool
     let kids = le32(recs, at + 12);
     // most are primitives: the two words are one of 64 bits
     if kind == 0 {
-        return long(head) + long(kids) * 4294967296 < 262144;
+        return u64::from(head) + u64::from(kids) * 4294967296 < 262144;
     }
     let code = le32(recs, at + 16);
-    ((kind == 1) | (kind < 4) & (kids == wide(kind) - 1))
+    ((kind == 1) | (kind < 4) & (kids == u32::from(kind) - 1))
         & (head < 262144)
         & (kids < 65536)
         & (code == 0)

@@ -9,7 +9,7 @@ ghost use Rattle.paper.specs.Lists.{edit_at, ok_edit, edit_in, edit_path, new_na
 ghost use Rattle.record.specs.Says.{tested, checked};
 ghost use Rattle.record_entries.specs.Rule.{number_of, width_of, rule_of, inside_of, what_of};
 
-use record::{Refusal, check_each, le16, le32, length_of};
+use record::{Refusal, check_each, le16, le32};
 
 // The lists whose entries have paths. They differ in their number, the width of an entry, and what 3 and 4 ask of it.
 #[derive(Clone, Copy)]
@@ -132,7 +132,7 @@ pub fn new_name_len(edits: &[u8], k: usize) -> usize
     requires { k * 16 + 16 ≤ length edits.now }
     ensures { (result ≡ (edit_at edits.now k).name_len) × (result ≤ 255) }
 {
-    length_of(edits[k * 16 + 12])
+    usize::from(edits[k * 16 + 12])
 }
 
 // The type code that an edit gives: it stands where a new name's offset would.
