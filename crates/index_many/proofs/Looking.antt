@@ -2,11 +2,11 @@
 -- makes the whole. `search looking`, `search finding`.
 use Prim.Native.Nat.{ℕ, zero, suc, ◌+◌, ◌-◌, ◌*◌, ◌/◌, ◌<◌, ◌≤◌}
 use mathlib.Core.Path.{◌≡◌, refl, sym, ap, ◌∙◌}
-use mathlib.Core.Bool.{Bool, true, false, not}
+use mathlib.Core.Bool.{Bool, true, false}
 use mathlib.Core.List.{List, [], ◌∷◌, map}
 use mathlib.Core.Option.{Option, none, some}
 use native.Mathlib.Omega.{arith}
-use borrow.Author.Tests.{not-true, not-false, le-leb, lt-leb}
+use borrow.Author.Tests.{le-leb, lt-leb}
 use lib.ListN.{length}
 use lib.Seq.{sets, length-sets}
 use Rattle.paper.specs.Answer.{Answer, ok, ◌>>=◌}
@@ -19,6 +19,7 @@ use Rattle.paper.specs.Outcome.{how_many, slot_number, out_slots, for_slots, lea
 use Rattle.paper.specs.Rows.{Row, look_id}
 use Rattle.laws.proofs.Basics.{bind_is, bind_not}
 use Rattle.laws.proofs.Runs.{sets_append, sets_front, map_from, from_step, from_done, from_all}
+use Rattle.record.specs.declared.FieldId.{FieldId}
 use Rattle.record.specs.declared.Slot.{Slot}
 use Rattle.record.specs.Answers.{FoundSlot, Check}
 use Rattle.std.specs.Prelude.{Ok, Err, Some, None}
@@ -29,7 +30,7 @@ use Rattle.record.proofs.Testing.{refused_as}
 use Rattle.record_limits.proofs.Within.{whole_most}
 use Rattle.plan.specs.Table.{numbers, PlanIn, fields_in}
 use Rattle.index_ids.specs.Chain.{held, lowest_below}
-use Rattle.index_ids.specs.Ids.{is_id}
+use Rattle.index_ids.specs.Ids.{id_in, is_id}
 use Rattle.index_ids.proofs.Chains.{found_below_room}
 use Rattle.index.specs.Index.{found_slot}
 use Rattle.index.proofs.Opening.{Opened, reading}
@@ -51,7 +52,9 @@ unfolding found_slot found_row
 row_is is none None e = (refl, λ rows. omega arith)
 row_is is none (Some s) e = absurd (let z : ◌≡◌ {A = ℕ} 0 1 = cc in omega arith)
 row_is is (some row) None e = absurd (let z : ◌≡◌ {A = ℕ} 0 1 = cc in omega arith)
-row_is is (some row) (Some s) e = (ap (λ (t : Slot). t.0) (let z : s ≡ record { 0 = row.slot } = cc in z), λ rows. omega arith)
+row_is is (some row) (Some s) e =
+    let z : ◌≡◌ {A = FieldId × Slot} (record { 0 = turned (id_in is s.0) }, record { 0 = s.0 }) (record { 0 = turned row.field.id }, record { 0 = row.slot }) = cc in
+    (ap (λ (p : FieldId × Slot). p.1.0) z, λ rows. omega arith)
 
 slots_length : (g : ℕ → Option Row) (k m : ℕ) → length (out_slots (from g k m)) ≡ m * 4
 unfolding out_slots from
@@ -149,14 +152,14 @@ module _ (s pool ids out : List ℕ) where
   room_short l = stops (refusal_of 1 0 0) (rw (lt-leb (length ids) (length out) l))
 
   module _ (room : length ids ≤ length out) (b : Bool) (eb : b ≡ whole 4 1024 ids) where
-    pub not_whole : not b ≡ true → Ends (Err (refusal_of 2 0 0)) out
+    pub not_whole : b ≡ false → Ends (Err (refusal_of 2 0 0)) out
     unfolding find_ids ◌>>=◌
-    not_whole t = stops (refusal_of 2 0 0) (rw (le-leb (length ids) (length out) room, ← eb, not-true b t))
+    not_whole t = stops (refusal_of 2 0 0) (rw (le-leb (length ids) (length out) room, ← eb, t))
 
-    module _ (t : not b ≡ false) where
+    module _ (t : b ≡ true) where
       reads : asked ≡ (read s pool >>= λ tree. ok (map (look_id tree) (id_list ids)))
       unfolding find_ids ◌>>=◌
-      reads = rw (le-leb (length ids) (length out) room, ← eb, not-false b t)
+      reads = rw (le-leb (length ids) (length out) room, ← eb, t)
 
       pub base_refused : (y : Refusal) → read s pool ≡ refused_as y → Ends (Err y) out
       base_refused y e = stops y (reads ∙ bind_not (read s pool) _ _ _ _ e)
@@ -164,7 +167,7 @@ module _ (s pool ids out : List ℕ) where
       module _ (plan : PlanRows) (m : ℕ) (index : List (List ℕ)) (r : Check) (o : Opened s pool r plan m index) (q : r ≡ (Ok tt)) where
         pub searchable : Searchable plan m index ids out
         searchable =
-            record { few = (o.planned q).few; chained = (o.indexed q).by_id; asked = whole_most 4 1024 ids (sym eb ∙ not-false b t); room = room }
+            record { few = (o.planned q).few; chained = (o.indexed q).by_id; asked = whole_most 4 1024 ids (sym eb ∙ t); room = room }
 
         pub all_looked : (x : ℕ) (out' : List ℕ) → ByIds plan m ids x out out' → Ends (Ok x) out'
         unfolding searches

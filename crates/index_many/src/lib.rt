@@ -10,17 +10,10 @@ ghost use Rattle.index_many.specs.Many.{searches, slot_word, met_one, Searchable
 use index::index_base;
 use index_ids::{IndexRows, find_id};
 use plan::{PlanRows, put_bytes};
-use record::{Refusal, word_bytes};
+use record::{Refusal, Slot, Trees, word_bytes};
 use record_entries::id_at;
 use record_limits::whole_list;
-use tree::{read_tree};
-
-// How many of the ids were found, or a refusal.
-#[derive(Clone, Copy)]
-pub enum Searched {
-    Done(u32),
-    Refused(Refusal),
-}
+use tree::read_tree;
 
 // A found slot as 32 bits; 4,294,967,295 for none.
 fn slot_word(found: Option<Slot>) -> u32
@@ -51,19 +44,22 @@ fn look_ids(plan: &PlanRows, m: usize, index: &IndexRows, ids: &[u8], out: &mut 
 {
     let n = ids.len() / 4;
     let mut met = 0;
-    let mut i = 0;
-    while i < n {
+    for i in 0..n {
         let found = find_id(plan, index, m, id_at(ids, i));
-        let four = word_bytes(slot_word(found));
-        put_bytes(out, i * 4, &four);
+        put_bytes(out, i * 4, &word_bytes(slot_word(found)));
         met += met_one(found);
-        i += 1;
     }
     met
 }
 
-// The slot of each id in any bytes, 4,294,967,295 where there is none. The tree is tested once, for all ids.
-pub fn find_ids<'a>(records: &'a [u8], pool: &'a [u8], ids: &[u8], out_slots: &mut [u8]) -> Result<u32, Refusal>
+// The slot of each id in any bytes, 4,294,967,295 where there is none, and how many of the ids were found. The tree is tested once,
+// for all ids. Refusal 1 if there is no room, 2 if the ids are not whole or too many, then 2 to 8 of the tree.
+pub fn find_ids<'a>(
+    records: &'a [u8],
+    pool: &'a [u8],
+    ids: &[u8],
+    out_slots: &mut [u8],
+) -> Result<u32, Refusal>
     ensures { Answers searches
         (find_ids records.now pool.now ids.now
         (length out_slots.old)) (for_slots out_slots.old ∷ []) result

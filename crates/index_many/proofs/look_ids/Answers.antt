@@ -7,7 +7,7 @@ pub slot_word-requires : goal.slot_word-requires
 slot_word-requires c = search (looking, rules)
 
 pub loop-i-preserved : goal.loop-i-preserved
-loop-i-preserved c = looking_goes _ _ _ _ _ _ _ _ c.loop-i.invariant _ c.requires (search rules) c.loop-i-test.true _ c.id_at.ensures.1 _ c.find_id-found.ensures _ _ _ _ c.slot_word.ensures c.met_one-met.ensures c.word_bytes-four.ensures.0 (search rules)
+loop-i-preserved c = looking_goes _ _ _ _ _ _ _ _ c.loop-i.invariant _ c.requires (search rules) (search rules) _ c.id_at.ensures.1 _ c.find_id-found.ensures _ _ _ _ c.slot_word.ensures c.met_one-met.ensures c.word_bytes.ensures.0 (search rules)
 
 pub returns : goal.returns
 returns c = search (looking, rules)
