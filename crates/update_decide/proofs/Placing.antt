@@ -9,7 +9,6 @@ use borrow.Author.Tests.{eq-eqb, ne_eqb, lt-ltb, le-ltb}
 use Rattle.paper.specs.Answer.{◌>>=◌, among}
 use Rattle.paper.specs.Rows.{Row}
 use Rattle.paper.specs.Bytes.{turned, rec_at, name_of}
-use Rattle.paper.specs.Update.{member_taken}
 use Rattle.laws.proofs.Words.{turned_twice}
 use Rattle.record.specs.declared.FieldId.{FieldId}
 use Rattle.record.specs.declared.Slot.{Slot}
@@ -17,7 +16,6 @@ use Rattle.std.specs.Prelude.{Ok, Err, Some, None}
 use Rattle.record.specs.Answers.{Found}
 use Rattle.record.specs.Says.{found_row, refusal_of, checked}
 use Rattle.update_gone.specs.Gone.{slot_id, ids_gone}
-use Rattle.update_parents.specs.Target.{members_at}
 use Rattle.update_decide.specs.Entry.{Known, unbarred, goes, root_place, AtRoot, taken_at, under_place, freshly}
 use Rattle.update_decide.proofs.Deleting.{at_none, nothing_some, id_back}
 
@@ -75,20 +73,6 @@ module _ (f : Found) (ds : List ℕ) (k : ℕ) (x : FieldId) (p : Slot) (b : Boo
 pub ruleset rooting = (root_free, root_dropped, root_stands)
 
 -- ---- under a struct
-
-module _ (pool s : List ℕ) (n slot : ℕ) (ds x : List ℕ) (i : ℕ) (b : Bool) (ei : i ≡ (rec_at s slot).id) (eb : b ≡ among (turned i) ds) where
-  dropped_is : among (turned (rec_at s slot).id) ds ≡ b
-  dropped_is = rw (← ei) (sym eb)
-
-  pub taken_nowhere : b ≡ true → false ≡ taken_at pool s n slot ds x
-  unfolding taken_at
-  taken_nowhere t = rw (dropped_is, t)
-
-  pub taken_there : (r : Bool) → b ≡ false → r ≡ member_taken (members_at pool s n slot) x ds → r ≡ taken_at pool s n slot ds x
-  unfolding taken_at
-  taken_there r t e = rw (dropped_is, t) e
-
-pub ruleset taking = (taken_nowhere, taken_there)
 
 module _ (pool s : List ℕ) (n slot : ℕ) (ds : List ℕ) (k : ℕ) (x : List ℕ) (b : Bool) (eb : b ≡ among (slot_id s slot) (ids_gone s n ds)) where
   pub under_gone : b ≡ true → Err (refusal_of 22 3 k) ≡ goes (under_place pool s n slot ds k x)

@@ -19,6 +19,7 @@ use update_gone::is_gone;
 use update_parents::{name_taken, resolve_parent_target};
 
 // Whether an id is among the identifiers.
+#[tactic(auto, using(crate::proofs::Deleting::seeking))]
 pub fn is_identifier(identifiers: &[u8], id: FieldId) -> bool
     requires { length identifiers.now ≤ 256 }
     ensures { result ≡ among (turned id.0) (id_list identifiers.now) }
@@ -60,6 +61,7 @@ pub fn drop_one(
 }
 
 // Refusals 13 and 14 of the added column at a slot: a dot in its own name; required, without initial default.
+#[tactic(auto, using(crate::proofs::Placing::adding))]
 pub fn check_added(recs: &[u8], pool: &[u8], slot: usize, place: u32) -> Result<(), Refusal>
     requires { (slot * 24 + 24 ≤ length recs.now)
         × (in_pool (length pool.now) recs.now slot ≡ true) }
@@ -117,6 +119,7 @@ fn is_taken(recs: &[u8], pool: &[u8], n: usize, slot: usize, name: &[u8], droppe
 }
 
 // The struct at a slot takes an addition unless it goes (refusal 22), or the name is taken in it (17).
+#[tactic(auto, using(crate::proofs::Placing::joining))]
 fn join(
     recs: &[u8],
     pool: &[u8],
@@ -187,6 +190,7 @@ pub fn place_under(
 
 // The ids of an addition, in preorder after the last one that was consumed, shifted by 2^31: the bits of the first, and the last; or
 // refusal 18.
+#[tactic(auto, using(crate::proofs::Placing::assigning))]
 pub fn assign_fresh_ids(last: u64, records: usize, place: u32) -> Result<(u32, u64), Refusal>
     requires { (last < 4294967296) × (records ≤ 1024) }
     ensures { result ≡ freshly last records place }
