@@ -57,16 +57,6 @@ fn with_edit(mark: u16, what: What, k: usize) -> u16
     }
 }
 
-// The edit k is put into the mark of its column's slot; the other marks stay.
-pub fn put_edit(marks: &mut Marks, slot: usize, edits: &[u8], k: usize)
-    requires { (slot < 1024) × (k < 64) × (k * 16 + 16 ≤ length edits.now) }
-    ensures { marks.new ≡ set marks.old slot
-        (marked_by edits.now k (get_or marks.old slot 0)) }
-{
-    let mark = marks[slot];
-    marks[slot] = with_edit(mark, what_at(edits, k), k);
-}
-
 // A source of a plan as its mark has it: one of the base alone has a mark.
 #[tactic(auto, using(crate::proofs::Marking::sourcing))]
 fn marked_source(marks: &Marks, source: u32) -> u32
@@ -80,6 +70,16 @@ fn marked_source(marks: &Marks, source: u32) -> u32
         return source;
     }
     2048 + source + 1024 * mark
+}
+
+// The edit k is put into the mark of its column's slot; the other marks stay.
+pub fn put_edit(marks: &mut Marks, slot: usize, edits: &[u8], k: usize)
+    requires { (slot < 1024) × (k < 64) × (k * 16 + 16 ≤ length edits.now) }
+    ensures { marks.new ≡ set marks.old slot
+        (marked_by edits.now k (get_or marks.old slot 0)) }
+{
+    let mark = marks[slot];
+    marks[slot] = with_edit(mark, what_at(edits, k), k);
 }
 
 // The first m sources of a plan as their marks have them; all else stays.
