@@ -21,6 +21,7 @@ fn open_under(recs: &[u8], above: usize) -> bool
 }
 
 // Whether the record at a slot goes: it, or a record above it, is dropped as a member of a struct or of the root list.
+#[tactic(auto, using(crate::proofs::Leaving::leaving))]
 pub fn is_gone(recs: &[u8], n: usize, index: &IndexRows, slot: usize, dropped: &Dropped) -> bool
     requires { Rises recs.now n (ups_in index.now) × (slot < n) }
     ensures { result ≡ among (slot_id recs.now slot) (ids_gone recs.now n

@@ -16,6 +16,7 @@ use tree::tree_end;
 use update_dropped::Dropped;
 
 // The struct at a slot, or nothing.
+#[tactic(auto, using(crate::proofs::Receiving::some_struct))]
 fn as_struct(recs: &[u8], slot: usize) -> Option<Slot>
     requires { slot * 24 + 24 ≤ length recs.now }
     ensures { result ≡ targeted (struct_at recs.now slot) }
@@ -55,6 +56,7 @@ fn takes(recs: &[u8], pool: &[u8], slot: usize, name: &[u8], dropped: &Dropped) 
 }
 
 // Whether a member of the struct at a slot has the name and is not dropped: refusal 17.
+#[tactic(auto, using(crate::proofs::Members::scanning))]
 pub fn name_taken(
     recs: &[u8],
     pool: &[u8],
