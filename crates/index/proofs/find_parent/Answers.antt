@@ -11,7 +11,7 @@ returns-in_err-read_tree c =
     rw (p.1, p.2) (search (finding, rules, c.in_err-read_tree.was))
 
 pub index_base-requires : goal.index_base-requires
-index_base-requires c = (rw c.alone-trees.ensures (readable _ _ _ c.read_tree.ensures _ c.in_ok-read_tree.was), (search rules, (c.empty-plan.ensures, fresh_index)))
+index_base-requires c = (rw c.alone-trees.ensures (readable _ _ _ c.read_tree.ensures _ c.in_ok-read_tree.was), (search rules, (c.empty-plan.ensures.room, fresh_index)))
 
 pub returns-in_err-index_base : goal.returns-in_err-index_base
 returns-in_err-index_base c =
