@@ -1,6 +1,6 @@
 -- A column ends behind its records, and each of them takes an id.
 use Prim.Native.Nat.{ℕ, suc, ◌+◌, ◌-◌, ◌≤◌}
-use mathlib.Core.Path.{◌≡◌, sym, ◌∙◌}
+use mathlib.Core.Path.{◌≡◌, sym, ap, ◌∙◌}
 use mathlib.Core.Bool.{Bool, true, false, cond}
 use mathlib.Core.List.{List}
 use native.Mathlib.Omega.{arith}
@@ -12,6 +12,7 @@ use Rattle.record.specs.Says.{refusal_of}
 use Rattle.tree.specs.Read.{part, Standing}
 use Rattle.tree.proofs.Steps.{part_full}
 use Rattle.update_decide.specs.Answers.{Fresh}
+use Rattle.update_schema.specs.Answers.{Spotted}
 use Rattle.std.specs.Prelude.{Ok, Err}
 use Rattle.update_decide.specs.Entry.{freshly}
 use Rattle.update_schema.specs.Additions.{column_size, numbered}
@@ -38,8 +39,8 @@ module _ (under last k slot records next d : ℕ) (r : Fresh) (en : next ≡ slo
   unfolding freshly numbered
   number_over x q = go (ltb highest (last + records)) (sym q ∙ same)
     where
-      go : (b : Bool) → Err x ≡ cond b (Err (refusal_of 18 3 k)) (Ok ((turned (suc last)), (last + records)))
-          → Err x ≡ cond b (Err (refusal_of 18 3 k)) (Ok (record { under = under; start = turned (suc last); last = last + records; next = slot + records }))
+      go : (b : Bool) → ◌≡◌ {A = Fresh} (Err x) (cond b (Err (refusal_of 18 3 k)) (Ok ((turned (suc last)), (last + records))))
+          → ◌≡◌ {A = Spotted} (Err x) (cond b (Err (refusal_of 18 3 k)) (Ok (record { under = under; start = turned (suc last); last = last + records; next = slot + records })))
       go true e = let z : x ≡ refusal_of 18 3 k = cc in rw z
       go false e = cc
 
@@ -47,9 +48,11 @@ module _ (under last k slot records next d : ℕ) (r : Fresh) (en : next ≡ slo
   unfolding freshly numbered
   number_spots start end q = go (ltb highest (last + records)) (sym q ∙ same)
     where
-      go : (b : Bool) → Ok (start, end) ≡ cond b (Err (refusal_of 18 3 k)) (Ok ((turned (suc last)), (last + records)))
-          → Ok (record { under = under; start = start; last = end; next = next }) ≡ cond b (Err (refusal_of 18 3 k)) (Ok (record { under = under; start = turned (suc last); last = last + records; next = slot + records }))
+      go : (b : Bool) → ◌≡◌ {A = Fresh} (Ok (start, end)) (cond b (Err (refusal_of 18 3 k)) (Ok ((turned (suc last)), (last + records))))
+          → ◌≡◌ {A = Spotted} (Ok (record { under = under; start = start; last = end; next = next })) (cond b (Err (refusal_of 18 3 k)) (Ok (record { under = under; start = turned (suc last); last = last + records; next = slot + records })))
       go true e = cc
-      go false e = let z : start ≡ turned (suc last) = cc in let y : end ≡ last + records = cc in rw (z, y, en)
+      go false e =
+          let p : ◌≡◌ {A = ℕ × ℕ} (start, end) (turned (suc last), last + records) = cc in
+          rw (ap (λ (q : ℕ × ℕ). q.0) p, ap (λ (q : ℕ × ℕ). q.1) p, en)
 
 pub ruleset numbering = (number_over, number_spots)

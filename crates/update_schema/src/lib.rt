@@ -180,8 +180,8 @@ fn place_columns<'a>(
         let so_far = Given { last, ..given };
         let spot = place_one(trees, additions, so_far, plan, index, k, slot, dropped)?;
         decisions.unders[k] = spot.under;
-        decisions.firsts[k] = slot as u64;
-        decisions.starts[k] = long(spot.start);
+        decisions.firsts[k] = slot;
+        decisions.starts[k] = spot.start;
         slot = spot.next;
         last = spot.last;
     }

@@ -2,7 +2,7 @@
 use Rattle.std.proofs.lemmas.Result.{err_from_is_err_and}
 use Rattle.update_schema.proofs.Rows.{drops_stored}
 use Rattle.update_schema.proofs.Found.{found_known}
-use Rattle.update_schema.proofs.Deleting.{entry_here, Deleting, delete_starts, delete_stops, delete_goes, delete_ends}
+use Rattle.update_schema.proofs.Deleting.{entry_here, delete_starts, delete_stops, delete_goes, delete_ends}
 use native.Mathlib.Omega.{arith}
 use Rattle.update_schema.proofs.drop_columns.Goals as goal
 

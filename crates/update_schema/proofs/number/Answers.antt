@@ -11,8 +11,8 @@ overflow_sub-next c = let e = column_ends _ _ _ _ c.requires.0 c.tree_end-next.e
 pub assign_fresh_ids-requires : goal.assign_fresh_ids-requires
 assign_fresh_ids-requires c = let p = c.requires in let z = column_few _ _ _ p.0 in let e = column_ends _ _ _ _ p.0 c.tree_end-next.ensures in (p.1, omega (arith, z, e, p.0.small))
 
-pub returns-in_err-assign_fresh_ids : goal.returns-in_err-assign_fresh_ids
-returns-in_err-assign_fresh_ids c = let p = err_from_is_err_and c.from_residual.result c.from_residual.ensures.1 in rw (p.1, p.2) (number_over _ _ _ _ _ _ _ _ (column_ends _ _ _ _ c.requires.0 c.tree_end-next.ensures) refl c.assign_fresh_ids.ensures _ c.in_err-assign_fresh_ids.was)
+pub returns-in_err-start : goal.returns-in_err-start
+returns-in_err-start c = let p = err_from_is_err_and c.from_residual.result c.from_residual.ensures.1 in rw (p.1, p.2) (number_over _ _ _ _ _ _ _ _ (column_ends _ _ _ _ c.requires.0 c.tree_end-next.ensures) refl c.assign_fresh_ids.ensures _ c.in_err-start.was)
 
 pub returns : goal.returns
-returns c = number_spots _ _ _ _ _ _ _ _ (column_ends _ _ _ _ c.requires.0 c.tree_end-next.ensures) refl c.assign_fresh_ids.ensures _ _ c.in_ok-assign_fresh_ids.was
+returns c = number_spots _ _ _ _ _ _ _ _ (column_ends _ _ _ _ c.requires.0 c.tree_end-next.ensures) refl c.assign_fresh_ids.ensures _ _ c.in_ok-start.was
