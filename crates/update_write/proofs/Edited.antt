@@ -6,7 +6,7 @@ use mathlib.Core.List.{List}
 use native.Mathlib.Omega.{arith}
 use borrow.Author.Tests.{ltb-true}
 use lib.Dec.{ltb}
-use lib.ListN.{length, replicate, get_or-replicate}
+use lib.ListN.{replicate, get_or-replicate}
 use Rattle.paper.specs.Forest.{Forest, empty, node, mapped}
 use Rattle.laws.proofs.Preorder.{size_mapped, siblings_mapped, levels_mapped}
 use Rattle.plan.specs.Plan.{Source}

@@ -56,7 +56,7 @@ use Rattle.update_rebuild.specs.declared.Given.{Given}
 use Rattle.update_rebuild.specs.declared.Place.{Place}
 use Rattle.update_rebuild.specs.Answers.{Step}
 use Rattle.update_rebuild.specs.Sources.{base_source, added_source, source_id, source_kind, added_tree, addition_at, additions, rebuilt_row, rebuilt_base, passed, passed_base}
-use Rattle.update_rebuild.specs.Planned.{unders_in, firsts_in, starts_in, drops_in, ResolvedIn, additions_in, Based, fits, Rebuilds}
+use Rattle.update_rebuild.specs.Planned.{unders_in, firsts_in, starts_in, drops_in, additions_in, Based, fits, Rebuilds}
 use Rattle.update_edits.specs.Marks.{remark, Unmarked, Carries}
 use Rattle.update_edits.proofs.Marked.{Sourced, remarked_drawn, rebuilt_marked}
 use Rattle.update_rebuild.proofs.Whole.{of_fits}

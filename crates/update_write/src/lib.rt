@@ -60,17 +60,17 @@ fn rebuild_edited<'a>(
 pub fn write_rebuilt<'a, 'b>(
     trees: &Trees<'a>,
     identifiers: &[u8],
-    changes: Changeset<'b>,
+    changes: &Changeset<'b>,
     plan: &mut PlanRows,
     index: &mut IndexRows,
     out_records: &mut [u8],
     out_names: &mut [u8],
 ) -> Result<Sizes, Refusal>
-    requires { Rebuildable (trees_in trees.now) identifiers.now changes.given
-        changes.roots changes.decisions.now changes.marks.now plan.old index.old
+    requires { Rebuildable (trees_in trees.now) identifiers.now changes.now.given
+        changes.now.roots changes.now.decisions.now changes.now.marks.now plan.old index.old
         out_records.old out_names.old }
-    ensures { Ends (trees_in trees.now) identifiers.now changes.given
-        changes.decisions.now changes.marks.now out_records.old
+    ensures { Ends (trees_in trees.now) identifiers.now changes.now.given
+        changes.now.decisions.now changes.now.marks.now out_records.old
         out_names.old result out_records.new out_names.new }
 {
     let given = changes.given;
