@@ -6,8 +6,7 @@ use Prim.Native.Nat.{ℕ, ◌+◌, ◌-◌, ◌/◌, ◌≤◌, ◌<◌}
 use native.Mathlib.Omega.{arith}
 use borrow.Author.Tests.{not-true, not-false, leb-true, lt-ltb, le-ltb}
 use lib.Dec.{leb, ltb}
-use lib.ListN.{length, set}
-use lib.Seq.{get_or-set_same, get_or-set_other}
+use lib.ListN.{length}
 use Rattle.paper.specs.Answer.{Answer, ok, ◌>>=◌}
 use Rattle.paper.specs.Refusals.{roomy, limited}
 use Rattle.paper.specs.Forest.{Forest, size}
@@ -36,7 +35,6 @@ use Rattle.tree.specs.Says.{decoded}
 use Rattle.tree.proofs.Deciding.{decode_ok, decode_refused}
 use Rattle.tree_walk.specs.There.{row_of}
 use Rattle.tree_walk.proofs.Opening as walk
-use Rattle.plan.specs.Plan.{Plan, plan_fields}
 use Rattle.plan_write.specs.Written.{Written}
 use Rattle.plan.specs.Table.{sources, numbers, members, PlanIn, fields_in}
 use Rattle.plan.proofs.Standing.{fields_size}
@@ -95,9 +93,9 @@ opens_first false b x f = refl
 opens_first true false x f = refl
 opens_first true true x f = refl
 
--- The new ids stand in the plan's second row, the other rows stay.
-new_row : (plan : PlanRows) (new : List ℕ) → length plan ≡ 3 → (P : List ℕ → List ℕ → List ℕ → Type 0) → P (sources plan) new (members plan) → P (sources (set plan 1 new)) (numbers (set plan 1 new)) (members (set plan 1 new))
-new_row plan new e P h = rw (get_or-set_other plan 1 0 new [] (λ z. omega arith), get_or-set_same plan 1 new [] (omega arith), get_or-set_other plan 1 2 new [] (λ z. omega arith)) h
+-- The plan with other ids.
+abbrev with_numbers : PlanRows → List ℕ → PlanRows
+with_numbers plan new = record { sources = sources plan; numbers = new; members = members plan }
 
 module _ (records pool identifiers : List ℕ) (lr ln li : ℕ) where
   abbrev entry : ℕ → Answer Result
@@ -185,32 +183,31 @@ module _ (records pool identifiers : List ℕ) (lr ln li : ℕ) where
               record { few = omega arith; small = located_small identifiers (numbers plan) (slots records) found h few; room = omega arith }
 
           module _ (new : List ℕ) where
-            planned : PlanIn (alone records pool) (set plan 1 new) (slots records)
-            planned = new_row plan new b.roomy.rows (λ xs is ks. Plan (alone records pool) xs is ks (slots records)) (new_plan (alone records pool) _ _ _ _ b.planned new)
+            planned : PlanIn (alone records pool) (with_numbers plan new) (slots records)
+            planned = new_plan (alone records pool) _ _ _ _ b.planned new
 
-            pub writable : PlanIn (alone records pool) (set plan 1 new) (slots records) × (24576 ≤ lr) × (32768 ≤ ln)
+            pub writable : PlanIn (alone records pool) (with_numbers plan new) (slots records) × (24576 ≤ lr) × (32768 ≤ ln)
             writable = let v = rooms_of lr ln (both (room lr ln) (leb (length identifiers) li) p.rooms).0 in (planned, v.0, v.1)
 
-            module _ (out_records out_names : List ℕ) (names : ℕ) (records' names' : List ℕ) (v : Written (fields_in (alone records pool) (set plan 1 new) (slots records)) out_records out_names names records' names') where
+            module _ (out_records out_names : List ℕ) (names : ℕ) (records' names' : List ℕ) (v : Written (fields_in (alone records pool) (with_numbers plan new) (slots records)) out_records out_names names records' names') where
               pub few_names : names < 4294967296
-              few_names = let e = length_pool (fields_in (alone records pool) (set plan 1 new) (slots records)) in let a = v.bytes in let f = planned.sum in omega arith
+              few_names = let e = length_pool (fields_in (alone records pool) (with_numbers plan new) (slots records)) in let a = v.bytes in let f = planned.sum in omega arith
 
               module _ (first : ℕ) (l : first ≤ 4294967295 - slots records) (s : Reassigned) (g : Given records false 16 c 0 (numbers plan) first s new) where
                 abbrev new_tree : Forest Field
                 new_tree = numbered with_id kind_of first tree
 
-                new_tree_is : fields_in (alone records pool) (set plan 1 new) (slots records) ≡ new_tree
+                new_tree_is : fields_in (alone records pool) (with_numbers plan new) (slots records) ≡ new_tree
                 unfolding fields
                 new_tree_is =
                     let a = few in
-                    new_row plan new b.roomy.rows (λ xs is ks. plan_fields (alone records pool) xs is ks (slots records) ≡ new_tree)
-                    (new_fields (alone records pool) _ _ _ _ b.planned new records pool first (row_of records 16 c 0).trees (ok_is (sym o.tree ∙ b.tree)) (omega arith) b.roomy.numbers_room g.given)
+                    new_fields (alone records pool) _ _ _ _ b.planned new records pool first (row_of records 16 c 0).trees (ok_is (sym o.tree ∙ b.tree)) (omega arith) b.roomy.numbers_room g.given
 
-                new_ids_are : ids new_tree ≡ ids_in (numbers (set plan 1 new)) (slots records)
+                new_ids_are : ids new_tree ≡ ids_in (numbers (with_numbers plan new)) (slots records)
                 new_ids_are = sym (ap ids new_tree_is) ∙ plan_ids (alone records pool) _ _ _ _ planned
 
                 pub done : (start : ℕ) (found out_identifiers identifiers' : List ℕ) → first ≡ turned start → Located identifiers (numbers plan) (slots records) found
-                    → Applied (length identifiers / 4) found (numbers (set plan 1 new)) out_identifiers identifiers'
+                    → Applied (length identifiers / 4) found (numbers (with_numbers plan new)) out_identifiers identifiers'
                     → Answers changes (entry start) (for_records out_records ∷ for_names out_names ∷ for_identifiers out_identifiers ∷ []) (Ok (record { records = slots records; names = names; last_id = 0; visited = 0 })) (records' ∷ names' ∷ identifiers' ∷ [])
                 unfolding after_6 renumber ◌>>=◌ changes leaves
                 done start found out_identifiers identifiers' ef h m =
@@ -219,7 +216,7 @@ module _ (records pool identifiers : List ℕ) (lr ln li : ℕ) where
                     let q : ltb highest (turned start + size tree) ≡ false = le-ltb highest (turned start + size tree) (omega arith) in
                     let B = map (renamed (ids tree) (ids new_tree)) (id_list identifiers) in
                     let e : entry start ≡ ok (record { tree = new_tree; identifiers = B; last = 0; visited = 0 }) = entry_is start ∙ rw (is_sound, q, ef) in
-                    let y : size new_tree ≡ slots records = sym (ap size new_tree_is) ∙ fields_size (set plan 1 new) (slots records) planned.shaped (alone records pool) in
+                    let y : size new_tree ≡ slots records = sym (ap size new_tree_is) ∙ fields_size (with_numbers plan new) (slots records) planned.shaped (alone records pool) in
                     let v' = rw new_tree_is at v in
-                    let written = rw (located_bytes identifiers (numbers plan) (slots records) found h (numbers (set plan 1 new)), ← ids_are, ← new_ids_are) at m.bytes in
+                    let written = rw (located_bytes identifiers (numbers plan) (slots records) found h (numbers (with_numbers plan new)), ← ids_are, ← new_ids_are) at m.bytes in
                     rw e (record { told = rw (y, v'.bytes); left = rw (v'.rows, v'.pool, written) refl })

@@ -2,7 +2,7 @@
 -- back at its place.
 use mathlib.Core.Path.{◌≡◌, refl, sym, ap, ◌∙◌}
 use mathlib.Core.Bool.{Bool, true, false, cond}
-use mathlib.Core.List.{List, [], ◌∷◌, ◌++◌}
+use mathlib.Core.List.{List, ◌∷◌, ◌++◌}
 use Prim.Native.Nat.{ℕ, suc, ◌+◌, ◌≤◌, ◌<◌}
 use native.Mathlib.Nat.{add-zero}
 use native.Mathlib.Omega.{arith}
@@ -83,7 +83,7 @@ module _ (l : Trees) (xs old ks : List ℕ) (m : ℕ) (p : Plan l xs old ks m) (
   pub new_plan : Plan l xs new ks m
   new_plan =
       let d : (is : List ℕ) → Draft l xs is ks m = λ is. record { few = p.few; sits = p.sits; shaped = p.shaped } in
-      record { few = p.few; sits = p.sits; shaped = p.shaped; sum = rw (draft_sum l (xs ∷ new ∷ ks ∷ []) m (d new), ← (draft_sum l (xs ∷ old ∷ ks ∷ []) m (d old))) p.sum }
+      record { few = p.few; sits = p.sits; shaped = p.shaped; sum = rw (draft_sum l record { sources = xs; numbers = new; members = ks } m (d new), ← (draft_sum l record { sources = xs; numbers = old; members = ks } m (d old))) p.sum }
 
   pub new_fields : (records pool : List ℕ) (first : ℕ) (t : Forest ℕ) → mapped (field_at pool records) t ≡ plan_fields l xs old ks m → first + m < 4294967296 → length old ≡ 1024
       → new ≡ sets old 0 (new_ids (kind_at records) false first (first + siblings t) t) → plan_fields l xs new ks m ≡ numbered with_id kind_of first (plan_fields l xs old ks m)

@@ -9,13 +9,13 @@ ghost use Rattle.tree.specs.Says.{decoded};
 ghost use Rattle.renumber.specs.Opening.{opened};
 
 use index::index_base;
-use plan::NUMBERS;
+use plan::PlanRows;
 use plan_write::write_plan;
-use record::{Refusal, Sizes, turn};
+use record::{Refusal, Siblings, Sizes, Trees, turn};
 use record_limits::{room_with_identifiers, sized_identifiers};
 use renumber_id_reassigner::reassign_field_ids;
 use renumber_identifiers::{apply_to_identifier_fields, find_identifiers};
-use tree::{check_tree};
+use tree::check_tree;
 
 // Refusals 1 to 6, or the number of roots.
 fn open(
@@ -69,44 +69,46 @@ pub fn renumber<'a>(
         ∷ for_identifiers out_identifiers.old ∷ []) result (out_records.new
         ∷ out_names.new ∷ out_identifiers.new ∷ []) }
 {
-    match open(
+    // open: 1 to 6
+    let count = open(
         records,
         pool,
         identifiers,
         out_records.len(),
         out_names.len(),
         out_identifiers.len(),
-    ) {
-        Err(r) => Err(r),
-        Ok(count) => {
-            // test: 7 to 9
-            let trees = Trees::alone(records, pool);
-            let n = records.len() / 24;
-            let mut plan = PlanRows::empty();
-            let mut index = [[0u16; 1024]; 8];
-            index_base(&trees, n, identifiers, &mut plan, &mut index)?;
-            // decide: 18
-            let first = turn(start);
-            if 4294967295 - n < first as usize {
-                return Err(Refusal {
-                    number: 18, // refusal 18
-                    list: 0,
-                    place: 0,
-                });
-            }
-            // plan: the new ids. The index finds a record by its old id, so the identifiers' slots are looked up before
-            let mut slots = [0u16; 64];
-            find_identifiers(identifiers, &plan, &index, n, &mut slots);
-            reassign_field_ids(records, 0, count, 16, &mut plan.numbers, first);
-            apply_to_identifier_fields(identifiers.len() / 4, &slots, &plan, out_identifiers);
-            // write
-            let names = write_plan(&trees, &plan, n, out_records, out_names);
-            Ok(Sizes {
-                records: n as u32,
-                names: names as u32,
-                last_id: 0,
-                visited: 0,
-            })
-        }
+    )?;
+    // test: 7 to 9
+    let trees = Trees::alone(records, pool);
+    let n = records.len() / 24;
+    let mut plan = PlanRows::empty();
+    let mut index = [[0u16; 1024]; 8];
+    index_base(&trees, n, identifiers, &mut plan, &mut index)?;
+    // decide: 18
+    let first = turn(start);
+    if 4294967295 - n < first as usize {
+        return Err(Refusal {
+            number: 18, // refusal 18
+            list: 0,
+            place: 0,
+        });
     }
+    // plan: the new ids. The index finds a record by its old id, so the identifiers' slots are looked up before
+    let mut slots = [0u16; 64];
+    find_identifiers(identifiers, &plan, &index, n, &mut slots);
+    let roots = Siblings {
+        slot: 0,
+        count,
+        levels: 16,
+    };
+    reassign_field_ids(records, roots, &mut plan.numbers, first);
+    apply_to_identifier_fields(identifiers.len() / 4, &slots, &plan, out_identifiers);
+    // write
+    let names = write_plan(&trees, &plan, n, out_records, out_names);
+    Ok(Sizes {
+        records: n as u32,
+        names: names as u32,
+        last_id: 0,
+        visited: 0,
+    })
 }

@@ -1,5 +1,5 @@
 -- The three tests are those of the entry, in its order.
-use Rattle.record_limits.proofs.Within.{ids_tree}
+use Rattle.record_limits.proofs.Within.{ids_within}
 use Rattle.renumber.proofs.Entry.{opening}
 use borrow.Author.Rules.{rules}
 use Rattle.renumber.proofs.open.Goals as goal
@@ -11,7 +11,7 @@ pub returns-then-not-sized_identifiers : goal.returns-then-not-sized_identifiers
 returns-then-not-sized_identifiers c = search (opening, rules)
 
 pub check_tree-requires : goal.check_tree-requires
-check_tree-requires c = ids_tree _ _ _ _ _ c.sized_identifiers.ensures c.if-not-sized_identifiers.false-raw
+check_tree-requires c = search (ids_within, rules)
 
 pub returns : goal.returns
 returns c = search (opening, rules)
