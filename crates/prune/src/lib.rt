@@ -14,11 +14,11 @@ use index_ids::IndexRows;
 use paper::Role;
 use plan::PlanRows;
 use plan_write::write_plan;
-use prune_columns::{check_direct, project_fields};
+use prune_columns::Choice;
 use prune_marks::mark_chosen;
-use record::{Refusal, Sizes};
+use record::{Refusal, Siblings, Sizes, Trees};
 use record_limits::{room, sized_selected};
-use tree::{check_tree};
+use tree::check_tree;
 
 // Refusals 1 to 6, or the number of roots.
 fn open(
@@ -63,10 +63,18 @@ fn decide(
         marks.new }
 {
     mark_chosen(selected, plan, index, records.len() / 24, marks);
-    match check_direct(records, marks, full, 0, count, 16, Role::Member) {
-        Err(r) => Err(r),
-        Ok(_) => Ok(()),
-    }
+    let choice = Choice {
+        records,
+        marks,
+        full,
+    };
+    let roots = Siblings {
+        slot: 0,
+        count,
+        levels: 16,
+    };
+    choice.check_direct(roots, Role::Member)?;
+    Ok(())
 }
 
 // Prunes a tree of records to what is chosen.
@@ -85,27 +93,33 @@ pub fn prune<'a>(
         (out_records.new ∷ out_names.new ∷ []) }
 {
     // open: 1 to 6
-    match open(records, pool, selected, out_records.len(), out_names.len()) {
-        Err(r) => Err(r),
-        Ok(count) => {
-            let trees = Trees::alone(records, pool);
-            let mut plan = PlanRows::empty();
-            let mut index = [[0u16; 1024]; 8];
-            // test: 7 and 8, with the base as its own plan
-            index_base(&trees, records.len() / 24, b"", &mut plan, &mut index)?;
-            // decide: what is chosen, and 20
-            let mut marks = [0u8; 1024];
-            decide(records, selected, full, count, &plan, &index, &mut marks)?;
-            // plan: what is kept, over the base's plan
-            let kept = project_fields(records, &marks, full, 0, count, 16, &mut plan, 0);
-            // write
-            let names = write_plan(&trees, &plan, kept.at, out_records, out_names);
-            Ok(Sizes {
-                records: kept.at as u32,
-                names: names as u32,
-                last_id: 0,
-                visited: 0,
-            })
-        }
-    }
+    let count = open(records, pool, selected, out_records.len(), out_names.len())?;
+    let trees = Trees::alone(records, pool);
+    let mut plan = PlanRows::empty();
+    let mut index = [[0u16; 1024]; 8];
+    // test: 7 and 8, with the base as its own plan
+    index_base(&trees, records.len() / 24, b"", &mut plan, &mut index)?;
+    // decide: what is chosen, and 20
+    let mut marks = [0u8; 1024];
+    decide(records, selected, full, count, &plan, &index, &mut marks)?;
+    // plan: what is kept, over the base's plan
+    let choice = Choice {
+        records,
+        marks: &marks,
+        full,
+    };
+    let roots = Siblings {
+        slot: 0,
+        count,
+        levels: 16,
+    };
+    let kept = choice.project_fields(roots, &mut plan, 0);
+    // write
+    let names = write_plan(&trees, &plan, kept.at, out_records, out_names);
+    Ok(Sizes {
+        records: kept.at as u32,
+        names: names as u32,
+        last_id: 0,
+        visited: 0,
+    })
 }

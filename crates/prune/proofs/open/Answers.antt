@@ -1,6 +1,6 @@
 -- The three tests are those of the entry, in its order. Assumes nothing.
 use borrow.Author.Rules.{rules}
-use Rattle.record_limits.proofs.Within.{ids_tree}
+use Rattle.record_limits.proofs.Within.{ids_within}
 use Rattle.prune.proofs.Steps.{opening}
 use Rattle.prune.proofs.open.Goals as goal
 
@@ -11,7 +11,7 @@ pub returns-then-not-sized_selected : goal.returns-then-not-sized_selected
 returns-then-not-sized_selected c = search (opening, rules)
 
 pub check_tree-requires : goal.check_tree-requires
-check_tree-requires c = ids_tree _ _ _ _ _ c.sized_selected.ensures c.if-not-sized_selected.false-raw
+check_tree-requires c = search (ids_within, rules)
 
 pub returns : goal.returns
 returns c = search (opening, rules)
