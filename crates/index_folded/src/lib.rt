@@ -16,8 +16,8 @@ use index::{index_base, with_id};
 use index_folded_names::{Met, meet_row};
 use paper::Role;
 use plan::PlanRows;
-use record::{Refusal, Siblings, Trees, has_dot, slot_before};
-use tree::{read_tree};
+use record::{FieldId, Refusal, Siblings, Slot, Trees, has_dot, slot_before};
+use tree::read_tree;
 
 // All rows, by their full names or by their short ones.
 fn meet_all<'a>(trees: &Trees<'a>, plan: &PlanRows, m: usize, short: bool, name: &[u8]) -> Met
@@ -59,7 +59,12 @@ fn tell(plan: &PlanRows, met: Met) -> Result<Option<(FieldId, Slot)>, Refusal>
 
 // The only record whose full name folds as the asked name does; where there is none, the only one whose short name does, which has
 // a dot where it is no full name.
-pub fn look_folded<'a>(trees: &Trees<'a>, plan: &PlanRows, m: usize, name: &[u8]) -> Result<Option<(FieldId, Slot)>, Refusal>
+pub fn look_folded<'a>(
+    trees: &Trees<'a>,
+    plan: &PlanRows,
+    m: usize,
+    name: &[u8],
+) -> Result<Option<(FieldId, Slot)>, Refusal>
     requires { PlanIn (trees_in trees.now) plan.now m }
     ensures { result ≡ looked (look_folded
         (fields_in (trees_in trees.now) plan.now m) name.now) }
@@ -75,7 +80,11 @@ pub fn look_folded<'a>(trees: &Trees<'a>, plan: &PlanRows, m: usize, name: &[u8]
 }
 
 // 2 to 8, then the look-up that forgets case, in any bytes.
-pub fn find_folded<'a>(records: &'a [u8], pool: &'a [u8], name: &[u8]) -> Result<Option<(FieldId, Slot)>, Refusal>
+pub fn find_folded<'a>(
+    records: &'a [u8],
+    pool: &'a [u8],
+    name: &[u8],
+) -> Result<Option<(FieldId, Slot)>, Refusal>
     ensures { result ≡ looked (find_folded records.now pool.now
         name.now) }
 {
