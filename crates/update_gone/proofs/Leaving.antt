@@ -10,6 +10,12 @@ use Rattle.paper.specs.Answer.{among}
 use Rattle.paper.specs.Bytes.{kids_at, kind_at}
 use Rattle.paper.specs.Forest.{Forest, preorder}
 use Rattle.paper.specs.Gone.{dropped_member, gone}
+use Rattle.std.specs.Prelude.{Some, None}
+use Rattle.record.specs.declared.Slot.{Slot}
+use Rattle.record.specs.Answers.{FoundSlot}
+use Rattle.record.specs.Says.{slot_before}
+use Rattle.paper.specs.declared.Kind.{Kind}
+use Rattle.paper.specs.Field.{is_struct}
 use Rattle.laws.specs.Members.{◌∈◌}
 use Rattle.laws.proofs.Among.{among_values, distinct_values}
 use Rattle.laws.proofs.Going.{gone_there}
@@ -20,6 +26,30 @@ use Rattle.index_names.proofs.Rising.{Climbs, climbs, risen, rising_on, slot_the
 use Rattle.index_names.proofs.Telling.{ups_fall}
 use Rattle.update_gone.specs.Gone.{base_slots, slot_id, ids_gone, open_under, Rises}
 use Rattle.update_gone.proofs.Climbing.{goes_at, steps}
+
+-- ---- the slot before a place
+
+none_before : (p : ℕ) → slot_before p ≡ None → p ≡ 0
+unfolding slot_before
+none_before zero e = refl
+none_before (suc k) e = cc
+
+some_before : (p : ℕ) (j : Slot) → slot_before p ≡ Some j → p ≡ suc j.0
+unfolding slot_before
+some_before zero j e = cc
+some_before (suc k) j e = let z : record { 0 = k } ≡ j = cc in ap (λ (q : Slot). suc q.0) z
+
+-- who stands under a place
+pub opens_room : (records : List ℕ) (above : ℕ) (w : FoundSlot) (j : Slot) → w ≡ slot_before above → w ≡ Some j → above * 24 ≤ length records → j.0 * 24 + 24 ≤ length records
+opens_room records above w j e q l = let z = some_before above j (sym e ∙ q) in omega arith
+
+pub opens_in : (records : List ℕ) (above : ℕ) (w : FoundSlot) (j : Slot) (b : Bool) (k : Kind) → w ≡ slot_before above → w ≡ Some j → k ≡ kind_at records j.0 → b ≡ is_struct k → b ≡ open_under records above
+opens_in records above w j b k e q ek eb = rw (some_before above j (sym e ∙ q), eb, ek)
+
+pub opens_root : (records : List ℕ) (above : ℕ) (w : FoundSlot) → w ≡ slot_before above → w ≡ None → true ≡ open_under records above
+opens_root records above w e q = rw (none_before above (sym e ∙ q))
+
+pub ruleset opening = (opens_room, opens_in, opens_root)
 
 -- ---- the base
 
@@ -81,17 +111,23 @@ module _ {records : List ℕ} {n : ℕ} {us : List ℕ} (R : Rises records n us)
   leave_starts ds slot l = rw (add-one slot) record { within = l; same = refl; low = base_ends R slot l }
 
   module _ {ds : List ℕ} {slot place i : ℕ} (H : Leaving records n us ds slot place i) where
-    pub leave_ends : place ≡ 0 → false ≡ among (slot_id records slot) (ids_gone records n ds)
-    leave_ends e = sym (H.same ∙ rw e)
+    over : place ≡ 0 → false ≡ among (slot_id records slot) (ids_gone records n ds)
+    over e = sym (H.same ∙ rw e)
+
+    pub leave_ends : (w : FoundSlot) → w ≡ slot_before place → w ≡ None → false ≡ among (slot_id records slot) (ids_gone records n ds)
+    leave_ends w e q = over (none_before place (sym e ∙ q))
 
     -- no level is left
     pub leave_last : 16 ≤ i → false ≡ among (slot_id records slot) (ids_gone records n ds)
     unfolding risen
-    leave_last l = let z : 16 - i ≡ 0 = omega arith in leave_ends (rw z at H.low)
+    leave_last l = let z : 16 - i ≡ 0 = omega arith in over (rw z at H.low)
 
-    module _ (l : place ≡ 0 → ⊥) (k : ℕ) (ek : k ≡ place - 1) where
+    module _ (w : FoundSlot) (ew : w ≡ slot_before place) (j : Slot) (ek : w ≡ Some j) where
+      abbrev k : ℕ
+      k = j.0
+
       is_next : place ≡ suc k
-      is_next = omega arith
+      is_next = some_before place j (sym ew ∙ ek)
 
       there_still : k < n
       there_still = let w = H.within in let e = is_next in omega arith
