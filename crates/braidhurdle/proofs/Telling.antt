@@ -9,12 +9,7 @@ use Rattle.paper.specs.Rows.{Row}
 use Rattle.paper.specs.Entries.{Result, find_name, find_folded, find_id, find_parent}
 use Rattle.paper.specs.Outcome.{found, changed, searched, Buffer, Answers}
 use Rattle.laws.proofs.Fitting.{sized_slots}
-use Rattle.record.specs.declared.Refusal.{Refusal}
-use Rattle.record.specs.declared.FieldId.{FieldId}
-use Rattle.record.specs.declared.Slot.{Slot}
-use Rattle.record.specs.Answers.{Found, Sought, Changed}
-use Rattle.std.specs.Prelude.{Ok, Err, Some, None}
-use Rattle.record.specs.declared.Sizes.{Sizes}
+use Rattle.record.specs.Answers.{Sought, Changed}
 use Rattle.record.specs.Says.{found_row, looked, changes}
 use Rattle.index.specs.Finds.{FoundIn, by_name, by_folded, by_id, by_parent}
 use Rattle.index.proofs.Standing.{row_here}
@@ -23,7 +18,7 @@ use Rattle.index_many.specs.Many.{searches}
 use Rattle.braidhurdle.specs.declared.ChangedNumbers.{ChangedNumbers}
 use Rattle.braidhurdle.specs.declared.FoundNumbers.{FoundNumbers}
 use Rattle.braidhurdle.specs.declared.SearchedNumbers.{SearchedNumbers}
-use Rattle.braidhurdle.specs.Numbers.{found_in, found_numbers, sought_numbers, changed_in, laid, changed_numbers, searched_numbers, laid_search}
+use Rattle.braidhurdle.specs.Numbers.{found_in, sought_numbers, changed_in, laid, changed_numbers, searched_numbers, laid_search}
 
 -- A row that a look-up finds stands in the first 1,024 slots.
 found_small : (s pool : List ℕ) (r : Row) → FoundIn s pool r → r.slot < 1024
@@ -62,25 +57,7 @@ module _ (s pool : List ℕ) where
     pub tells_parent : (i : ℕ) → w ≡ looked (find_parent s pool i) → r ≡ found_in (found (find_parent s pool i))
     tells_parent i h = e ∙ ap sought_numbers h ∙ parent_told i
 
-pub lay_at : (f : Found) (i : FieldId) (k : Slot) → f ≡ Some (i, k) → record { refusal = 0; list = 0; place = 0; found = 1; id = i.0; slot = k.0 % 4294967296 } ≡ found_numbers f
-lay_at f i k e = rw e
-
-pub lay_nothing : (f : Found) → f ≡ None → record { refusal = 0; list = 0; place = 0; found = 0; id = 0; slot = 0 } ≡ found_numbers f
-lay_nothing f e = rw e
-
-pub lay_refused : (w : Sought) (x : Refusal) → w ≡ Err x → record { refusal = x.number; list = x.list; place = x.place; found = 0; id = 0; slot = 0 } ≡ sought_numbers w
-lay_refused w x e = rw e
-
-pub lay_looked : (w : Sought) (f : Found) (r : FoundNumbers) → w ≡ Ok f → r ≡ found_numbers f → r ≡ sought_numbers w
-lay_looked w f r e h = rw e h
-
 -- ---- update, pruning, renumbering
-
-pub lay_done : (c : Changed) (s : Sizes) → c ≡ Ok s → record { refusal = 0; list = 0; place = 0; records = s.records; names = s.names; last_id = s.last_id; visited = s.visited } ≡ changed_numbers c
-lay_done c s e = rw e
-
-pub lay_turned_down : (c : Changed) (x : Refusal) → c ≡ Err x → record { refusal = x.number; list = x.list; place = x.place; records = 0; names = 0; last_id = 0; visited = 0 } ≡ changed_numbers c
-lay_turned_down c x e = rw e
 
 changed_told : (a : Answer Result) → changed_numbers (changes a) ≡ changed_in (changed a)
 unfolding changes changed
@@ -88,12 +65,6 @@ changed_told (ok r) = refl
 changed_told (refused n l p) = refl
 
 -- ---- a search for many ids
-
-pub lay_counted : (c : Searched) (met : ℕ) → c ≡ Ok met → record { refusal = 0; list = 0; place = 0; found = met } ≡ searched_numbers c
-lay_counted c met e = rw e
-
-pub lay_unsearched : (c : Searched) (x : Refusal) → c ≡ Err x → record { refusal = x.number; list = x.list; place = x.place; found = 0 } ≡ searched_numbers c
-lay_unsearched c x e = rw e
 
 searched_told : (a : Answer (List (Option Row))) → searched_numbers (searches a) ≡ laid_search a
 unfolding searches searched
@@ -115,4 +86,4 @@ pub search_told : (a : Answer (List (Option Row))) (buffers : List (Buffer (List
     → Answers searches a buffers c news → r ≡ searched_numbers c → Answers laid_search a buffers r news
 search_told = laid_out searches searched_numbers laid_search searched_told
 
-pub ruleset telling = (tells_name, tells_folded, tells_id, tells_parent, lay_at, lay_nothing, lay_refused, lay_looked, lay_done, lay_turned_down, lay_counted, lay_unsearched)
+pub ruleset telling = (tells_name, tells_folded, tells_id, tells_parent)

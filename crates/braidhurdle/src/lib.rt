@@ -19,15 +19,15 @@ ghost use Rattle.braidhurdle.specs.Name.{found_name, name_numbers};
 
 use index::{find_id, find_name, find_parent};
 use index_folded::find_folded;
-use index_many::{find_ids};
+use index_many::find_ids;
 use prune::prune;
-use record::{FieldId, le32, name_ok, wide};
+use record::{FieldId, Lists, Refusal, Sizes, Slot, Trees, le32, name_ok};
 use renumber::renumber;
 use update::update;
 
-// The answer of update, pruning and renumbering. On a refusal the last four are 0.
+// The answer of update, pruning and renumbering. On a refusal the last four are 0. C has no Result: `refusal` is a number, 0 for none.
 #[repr(C)]
-#[derive(Clone, Copy)]
+#[derive(Clone, Copy, Default)]
 pub struct ChangedNumbers {
     pub refusal: u32,
     pub list: u32,
@@ -38,9 +38,9 @@ pub struct ChangedNumbers {
     pub visited: u32,
 }
 
-// The answer of a look-up. On a refusal, and where nothing is found, id and slot are 0.
+// The answer of a look-up. On a refusal, and where nothing is found, id and slot are 0. C has no Option: `found` is 1 or 0.
 #[repr(C)]
-#[derive(Clone, Copy)]
+#[derive(Clone, Copy, Default)]
 pub struct FoundNumbers {
     pub refusal: u32,
     pub list: u32,
@@ -50,9 +50,9 @@ pub struct FoundNumbers {
     pub slot: u32,
 }
 
-// The answer of a search for many ids. On a refusal the last one is 0.
+// The answer of a search for many ids. On a refusal the last one is 0. C has no Result: `refusal` is a number, 0 for none.
 #[repr(C)]
-#[derive(Clone, Copy)]
+#[derive(Clone, Copy, Default)]
 pub struct SearchedNumbers {
     pub refusal: u32,
     pub list: u32,
@@ -60,9 +60,10 @@ pub struct SearchedNumbers {
     pub found: u32, // so many of the ids
 }
 
-// Where a name stands in the lent pool. On a refusal, and where there is no record, offset and length are 0.
+// Where a name stands in the lent pool. On a refusal, and where there is no record, offset and length are 0. C has no Option: `found` is 1
+// or 0.
 #[repr(C)]
-#[derive(Clone, Copy)]
+#[derive(Clone, Copy, Default)]
 pub struct NameNumbers {
     pub refusal: u32,
     pub list: u32,
@@ -72,86 +73,76 @@ pub struct NameNumbers {
     pub length: u32,
 }
 
-fn lay_changed(changed: Result<Sizes, Refusal>) -> ChangedNumbers
-    ensures { result ≡ changed_numbers changed }
-{
-    match changed {
-        Ok(sizes) => ChangedNumbers {
-            refusal: 0,
-            list: 0,
-            place: 0,
-            records: sizes.records,
-            names: sizes.names,
-            last_id: sizes.last_id,
-            visited: sizes.visited,
-        },
-        Err(refusal) => ChangedNumbers {
-            refusal: refusal.number,
-            list: refusal.list,
-            place: refusal.place,
-            records: 0,
-            names: 0,
-            last_id: 0,
-            visited: 0,
-        },
+impl From<Result<Sizes, Refusal>> for ChangedNumbers {
+    ghost from_gives = { λ changed numbers. numbers ≡ changed_numbers changed };
+
+    fn from(changed: Result<Sizes, Refusal>) -> ChangedNumbers {
+        match changed {
+            Ok(sizes) => ChangedNumbers {
+                records: sizes.records,
+                names: sizes.names,
+                last_id: sizes.last_id,
+                visited: sizes.visited,
+                ..ChangedNumbers::default()
+            },
+            Err(refusal) => ChangedNumbers {
+                refusal: refusal.number,
+                list: refusal.list,
+                place: refusal.place,
+                ..ChangedNumbers::default()
+            },
+        }
     }
 }
 
-fn lay_found(found: Option<(FieldId, Slot)>) -> FoundNumbers
-    ensures { result ≡ found_numbers found }
-{
-    match found {
-        Some((id, slot)) => FoundNumbers {
-            refusal: 0,
-            list: 0,
-            place: 0,
-            found: 1,
-            id: id.0,
-            slot: (slot.0 % 4294967296) as u32,
-        },
-        None => FoundNumbers {
-            refusal: 0,
-            list: 0,
-            place: 0,
-            found: 0,
-            id: 0,
-            slot: 0,
-        },
+impl From<Option<(FieldId, Slot)>> for FoundNumbers {
+    ghost from_gives = { λ found numbers. numbers ≡ found_numbers found };
+
+    fn from(found: Option<(FieldId, Slot)>) -> FoundNumbers {
+        match found {
+            Some((id, slot)) => FoundNumbers {
+                found: 1,
+                id: id.0,
+                slot: (slot.0 % 4294967296) as u32,
+                ..FoundNumbers::default()
+            },
+            None => FoundNumbers::default(),
+        }
     }
 }
 
-fn lay_sought(sought: Result<Option<(FieldId, Slot)>, Refusal>) -> FoundNumbers
-    ensures { result ≡ sought_numbers sought }
-{
-    match sought {
-        Ok(found) => lay_found(found),
-        Err(refusal) => FoundNumbers {
-            refusal: refusal.number,
-            list: refusal.list,
-            place: refusal.place,
-            found: 0,
-            id: 0,
-            slot: 0,
-        },
+impl From<Result<Option<(FieldId, Slot)>, Refusal>> for FoundNumbers {
+    ghost from_gives = { λ sought numbers. numbers ≡ sought_numbers sought };
+
+    fn from(sought: Result<Option<(FieldId, Slot)>, Refusal>) -> FoundNumbers {
+        match sought {
+            Ok(found) => FoundNumbers::from(found),
+            Err(refusal) => FoundNumbers {
+                refusal: refusal.number,
+                list: refusal.list,
+                place: refusal.place,
+                ..FoundNumbers::default()
+            },
+        }
     }
 }
 
-fn lay_searched(searched: Result<u32, Refusal>) -> SearchedNumbers
-    ensures { result ≡ searched_numbers searched }
-{
-    match searched {
-        Ok(met) => SearchedNumbers {
-            refusal: 0,
-            list: 0,
-            place: 0,
-            found: met,
-        },
-        Err(refusal) => SearchedNumbers {
-            refusal: refusal.number,
-            list: refusal.list,
-            place: refusal.place,
-            found: 0,
-        },
+impl From<Result<u32, Refusal>> for SearchedNumbers {
+    ghost from_gives = { λ searched numbers. numbers ≡ searched_numbers searched };
+
+    fn from(searched: Result<u32, Refusal>) -> SearchedNumbers {
+        match searched {
+            Ok(found) => SearchedNumbers {
+                found,
+                ..SearchedNumbers::default()
+            },
+            Err(refusal) => SearchedNumbers {
+                refusal: refusal.number,
+                list: refusal.list,
+                place: refusal.place,
+                ..SearchedNumbers::default()
+            },
+        }
     }
 }
 
@@ -186,9 +177,19 @@ pub fn braidhurdle_update<'a>(
         (for_records out_records.old ∷ for_names out_names.old ∷ []) result
         (out_records.new ∷ out_names.new ∷ []) }
 {
-    let trees = [records, pool, added_records, request_pool, edits];
-    let lists = [identifiers, deletions, additions];
-    lay_changed(update(&trees, &lists, last_id, version, out_records, out_names))
+    let trees = Trees {
+        records,
+        pool,
+        added_records,
+        request_pool,
+        edits,
+    };
+    let lists = Lists {
+        identifiers,
+        deletions,
+        additions,
+    };
+    update(&trees, &lists, last_id, version, out_records, out_names).into()
 }
 
 // Keeps the selected columns; not 0 for full mode.
@@ -206,8 +207,7 @@ pub fn braidhurdle_prune<'a>(
         (for_records out_records.old ∷ for_names out_names.old ∷ []) result
         (out_records.new ∷ out_names.new ∷ []) }
 {
-    let changed = prune(records, pool, selected, full != 0, out_records, out_names);
-    lay_changed(changed)
+    prune(records, pool, selected, full != 0, out_records, out_names).into()
 }
 
 // Numbers every column anew from `start` on; identifiers are mapped in the order given.
@@ -228,7 +228,7 @@ pub fn braidhurdle_renumber<'a>(
         ∷ for_identifiers out_identifiers.old ∷ []) result
         (out_records.new ∷ out_names.new ∷ out_identifiers.new ∷ []) }
 {
-    let changed = renumber(
+    renumber(
         records,
         pool,
         identifiers,
@@ -236,8 +236,8 @@ pub fn braidhurdle_renumber<'a>(
         out_records,
         out_names,
         out_identifiers,
-    );
-    lay_changed(changed)
+    )
+    .into()
 }
 
 // The column of a full name, or else of a short name.
@@ -245,7 +245,7 @@ pub fn braidhurdle_find_name<'a>(records: &'a [u8], pool: &'a [u8], name: &[u8])
     ensures { result ≡ found_in (found (find_name records.now pool.now
         name.now)) }
 {
-    lay_sought(find_name(records, pool, name))
+    find_name(records, pool, name).into()
 }
 
 // The same where case is forgotten; refusal 21 where two columns match at the same level.
@@ -253,7 +253,7 @@ pub fn braidhurdle_find_folded<'a>(records: &'a [u8], pool: &'a [u8], name: &[u8
     ensures { result ≡ found_in (found (find_folded records.now pool.now
         name.now)) }
 {
-    lay_sought(find_folded(records, pool, name))
+    find_folded(records, pool, name).into()
 }
 
 // The slot of an id.
@@ -261,7 +261,7 @@ pub fn braidhurdle_find_id<'a>(records: &'a [u8], pool: &'a [u8], id: u32) -> Fo
     ensures { result ≡ found_in
         (found (find_id records.now pool.now id)) }
 {
-    lay_sought(find_id(records, pool, FieldId(id)))
+    find_id(records, pool, FieldId(id)).into()
 }
 
 // The slots of many ids, four bytes each; 4,294,967,295 where there is none.
@@ -276,7 +276,7 @@ pub fn braidhurdle_find_ids<'a>(
         (length out_slots.old)) (for_slots out_slots.old ∷ []) result
         (out_slots.new ∷ []) }
 {
-    lay_searched(find_ids(records, pool, ids, out_slots))
+    find_ids(records, pool, ids, out_slots).into()
 }
 
 // The column above that of an id.
@@ -284,7 +284,7 @@ pub fn braidhurdle_find_parent<'a>(records: &'a [u8], pool: &'a [u8], id: u32) -
     ensures { result ≡ found_in (found (find_parent records.now pool.now
         id)) }
 {
-    lay_sought(find_parent(records, pool, FieldId(id)))
+    find_parent(records, pool, FieldId(id)).into()
 }
 
 // The name of the record at a slot, as a part of the lent pool. That record alone is read; the tree is not tested.
@@ -293,31 +293,19 @@ pub fn braidhurdle_found_name(records: &[u8], pool: &[u8], slot: u32) -> NameNum
 {
     let k = slot as usize;
     if records.len() / 24 <= k {
-        return NameNumbers {
-            refusal: 0,
-            list: 0,
-            place: 0,
-            found: 0,
-            offset: 0,
-            length: 0,
-        };
+        return NameNumbers::default();
     }
     if !name_ok(records, pool.len(), k) {
         return NameNumbers {
             refusal: 4, // refusal 4
-            list: 0,
             place: slot,
-            found: 0,
-            offset: 0,
-            length: 0,
+            ..NameNumbers::default()
         };
     }
     NameNumbers {
-        refusal: 0,
-        list: 0,
-        place: 0,
         found: 1,
         offset: le32(records, k * 24 + 4),
-        length: wide(records[k * 24 + 8]),
+        length: u32::from(records[k * 24 + 8]),
+        ..NameNumbers::default()
     }
 }
