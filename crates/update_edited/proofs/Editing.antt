@@ -28,10 +28,10 @@ use Rattle.record_entries.specs.declared.PathList.TheVariants.{Edits}
 use Rattle.plan.specs.Table.{sources, numbers, members, fields_in}
 use Rattle.update_dropped.specs.declared.Dropped.{Dropped}
 use Rattle.index_ids.specs.Table.{ups_in}
-use Rattle.update_dropped.specs.Set.{dropped_ids, Good}
+use Rattle.update_dropped.specs.Set.{dropped_ids}
 use Rattle.update_dropped.specs.Gathered.{row_ids, Gathered}
 use Rattle.update_gone.specs.Gone.{base_slots, Rises}
-use Rattle.update_edits.specs.declared.Editing as declared
+use Rattle.update_edits.specs.Answers as answers
 use Rattle.update_edits.specs.Edit.{Lands, Named, change_of, edited_at, EditedBy, OneEdited}
 use Rattle.update_edits.specs.Marks.{as_marked, Carries, marked_by}
 use Rattle.update_edits.proofs.Deciding.{found_lands, edited_is}
@@ -104,7 +104,7 @@ module _ (l : Trees) (version n total : ℕ) (t : Forest Field) (ds : List ℕ) 
       unfolding edited_all
       here earlier = ap (edited_all t ds k earlier) (from_step asked k total b) ∙ rw (add-one k)
 
-      module _ (r : declared.Editing) (a : (earlier : List Edited) → Carries l n marks earlier → EditedBy r (decided earlier) l.records n (asked k).change) where
+      module _ (r : answers.Editing) (a : (earlier : List Edited) → Carries l n marks earlier → EditedBy r (decided earlier) l.records n (asked k).change) where
         pub edit_stops : (x : Refusal) → r ≡ Err x → whole ≡ refused x.number x.list x.place
         edit_stops x q =
             let e : decided H.earlier ≡ refused x.number x.list x.place = rw q at (a H.earlier H.carries) in
@@ -159,10 +159,10 @@ module _ (l : Trees) (given : Given) (plan : PlanRows) (index : List (List ℕ))
       (carries_none l n few (λ s b. parts_sit l s (omega arith) 0 (omega arith, lowest_none (in_pool (length l.pool) l.records) 0 n h.based.named s (omega arith) (omega arith)) (asks_none l)))
 
   module _ (k : ℕ) (b : k < given.edits) (p : List ℕ) (f : Found) (ef : f ≡ found_row (look_name t p)) where
-    pub one_asks : (drops : Dropped) → Good drops → Lands n f × Rises l.records n (ups_in index) × Named l.request_pool l.edits k × Good drops
-    one_asks drops g = (found_lands rises_here l.pool given.version l.request_pool l.edits k p f (rw (← base_is) ef), rises_here, named_here k b, g)
+    pub one_asks : Lands n f × Rises l.records n (ups_in index) × Named l.request_pool l.edits k
+    one_asks = (found_lands rises_here l.pool given.version l.request_pool l.edits k p f (rw (← base_is) ef), rises_here, named_here k b)
 
-    module _ (ds marks : List ℕ) (ep : p ≡ edit_path l.request_pool l.edits k) (H : Editing l given.version n given.edits t ds k marks) (r : declared.Editing) (o : OneEdited f l.records n (ups_in index) given.version l.request_pool l.edits k ds marks r) where
+    module _ (ds marks : List ℕ) (ep : p ≡ edit_path l.request_pool l.edits k) (H : Editing l given.version n given.edits t ds k marks) (r : answers.Editing) (o : OneEdited f l.records n (ups_in index) given.version l.request_pool l.edits k ds marks r) where
       -- what is decided of the edit is the paper's, whatever was carried before it
       one_says : (earlier : List Edited) → Carries l n marks earlier → EditedBy r (edited_one t ds k earlier (edit_of given.version l.request_pool l.edits k)) l.records n (change_of given.version l.request_pool l.edits k)
       one_says earlier c =

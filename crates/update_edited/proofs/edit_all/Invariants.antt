@@ -1,13 +1,9 @@
 -- What is left of the edits, behind those that the marks carry, is the whole. Assumes nothing.
-use Prim.Native.Nat.{◌-◌}
 use Rattle.record.specs.Trees.{trees_in}
 use Rattle.plan.specs.Table.{fields_in}
-use Rattle.update_dropped.specs.Set.{dropped_ids, set_of}
+use Rattle.update_dropped.specs.Set.{dropped_ids}
 use Rattle.update_edited.proofs.Editing.{Editing}
 use Rattle.update_edited.proofs.edit_all.Given as goal
 
 abbrev pub invariant-loop-k : goal.invariant-loop-k
-invariant-loop-k l = Editing (trees_in l.trees) l.given.version l.given.base l.given.edits (fields_in (trees_in l.trees) l.plan l.given.base) (dropped_ids (set_of l.dropped l.drops)) l.k l.marks
-
-abbrev pub decreases-loop-k : goal.decreases-loop-k
-decreases-loop-k l = l.given.edits - l.k
+invariant-loop-k l = Editing (trees_in l.trees) l.given.version l.given.base l.given.edits (fields_in (trees_in l.trees) l.plan l.given.base) (dropped_ids l.dropped) l.k l.marks
