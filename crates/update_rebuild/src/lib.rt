@@ -334,6 +334,7 @@ impl<'a> Rebuilder<'a> {
     }
 
     // The whole base, rebuilt; `roots` is the number of its roots. `None`: record 1,025 or level 17 would be planned (refusal 19).
+    #[tactic(auto, using(crate::proofs::Whole::based))]
     pub fn rebuild(&self, roots: u32, plan: &mut PlanRows) -> Option<Place>
         requires { Based self.now.records.now self.now.given.base roots }
         ensures { Rebuilds (rebuilt_base self.now.records.now self.now.given.base
