@@ -4,7 +4,7 @@ use Rattle.update_schema.proofs.Rows.{drops_stored}
 use Rattle.update_schema.proofs.Found.{found_known}
 use Rattle.update_schema.proofs.Deleting.{entry_here, delete_starts, delete_stops, delete_goes, delete_ends}
 use native.Mathlib.Omega.{arith}
-use Rattle.update_schema.proofs.drop_columns.Goals as goal
+use Rattle.update_schema.proofs.Request.drop_columns.Goals as goal
 
 pub loop-k-init : goal.loop-k-init
 loop-k-init c = (delete_starts _ _ _ _ _ _, c.requires.1)
