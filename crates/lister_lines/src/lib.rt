@@ -15,7 +15,7 @@ use index::index_base;
 use index_ids::{IndexRows, LENS, UPS, cell};
 use plan::{PlanRows, name_of, put_bytes};
 use record::{Refusal, Trees};
-use tree::{read_tree};
+use tree::read_tree;
 
 // Decimal digits, at the end of ten bytes.
 #[derive(Clone, Copy)]
@@ -149,30 +149,20 @@ fn put_line<'a>(
     end + 1
 }
 
-// How far a is beyond b; 0 where it is not.
-fn beyond(a: usize, b: usize) -> usize
-    ensures { result ≡ a - b }
-{
-    if a < b {
-        return 0;
-    }
-    a - b
-}
-
 // A text that stands at `at` in a longer one, into a buffer that shows the longer one from `from` on: what falls into the buffer.
 fn put_shown(out: &mut [u8], from: usize, at: usize, text: &[u8])
     ensures { out.new ≡ sets out.old (at - from)
         (take (length out.old - (at - from)) (drop (from - at) text.now)) }
 {
-    let skip = beyond(from, at);
-    let to = beyond(at, from);
+    let skip = from.saturating_sub(at);
+    let to = at.saturating_sub(from);
     if text.len() <= skip {
         return;
     }
     if out.len() <= to {
         return;
     }
-    let end = text.len() - beyond(text.len() - skip, out.len() - to);
+    let end = text.len() - (text.len() - skip).saturating_sub(out.len() - to);
     put_bytes(out, to, &text[skip..end]);
 }
 
@@ -218,12 +208,10 @@ fn list_rows<'a>(
         index.now) m) from out.old result out.new }
 {
     let mut at = 0;
-    let mut slot = 0;
-    while slot < m {
+    for slot in 0..m {
         let n = put_line(trees, plan, m, index, slot, line);
         put_shown(out, from, at, &line[..n]);
         at += n;
-        slot += 1;
     }
     at
 }

@@ -1,5 +1,4 @@
 -- Each turn shows one line more: `Listing`.
-use Prim.Native.Nat.{◌-◌}
 use Rattle.record.specs.Trees.{trees_in}
 use Rattle.lister_lines.specs.Text.{line_at}
 use Rattle.lister_lines.proofs.Showing.{Listing}
@@ -7,6 +6,3 @@ use Rattle.lister_lines.proofs.list_rows.Given as goal
 
 abbrev pub invariant-loop-slot : goal.invariant-loop-slot
 invariant-loop-slot l = Listing (line_at (trees_in l.trees) l.plan l.index) l.m l.from l.initial.line l.initial.out l.line l.out l.at l.slot
-
-abbrev pub decreases-loop-slot : goal.decreases-loop-slot
-decreases-loop-slot l = l.m - l.slot

@@ -11,7 +11,7 @@ returns-in_err-count c =
     rw (p.1, p.2) (stop_6 _ _ _ _ _ _ c.«open».ensures _ _ _ _ c.in_err-count.was)
 
 pub index_base-requires : goal.index_base-requires
-index_base-requires c = let h = passed _ _ _ _ _ _ c.«open».ensures _ c.in_ok-count.was in (rw c.alone-trees.ensures (base_reads h), (search rules, (c.empty-plan.ensures, fresh_index)))
+index_base-requires c = let h = passed _ _ _ _ _ _ c.«open».ensures _ c.in_ok-count.was in (rw c.alone-trees.ensures (base_reads h), (search rules, (c.empty-plan.ensures.room, fresh_index)))
 
 pub returns-in_err-index_base : goal.returns-in_err-index_base
 returns-in_err-index_base c =
