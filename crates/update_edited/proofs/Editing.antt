@@ -74,14 +74,13 @@ module _ (l : Trees) (version n total : ℕ) (t : Forest Field) (ds : List ℕ) 
   rest k earlier = edited_all t ds k earlier (from asked k (total - k))
 
   pub record Editing (k : ℕ) (marks : List ℕ) : Type 0 where
-    pub within : k ≤ total
     pub earlier : List Edited
     pub carries : Carries l n marks earlier
     pub left : whole ≡ rest k earlier
 
   pub edit_starts : (marks : List ℕ) → Carries l n marks [] → Editing 0 marks
   edit_starts marks h =
-      record { within = omega arith; earlier = []; carries = h; left = sym (ap (edited_all t ds 0 []) (from_all asked total)) }
+      record { earlier = []; carries = h; left = sym (ap (edited_all t ds 0 []) (from_all asked total)) }
 
   none_left : (k : ℕ) (earlier : List Edited) → edited_all t ds k earlier [] ≡ ok earlier
   unfolding edited_all
@@ -116,7 +115,6 @@ module _ (l : Trees) (version n total : ℕ) (t : Forest Field) (ds : List ℕ) 
         edit_goes s marks' q f =
             let w : (s.0 < n) × (decided H.earlier ≡ ok (edited_at l.records s.0 (asked k).change)) = rw q at (a H.earlier H.carries) in
             record {
-              within = omega arith;
               earlier = H.earlier ++ (edited_at l.records s.0 (asked k).change ∷ []);
               carries = f H.earlier H.carries w.0;
               left = H.left ∙ here H.earlier ∙ bind_is _ _ (edited_at l.records s.0 (asked k).change) w.1;
