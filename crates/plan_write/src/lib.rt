@@ -17,7 +17,7 @@ use plan::{
     put_bytes,
 };
 use record::{
-    Trees, attribute_at, code_at, flags_at, kind_at, length_of, name_from, name_len_at, word_bytes,
+    Trees, attribute_at, code_at, flags_at, kind_at, name_from, name_len_at, word_bytes,
 };
 
 // The byte that stands for a kind.
@@ -133,7 +133,7 @@ fn put_record<'a>(trees: &Trees<'a>, plan: &PlanRows, i: usize, at: u32, out: &m
 {
     let row = planned_bytes(trees, plan.sources[i], plan.numbers[i], plan.members[i], at);
     put_bytes(out, i * 24, &row);
-    length_of(row[8])
+    usize::from(row[8])
 }
 
 // A plan's records; bytes beyond stay.

@@ -17,7 +17,7 @@ use plan_write::write_plan;
 use prune_columns::Choice;
 use prune_marks::mark_chosen;
 use record::{Refusal, Siblings, Sizes, Trees};
-use record_limits::{room, sized_selected};
+use record_limits::{room, sized_ids};
 use tree::check_tree;
 
 // Refusals 1 to 6, or the number of roots.
@@ -38,7 +38,7 @@ fn open(
             place: 0,
         });
     }
-    if !sized_selected(records, pool, selected) {
+    if !sized_ids::<1024>(records, pool, selected) {
         return Err(Refusal {
             number: 2, // refusal 2
             list: 0,

@@ -86,27 +86,6 @@ pub struct Sizes {
     pub visited: u32,
 }
 
-// A byte as a number of 32 bits.
-pub fn wide(x: u8) -> u32
-    ensures { (result ≡ x) × (result < 256) }
-{
-    x as u32
-}
-
-// A byte as a length.
-pub fn length_of(x: u8) -> usize
-    ensures { (result ≡ x) × (result ≤ 255) }
-{
-    x as usize
-}
-
-// A number of 32 bits as one of 64.
-pub fn long(x: u32) -> u64
-    ensures { (result ≡ x) × (result < 4294967296) }
-{
-    x as u64
-}
-
 // The low 32 bits of a number.
 pub fn low_32(x: u64) -> u32
     ensures { result ≡ x % 4294967296 }

@@ -3,7 +3,7 @@
 
 ghost use Rattle.std.specs.Prelude.{◌≡◌, true, ◌+◌, ◌*◌, ◌≤◌, ◌<◌, eqb, length};
 ghost use Rattle.paper.specs.Answer.{lowest};
-ghost use Rattle.paper.specs.Bytes.{word32, turned};
+ghost use Rattle.paper.specs.Bytes.{word16, word32, turned};
 ghost use Rattle.paper.specs.Lists.{entry_at, ok_deletion, ok_addition, path_in, path_of, entries_ok, id_at};
 ghost use Rattle.paper.specs.Lists.{edit_at, ok_edit, edit_in, edit_path, new_name};
 ghost use Rattle.record.specs.Says.{tested, checked};
@@ -44,20 +44,20 @@ pub fn has_path(entries: &[u8], k: usize) -> bool
     entries[k * 8 + 6] == 1
 }
 
-// The offset of an entry's path in the request pool.
-fn path_from(entries: &[u8], k: usize) -> usize
-    requires { k * 8 + 8 ≤ length entries.now }
-    ensures { (result ≡ (entry_at entries.now k).path_at) × (result < 4294967296) }
+// The offset in the request pool of the path of entry k, in a list of entries of a width.
+fn path_from<const WIDTH: usize>(entries: &[u8], k: usize) -> usize
+    requires { (k * WIDTH + WIDTH ≤ length entries.now) × (8 ≤ WIDTH) }
+    ensures { (result ≡ word32 entries.now (k * WIDTH)) × (result < 4294967296) }
 {
-    le32(entries, k * 8) as usize
+    le32(entries, k * WIDTH) as usize
 }
 
-// The length of an entry's path.
-fn path_len(entries: &[u8], k: usize) -> usize
-    requires { k * 8 + 8 ≤ length entries.now }
-    ensures { (result ≡ (entry_at entries.now k).path_len) × (result < 65536) }
+// The length of that path.
+fn path_len<const WIDTH: usize>(entries: &[u8], k: usize) -> usize
+    requires { (k * WIDTH + WIDTH ≤ length entries.now) × (8 ≤ WIDTH) }
+    ensures { (result ≡ word16 entries.now (k * WIDTH + 4)) × (result < 65536) }
 {
-    le16(entries, k * 8 + 4) as usize
+    le16(entries, k * WIDTH + 4) as usize
 }
 
 // An entry's path: the very part of the request pool that holds it.
@@ -68,8 +68,8 @@ pub fn path_at<'a>(pool: &'a [u8], entries: &[u8], k: usize) -> &'a [u8]
         × (result.ref_ptr.0 ≡ pool.entry.ref_ptr.0) × (result.ref_ptr.1 ≡ pool.entry.ref_ptr.1 + (entry_at
         entries.now k).path_at) }
 {
-    let from = path_from(entries, k);
-    let len = path_len(entries, k);
+    let from = path_from::<8>(entries, k);
+    let len = path_len::<8>(entries, k);
     &pool[from..from + len]
 }
 
@@ -87,8 +87,8 @@ fn addition_ok(entries: &[u8], k: usize) -> bool
     ensures { result ≡ ok_addition entries.now k }
 {
     let has = entries[k * 8 + 6];
-    let from = path_from(entries, k);
-    let len = path_len(entries, k);
+    let from = path_from::<8>(entries, k);
+    let len = path_len::<8>(entries, k);
     ((has == 1) | (has == 0) & (from == 0) & (len == 0)) & (entries[k * 8 + 7] == 0)
 }
 
@@ -102,21 +102,6 @@ pub fn what_at(edits: &[u8], k: usize) -> What
         2 => What::Relax,
         _ => What::Widen,
     }
-}
-
-// The offset and the length of an edit's path in the request pool.
-fn edit_path_from(edits: &[u8], k: usize) -> usize
-    requires { k * 16 + 16 ≤ length edits.now }
-    ensures { (result ≡ (edit_at edits.now k).path_at) × (result < 4294967296) }
-{
-    le32(edits, k * 16) as usize
-}
-
-fn edit_path_len(edits: &[u8], k: usize) -> usize
-    requires { k * 16 + 16 ≤ length edits.now }
-    ensures { (result ≡ (edit_at edits.now k).path_len) × (result < 65536) }
-{
-    le16(edits, k * 16 + 4) as usize
 }
 
 // The offset of an edit's new name.
@@ -149,8 +134,8 @@ pub fn edit_path_at<'a>(pool: &'a [u8], edits: &[u8], k: usize) -> &'a [u8]
         × (edit_in (length pool.now) edits.now k ≡ true) }
     ensures { result.now ≡ edit_path pool.now edits.now k }
 {
-    let from = edit_path_from(edits, k);
-    let len = edit_path_len(edits, k);
+    let from = path_from::<16>(edits, k);
+    let len = path_len::<16>(edits, k);
     &pool[from..from + len]
 }
 
@@ -218,8 +203,8 @@ fn path_ok(entries: &[u8], pool: usize, k: usize) -> bool
     requires { k * 8 + 8 ≤ length entries.now }
     ensures { result ≡ path_in pool entries.now k }
 {
-    let from = path_from(entries, k);
-    let len = path_len(entries, k);
+    let from = path_from::<8>(entries, k);
+    let len = path_len::<8>(entries, k);
     from + len <= pool
 }
 
@@ -228,8 +213,8 @@ fn edit_inside(edits: &[u8], pool: usize, k: usize) -> bool
     requires { k * 16 + 16 ≤ length edits.now }
     ensures { result ≡ edit_in pool edits.now k }
 {
-    let from = edit_path_from(edits, k);
-    let len = edit_path_len(edits, k);
+    let from = path_from::<16>(edits, k);
+    let len = path_len::<16>(edits, k);
     let name = new_name_from(edits, k);
     let name_len = new_name_len(edits, k);
     (from + len <= pool) & ((edits[k * 16 + 6] != 1) | (name + name_len <= pool))

@@ -19,7 +19,7 @@ pub tree_most : (s p : List ℕ) → sized s p ≡ true → length s ≤ 24576
 unfolding sized tree_sized
 tree_most s p e = whole_most 24 1024 s (both (whole 24 1024 s) _ (both (tree_sized s) _ e).0).0
 
--- where `sized_identifiers` or `sized_selected` said yes: `search ids_within`
+-- where `sized_ids` said yes: `search ids_within`
 module _ (most : ℕ) (s p i : List ℕ) (t : Bool) (e : t ≡ sized_ids most s p i) (f : not t ≡ false) where
   parts : (sized s p ≡ true) × (whole 4 most i ≡ true)
   unfolding sized_ids

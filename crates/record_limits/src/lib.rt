@@ -59,20 +59,12 @@ pub fn sized(recs: &[u8], pool: &[u8]) -> bool
     sized_tree(recs) & (pool.len() <= 32768)
 }
 
-// The limits on a tree and its identifiers, at most 64; where they are passed, refusal 2.
-pub fn sized_identifiers(recs: &[u8], pool: &[u8], identifiers: &[u8]) -> bool
-    ensures { result ≡ sized_ids 64 recs.now pool.now
-        identifiers.now }
+// The limits on a tree and ids of it, at most MOST: 64 identifiers, or 1,024 selected ids; where they are passed, refusal 2.
+pub fn sized_ids<const MOST: usize>(recs: &[u8], pool: &[u8], ids: &[u8]) -> bool
+    requires { 4 * MOST ≤ 24576 }
+    ensures { result ≡ sized_ids MOST recs.now pool.now ids.now }
 {
-    sized(recs, pool) & whole_list(identifiers, 4, 64)
-}
-
-// The limits on a tree and selected ids, at most 1,024; where they are passed, refusal 2.
-pub fn sized_selected(recs: &[u8], pool: &[u8], selected: &[u8]) -> bool
-    ensures { result ≡ sized_ids 1024 recs.now pool.now
-        selected.now }
-{
-    sized(recs, pool) & whole_list(selected, 4, 1024)
+    sized(recs, pool) & whole_list(ids, 4, MOST)
 }
 
 // At most 64 deletions, 64 additions and 64 edits.
@@ -87,7 +79,7 @@ fn sized_entries(deletions: &[u8], additions: &[u8], edits: &[u8]) -> bool
 pub fn sized_update<'a>(trees: &Trees<'a>, lists: &Lists<'a>) -> bool
     ensures { SizedUpdate (trees_in trees.now) (lists_in lists.now) result }
 {
-    sized_identifiers(trees.records, trees.pool, lists.identifiers)
+    sized_ids::<64>(trees.records, trees.pool, lists.identifiers)
         & (sized_entries(lists.deletions, lists.additions, trees.edits)
             & sized(trees.added_records, trees.request_pool))
 }

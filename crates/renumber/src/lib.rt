@@ -12,7 +12,7 @@ use index::index_base;
 use plan::PlanRows;
 use plan_write::write_plan;
 use record::{Refusal, Siblings, Sizes, Trees, turn};
-use record_limits::{room_with_identifiers, sized_identifiers};
+use record_limits::{room_with_identifiers, sized_ids};
 use renumber_id_reassigner::reassign_field_ids;
 use renumber_identifiers::{apply_to_identifier_fields, find_identifiers};
 use tree::check_tree;
@@ -41,7 +41,7 @@ fn open(
             place: 0,
         });
     }
-    if !sized_identifiers(records, pool, identifiers) {
+    if !sized_ids::<64>(records, pool, identifiers) {
         return Err(Refusal {
             number: 2, // refusal 2
             list: 0,

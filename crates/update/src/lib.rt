@@ -12,7 +12,7 @@ ghost use Rattle.update.specs.Updating.{given_in, Decidable, Settles};
 use index::index_base;
 use index_ids::IndexRows;
 use plan::PlanRows;
-use record::{Lists, Refusal, Trees, long, turn};
+use record::{Lists, Refusal, Trees, turn};
 use update_edited::edit_columns;
 use update_edits::Marks;
 use update_rebuild::{Decisions, Given};
@@ -24,7 +24,7 @@ use update_write::write_rebuilt;
 fn counted(last_id: u32) -> u64
     ensures { (result ≡ turned last_id) × (result < 4294967296) }
 {
-    long(turn(last_id))
+    u64::from(turn(last_id))
 }
 
 // How much is lent, the last id, and the format version.

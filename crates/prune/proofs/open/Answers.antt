@@ -7,8 +7,8 @@ use Rattle.prune.proofs.open.Goals as goal
 pub returns-then-not-room : goal.returns-then-not-room
 returns-then-not-room c = search (opening, rules)
 
-pub returns-then-not-sized_selected : goal.returns-then-not-sized_selected
-returns-then-not-sized_selected c = search (opening, rules)
+pub returns-then-not-sized_ids : goal.returns-then-not-sized_ids
+returns-then-not-sized_ids c = search (opening, rules)
 
 pub check_tree-requires : goal.check_tree-requires
 check_tree-requires c = search (ids_within, rules)

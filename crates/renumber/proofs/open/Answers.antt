@@ -7,8 +7,8 @@ use Rattle.renumber.proofs.open.Goals as goal
 pub returns-then-not-room_with_identifiers : goal.returns-then-not-room_with_identifiers
 returns-then-not-room_with_identifiers c = search (opening, rules)
 
-pub returns-then-not-sized_identifiers : goal.returns-then-not-sized_identifiers
-returns-then-not-sized_identifiers c = search (opening, rules)
+pub returns-then-not-sized_ids : goal.returns-then-not-sized_ids
+returns-then-not-sized_ids c = search (opening, rules)
 
 pub check_tree-requires : goal.check_tree-requires
 check_tree-requires c = search (ids_within, rules)

@@ -1,7 +1,7 @@
 -- The code is the definition.
 use Rattle.paper.specs.Limits.{sized_ids}
-use Rattle.record_limits.proofs.sized_selected.Goals as goal
+use Rattle.record_limits.proofs.sized_ids.Goals as goal
 
 pub returns : goal.returns
 unfolding sized_ids
-returns c = cc
+returns g c = cc

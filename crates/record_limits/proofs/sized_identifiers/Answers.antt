@@ -1,7 +1,0 @@
--- The code is the definition.
-use Rattle.paper.specs.Limits.{sized_ids}
-use Rattle.record_limits.proofs.sized_identifiers.Goals as goal
-
-pub returns : goal.returns
-unfolding sized_ids
-returns c = cc
