@@ -23,14 +23,14 @@ module _ (kids : ℕ → ℕ) (k n id : ℕ) (plan : PlanRows) (at : ℕ) where
   add_starts = record { within = omega arith; added = record { sources_set = refl; numbers_set = refl; members_set = refl } }
 
   module _ (i : ℕ) (p₁ : PlanRows) (h : Adding kids k n id plan at i p₁) where
-    pub add_goes : (m c x : ℕ) (p₂ : PlanRows) → i < n → m ≡ kids (k + i) → c ≡ id → x ≡ (c + i) % 4294967296 → p₂ ≡ planned_at p₁ (at + i) (1024 + (k + i)) x m → Adding kids k n id plan at (i + 1) p₂
-    add_goes m c x p₂ l em ec ex e =
+    pub add_goes : (m x : ℕ) (p₂ : PlanRows) → i < n → m ≡ kids (k + i) → x ≡ (id + i) % 4294967296 → p₂ ≡ planned_at p₁ (at + i) (1024 + (k + i)) x m → Adding kids k n id plan at (i + 1) p₂
+    add_goes m x p₂ l em ex e =
         let a = h.added in
         record {
           within = omega arith;
           added = rw e record {
             sources_set = rw a.sources_set (from_more (λ j. 1024 + j) (sources plan) at k i);
-            numbers_set = rw (a.numbers_set, bits_on id k i c x ec ex) (from_more (λ j. turned (turned id + (j - k))) (numbers plan) at k i);
+            numbers_set = rw (a.numbers_set, bits_on id k i id x refl ex) (from_more (λ j. turned (turned id + (j - k))) (numbers plan) at k i);
             members_set = rw (a.members_set, em) (from_more kids (members plan) at k i);
           };
         }

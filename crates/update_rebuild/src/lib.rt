@@ -27,7 +27,7 @@ ghost use Rattle.update_rebuild.specs.Planned.{
 
 use paper::is_struct;
 use plan::{PlanRows, put_planned};
-use record::{Siblings, id_bits_at, kids_at, kind_at, long, low_32, under_of};
+use record::{Siblings, id_bits_at, kids_at, kind_at, under_of};
 use tree::{row_end, tree_end};
 use update_dropped::Dropped;
 
@@ -135,7 +135,7 @@ fn put_added(added: &[u8], slot: usize, count: usize, id: u32, plan: &mut PlanRo
 {
     for i in 0..count {
         let k = slot + i;
-        let number = low_32(long(id) + i as u64);
+        let number = id.wrapping_add(i as u32);
         put_planned(plan, at + i, (1024 + k) as u32, number, kids_at(added, k));
     }
 }

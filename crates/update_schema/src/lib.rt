@@ -25,7 +25,7 @@ ghost use Rattle.update_schema.specs.Deletions.{DropsIn};
 use index::look_name;
 use index_ids::IndexRows;
 use plan::PlanRows;
-use record::{Lists, Refusal, Trees, long, name_at};
+use record::{Lists, Refusal, Trees, name_at};
 use record_entries::{has_path, path_at};
 use tree::tree_end;
 use update_decide::{assign_fresh_ids, check_added, drop_one, place_at_root, place_under};
@@ -87,7 +87,7 @@ impl<'a> Request<'a> {
             let path = path_at(self.trees.request_pool, self.lists.deletions, k);
             let found = look_name(self.trees, self.plan, self.given.base, self.index, path);
             let id = drop_one(found, self.lists.identifiers, k as u32)?;
-            decisions.drops[k] = long(id.0);
+            decisions.drops[k] = u64::from(id.0);
         }
         Ok(())
     }
