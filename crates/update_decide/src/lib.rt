@@ -87,6 +87,7 @@ pub fn check_added(recs: &[u8], pool: &[u8], slot: usize, place: u32) -> Result<
 }
 
 // A root addition goes to 0, the root list, unless look-up found its name undeleted: refusal 17.
+// No Option: `goes` and `parent` of the specs have the root list and 1 + x in one number, which `Decisions` keeps.
 pub fn place_at_root(
     found: Option<(FieldId, Slot)>,
     place: u32,

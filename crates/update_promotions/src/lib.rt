@@ -13,6 +13,7 @@ ghost use Rattle.paper.specs.Promotions.{
   allowed,
 };
 
+// No enum: a column's code is any 32 bits, those of decimals among them.
 const INT: u32 = 2;
 
 const LONG: u32 = 3;
