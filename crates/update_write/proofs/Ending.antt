@@ -2,13 +2,13 @@
 -- does not fit it passes a limit. Then the index answers 7 to 9 of it, and the writer leaves its bytes.
 use mathlib.Core.Path.{◌≡◌, refl, sym, ap, ◌∙◌}
 use mathlib.Core.Logic.{inl, inr}
-use mathlib.Core.Bool.{Bool, true, false, not, ◌&&◌}
+use mathlib.Core.Bool.{Bool, true, false, ◌&&◌}
 use mathlib.Core.List.{List, [], ◌∷◌}
 use mathlib.Core.Option.{none}
 use Prim.Native.Nat.{ℕ, zero, suc, ◌+◌, ◌≤◌, ◌<◌}
 use native.Mathlib.Nat.{zero-add}
 use native.Mathlib.Omega.{arith}
-use borrow.Author.Tests.{not-true, not-false, le-leb}
+use borrow.Author.Tests.{le-leb}
 use lib.Dec.{leb}
 use lib.ListN.{length, get_or}
 use Rattle.paper.specs.Answer.{ok, ◌>>=◌}
@@ -207,14 +207,14 @@ module _ (l : Trees) (i : List ℕ) (given : Given) (c : ℕ) (decisions : Decis
         names_asks = draft_inside l plan' w.at draft
 
         module _ (z : Bool) (k : Summed l.records l.added_records l.edits (sources plan') w.at z) where
-          pub names_stop : not z ≡ true → Ending (Err (refusal_of 19 4 0)) out text
+          pub names_stop : z ≡ false → Ending (Err (refusal_of 19 4 0)) out text
           names_stop q =
-              let e = summed_over l plan' w.at draft z k (not-true z q) in
+              let e = summed_over l plan' w.at draft z k q in
               over (within_fits (planned_field l) t ∙ rw went.0 (rw planned at e))
 
-          module _ (q : not z ≡ false) where
+          module _ (q : z ≡ true) where
             pub the_plan : PlanIn l plan' w.at
-            the_plan = summed_plan l plan' w.at draft z k (not-false z q)
+            the_plan = summed_plan l plan' w.at draft z k q
 
             fitting : within (mapped (planned_field l) t) ≡ true
             fitting = let e = the_plan.sum in within_fits (planned_field l) t ∙ rw went.0 (ap (λ (x : Forest Field). leb (name_bytes x) 32768) (sym planned) ∙ le-leb _ 32768 e)

@@ -24,4 +24,4 @@ verdict_full n k t r e d = go (fits t) refl
   where
     go : (f : Bool) → fits t ≡ f → fits t ≡ false
     go false q = q
-    go true q = let z : None ≡ Some (record { next = n; at = size t; count = siblings t; visited = size t + k }) = sym d ∙ (rw q at e) in absurd (let y : ◌≡◌ {A = ℕ} 0 1 = cc in omega arith)
+    go true q = let z : ◌≡◌ {A = Step} None (Some (record { next = n; at = size t; count = siblings t; visited = size t + k })) = sym d ∙ (rw q at e) in absurd (let y : ◌≡◌ {A = ℕ} 0 1 = cc in omega arith)
