@@ -6,7 +6,7 @@ use mathlib.Core.Option.{none}
 use Prim.Native.Nat.{ℕ, ◌≤◌, ◌<◌}
 use native.Mathlib.Omega.{arith}
 use borrow.Author.Tests.{not-false}
-use lib.ListN.{length, replicate, length-replicate}
+use lib.ListN.{length}
 use Rattle.paper.specs.Answer.{Answer, ok, refused, ◌>>=◌}
 use Rattle.paper.specs.Refusals.{roomy, limited, versioned, rebuilt_within}
 use Rattle.paper.specs.Forest.{Forest, siblings}
@@ -38,12 +38,11 @@ use Rattle.index_ids.specs.Table.{Fresh}
 use Rattle.index.specs.Index.{Readable, BaseIndexed}
 use Rattle.update_edits.specs.Marks.{Unmarked}
 use Rattle.update_rebuild.specs.declared.Given.{Given}
-use Rattle.update_rebuild.specs.Planned.{drops_in, unders_in}
+use Rattle.update_rebuild.specs.Planned.{drops_in, unders_in, DecisionsRoom}
 use Rattle.update_request.specs.Answers.{Opened}
 use Rattle.update_request.specs.Opened.{Forests, both_trees, readable, opening, opened, Opens}
 use Rattle.update_request.proofs.Opening.{open_refused}
 use Rattle.update_schema.specs.Answers.{Decided}
-use Rattle.update_schema.specs.Base.{DecisionsRoom}
 use Rattle.update_dropped.specs.Gathered.{row_ids}
 use Rattle.update_schema.specs.Additions.{parents_in}
 use Rattle.update_write.specs.Ending.{sounded, limited_sounded, Rebuildable, rebuilt_tree, visited_in, Ends}
@@ -57,7 +56,9 @@ result_of visits u = record { tree = u.tree; identifiers = []; last = turned u.l
 
 open_ok : (P : Type 0) (x : Answer Forests) (c k : ℕ) → Ok (c, k) ≡ opened x → ((base added : Forest Field) → x ≡ ok (both_trees base added) → c ≡ siblings base → k ≡ siblings added → P) → P
 unfolding opened
-open_ok P (ok v) c k e f = f v.base v.added refl (let z : c ≡ siblings v.base = cc in z) (let z : k ≡ siblings v.added = cc in z)
+open_ok P (ok v) c k e f =
+    let z : (c, k) ≡ (siblings v.base, siblings v.added) = cc in
+    f v.base v.added refl (ap (λ (w : ℕ × ℕ). w.0) z) (ap (λ (w : ℕ × ℕ). w.1) z)
 open_ok P (refused n l q) c k e f = let z : ◌≡◌ {A = ℕ} 0 1 = cc in absurd (omega arith)
 
 -- An end behind two tests is the end of their chain.
@@ -95,26 +96,32 @@ module _ (l : Trees) (lists : Lists) (version rr rn : ℕ) (w : Opened) (o : Ope
   own : Contents l lists through.passed.base through.passed.added
   own = contents l lists through.passed.base through.passed.added through.passed.read
 
-  pub test_asks : (plan : PlanRows) (index : List (List ℕ)) → Roomy plan → Fresh index → Readable l (slots l.records) × ((length lists.identifiers ≤ 256) × (Roomy plan × Fresh index))
-  test_asks plan index p i = (
-    record { limits = update_sized _ _ true (sym limits) refl; count = refl; decodes = rw own.base_read },
-    (identifiers_most _ _ true (sym limits) refl, (p, i)),
-  )
+  -- how much is lent
+  module _ (last : ℕ) (given : Given) (eg : (given ≡ given_in l lists last version) × (given.last < 4294967296)) (plan : PlanRows) where
+    pub test_asks : (index : List (List ℕ)) → Roomy plan → Fresh index → Readable l given.base × ((length lists.identifiers ≤ 256) × (Roomy plan × Fresh index))
+    test_asks index p i = (
+      rw (eg.0) (record { limits = update_sized _ _ true (sym limits) refl; count = refl; decodes = rw own.base_read }),
+      (identifiers_most _ _ true (sym limits) refl, (p, i)),
+    )
 
-  pub decide_asks : (x : Check) (plan plan' : PlanRows) (index : List (List ℕ)) → BaseIndexed l (slots l.records) lists.identifiers x plan plan' index → x ≡ (Ok tt)
-      → (g last : ℕ) → (g ≡ turned last) × (g < 4294967296) → (decisions : Decisions) → DecisionsRoom decisions → (marks : List ℕ) → Unmarked marks → Decidable l lists g columns plan' index decisions marks
-  decide_asks x plan plan' index b d g last eg decisions r marks u =
-      record {
-        passed = through.passed;
-        count = through.column_count;
-        low = eg.1;
-        is_plan = b.planned;
-        tree = b.tree;
-        is_sound = checked_ok (sound 0 _ (id_list lists.identifiers)) x b.answer d;
-        has_index = b.indexed d;
-        room = r;
-        unmarked = u;
-      }
+    pub decide_asks : (x : Check) (plan' : PlanRows) (index : List (List ℕ)) → BaseIndexed l given.base lists.identifiers x plan plan' index → x ≡ (Ok tt)
+        → (decisions : Decisions) → DecisionsRoom decisions → (marks : List ℕ) → Unmarked marks
+        → Decidable l lists given.last columns plan' index decisions marks × (given ≡ given_in l lists given.last given.version)
+    decide_asks x plan' index b₀ d decisions r marks u =
+        let b : BaseIndexed l (slots l.records) lists.identifiers x plan plan' index = rw (eg.0) at b₀ in (
+          record {
+            passed = through.passed;
+            count = through.column_count;
+            low = eg.1;
+            is_plan = b.planned;
+            tree = b.tree;
+            is_sound = checked_ok (sound 0 _ (id_list lists.identifiers)) x b.answer d;
+            has_index = b.indexed d;
+            room = r;
+            unmarked = u;
+          },
+          rw (eg.0) refl,
+        )
 
 -- ---- the entry
 
@@ -179,78 +186,90 @@ module _ (l : Trees) (lists : Lists) (last version : ℕ) (out text : List ℕ) 
       unfolding ◌>>=◌
       goes = entry_is ∙ rw (opened_as.opens last)
 
-      module _ (x : Check) (plan plan' : PlanRows) (index : List (List ℕ)) (b : BaseIndexed l (slots l.records) lists.identifiers x plan plan' index) where
+      module _ (given : Given) (eg : given ≡ given_in l lists (turned last) version) (x : Check) (plan plan' : PlanRows) (index : List (List ℕ)) (b₀ : BaseIndexed l given.base lists.identifiers x plan plan' index) where
+        b : BaseIndexed l (slots l.records) lists.identifiers x plan plan' index
+        b = rw eg at b₀
+
         pub test_stops : (y : Refusal) → x ≡ Err y → EndsSo (Err y) out text
         unfolding update planned ◌>>=◌
         test_stops y d =
             refuses _ y buffers
             (goes ∙ rw (ok_is (sym read_as.base_read ∙ b.tree), checked_refused (sound 0 _ (id_list lists.identifiers)) x y b.answer d))
 
-        module _ (g : ℕ) (eg : (g ≡ turned last) × (g < 4294967296)) where
-          goes_at : entry ≡ carried g base added
-          goes_at = goes ∙ ap (λ (z : ℕ). carried z base added) (sym eg.0)
+        module _ (y : Decided) (decisions' : Decisions) (marks' : List ℕ) (v : Settles l lists given.last given.version y decisions' marks') where
+          settles : Settles l lists (turned last) version y decisions' marks'
+          settles = rw eg at v
 
-          module _ (y : Decided) (decisions' : Decisions) (marks' : List ℕ) (v : Settles l lists g version y decisions' marks') where
-            pub decide_stops : (f : Refusal) → y ≡ Err f → EndsSo (Err f) out text
-            unfolding update ◌>>=◌
-            decide_stops f z = refuses _ f buffers (goes_at ∙ rw (v.refusal base added opened_as.passed.read f z))
+          pub decide_stops : (f : Refusal) → y ≡ Err f → EndsSo (Err f) out text
+          unfolding update ◌>>=◌
+          decide_stops f z = refuses _ f buffers (goes ∙ rw (settles.refusal base added opened_as.passed.read f z))
 
-            module _ (consumed : ℕ) (z : y ≡ Ok consumed) (given : Given) (eg' : given ≡ given_in l lists consumed version) where
-              the_plan : Settled l lists g version base added decisions' marks' consumed
-              the_plan = v.accepted base added opened_as.passed.read consumed z
+          module _ (consumed : ℕ) (z : y ≡ Ok consumed) where
+            the_plan : Settled l lists (turned last) version base added decisions' marks' consumed
+            the_plan = settles.accepted base added opened_as.passed.read consumed z
 
-              pub write_asks : Rebuildable l lists.identifiers given roots decisions' marks' plan' index out text
-              write_asks =
-                  let w = rooms_of (length out) (length text) opened_as.rooms in
-                  let f = deletions_most _ _ true (sym (opened_as.passed.limits 0 0 0 0)) refl in
-                  rw eg'
-                  record {
-                    base = base;
-                    added = added;
-                    base_limits = update_sized _ _ true (sym (opened_as.passed.limits 0 0 0 0)) refl;
-                    base_read = read_as.base_read;
-                    added_read = read_as.added_read;
-                    base_count = refl;
-                    added_count = refl;
-                    root_count = opened_as.root_count;
-                    few = identifiers_most _ _ true (sym (opened_as.passed.limits 0 0 0 0)) refl;
-                    few_drops = omega arith;
-                    resolved = the_plan.resolved;
-                    edits = the_plan.edits;
-                    carries = the_plan.carries;
-                    unmarked = v.unmarked;
-                    plan_room = b.roomy;
-                    index_room = b.rooms;
-                    records_room = w.0;
-                    names_room = w.1;
-                  }
+            -- how much is lent, with the last id that was consumed
+            abbrev counted : Given
+            counted =
+                record {
+                  base = given.base;
+                  added = given.added;
+                  deletions = given.deletions;
+                  additions = given.additions;
+                  edits = given.edits;
+                  last = consumed;
+                  version = given.version;
+                }
 
-              abbrev paper_tree : Forest Field
-              paper_tree =
-                  rebuilt id_of kind_of (row_ids (drops_in decisions') (entries 8 lists.deletions))
-                  (arrivals with_id g (parents_in (unders_in decisions') (entries 8 lists.additions)) added) none true (edited_tree the_plan.edits base)
+            counted_is : counted ≡ given_in l lists consumed version
+            counted_is = rw eg refl
 
-              tree_is : rebuilt_tree l (given_in l lists consumed version) decisions' the_plan.edits base ≡ paper_tree
-              unfolding rebuilt_tree
-              tree_is = rw the_plan.arrive
+            pub write_asks : Rebuildable l lists.identifiers counted roots decisions' marks' plan' index out text
+            write_asks =
+                let w = rooms_of (length out) (length text) opened_as.rooms in
+                let f = deletions_most _ _ true (sym (opened_as.passed.limits 0 0 0 0)) refl in
+                rw counted_is
+                record {
+                  base = base;
+                  added = added;
+                  base_limits = update_sized _ _ true (sym (opened_as.passed.limits 0 0 0 0)) refl;
+                  base_read = read_as.base_read;
+                  added_read = read_as.added_read;
+                  base_count = refl;
+                  added_count = refl;
+                  root_count = opened_as.root_count;
+                  few = identifiers_most _ _ true (sym (opened_as.passed.limits 0 0 0 0)) refl;
+                  few_drops = omega arith;
+                  resolved = the_plan.resolved;
+                  edits = the_plan.edits;
+                  carries = the_plan.carries;
+                  unmarked = settles.unmarked;
+                  plan_room = b.roomy;
+                  index_room = b.rooms;
+                  records_room = w.0;
+                  names_room = w.1;
+                }
 
-              -- what is counted is what the paper says of base and request
-              visits_are : visited_in (given_in l lists consumed version) decisions' base paper_tree ≡ visited (schema base g) (request_in (lent_in l lists version 0 0) added)
-              visits_are = visited_is (schema base g) (request_in (lent_in l lists version 0 0) added) _ the_plan.is
+            abbrev paper_tree : Forest Field
+            paper_tree =
+                rebuilt id_of kind_of (row_ids (drops_in decisions') (entries 8 lists.deletions))
+                (arrivals with_id (turned last) (parents_in (unders_in decisions') (entries 8 lists.additions)) added) none true (edited_tree the_plan.edits base)
 
-              carried_is : carried g base added
-                  ≡ limited_sounded paper_tree (id_list lists.identifiers) (turned consumed) (visited_in (given_in l lists consumed version) decisions' base paper_tree)
-              unfolding update carried_out limited_sounded sounded ◌>>=◌
-              carried_is =
-                  rw (visits_are, the_plan.is)
-                  (end_joined (rebuilt_within (within paper_tree)) (sound 4 paper_tree (id_list lists.identifiers)) (record { tree = paper_tree; last = consumed }) (λ u. ok (result_of _ u)))
+            tree_is : rebuilt_tree l (given_in l lists consumed version) decisions' the_plan.edits base ≡ paper_tree
+            unfolding rebuilt_tree
+            tree_is = rw the_plan.arrive
 
-              pub all_written : (r : Changed) (out' text' : List ℕ) → Ends l lists.identifiers given decisions' marks' out text r out' text' → EndsSo r out' text'
-              all_written r out' text' n =
-                  rw (goes_at ∙ carried_is) (rw tree_is at ((rw eg' at n).ends base read_as.base_read the_plan.edits the_plan.carries))
+            -- what is counted is what the paper says of base and request
+            visits_are : visited_in (given_in l lists consumed version) decisions' base paper_tree ≡ visited (schema base (turned last)) (request_in (lent_in l lists version 0 0) added)
+            visits_are = visited_is (schema base (turned last)) (request_in (lent_in l lists version 0 0) added) _ the_plan.is
 
--- The table of decisions, fresh.
-pub fresh_decisions : DecisionsRoom (replicate 4 (replicate 64 0))
-fresh_decisions =
-    let wide : length (replicate {A = ℕ} 64 0) ≡ 64 = length-replicate {A = ℕ} 64 0 in
-    record { rows = refl; drops_room = wide; unders_room = wide; firsts_room = wide; starts_room = wide }
+            carried_is : carried (turned last) base added
+                ≡ limited_sounded paper_tree (id_list lists.identifiers) (turned consumed) (visited_in (given_in l lists consumed version) decisions' base paper_tree)
+            unfolding update carried_out limited_sounded sounded ◌>>=◌
+            carried_is =
+                rw (visits_are, the_plan.is)
+                (end_joined (rebuilt_within (within paper_tree)) (sound 4 paper_tree (id_list lists.identifiers)) (record { tree = paper_tree; last = consumed }) (λ u. ok (result_of _ u)))
+
+            pub all_written : (r : Changed) (out' text' : List ℕ) → Ends l lists.identifiers counted decisions' marks' out text r out' text' → EndsSo r out' text'
+            all_written r out' text' n =
+                rw (goes ∙ carried_is) (rw tree_is at ((rw counted_is at n).ends base read_as.base_read the_plan.edits the_plan.carries))

@@ -36,10 +36,10 @@ use Rattle.tree.proofs.Steps.{part_is, reads_is}
 use Rattle.plan.specs.Table.{fields_in}
 use Rattle.update_edited.specs.Editing.{Editable, EditsLeft, EditsBy, EditsIn}
 use Rattle.update_rebuild.specs.declared.Given.{Given}
-use Rattle.update_rebuild.specs.Planned.{drops_in, unders_in, firsts_in, starts_in}
+use Rattle.update_rebuild.specs.Planned.{drops_in, unders_in, firsts_in, starts_in, DecisionsRoom}
 use Rattle.update_request.specs.Opened.{Forests, both_trees, readable}
 use Rattle.update_schema.specs.Answers.{Decided}
-use Rattle.update_schema.specs.Base.{BasedIn, Entries, DecisionsRoom}
+use Rattle.update_schema.specs.Base.{BasedIn, Entries}
 use Rattle.update_dropped.specs.Gathered.{row_ids}
 use Rattle.update_schema.specs.Additions.{ColumnsIn, parents_in, all_placed, Placings}
 use Rattle.update_schema.specs.Changes.{changes, Asked, Decides, DecidesIn}

@@ -20,11 +20,10 @@ use Rattle.plan.specs.Table.{PlanIn, fields_in}
 use Rattle.index.specs.Index.{Index}
 use Rattle.update_edits.specs.Marks.{Unmarked, Carries}
 use Rattle.update_rebuild.specs.declared.Given.{Given}
-use Rattle.update_rebuild.specs.Planned.{drops_in, unders_in, ResolvedIn, additions_in}
+use Rattle.update_rebuild.specs.Planned.{drops_in, unders_in, ResolvedIn, additions_in, DecisionsRoom}
 use Rattle.update_request.specs.Opened.{both_trees, readable}
 use Rattle.update_schema.specs.Answers.{Decided}
 use Rattle.std.specs.Prelude.{Ok, Err}
-use Rattle.update_schema.specs.Base.{DecisionsRoom}
 use Rattle.update_dropped.specs.Gathered.{row_ids}
 use Rattle.update_schema.specs.Additions.{parents_in}
 use Rattle.plan.specs.declared.PlanRows.{PlanRows}

@@ -12,25 +12,18 @@ ghost use Rattle.update.specs.Updating.{given_in, Decidable, Settles};
 use index::index_base;
 use index_ids::IndexRows;
 use plan::PlanRows;
-use record::{Lists, Refusal, Trees, turn};
+use record::{Lists, Refusal, Sizes, Trees, turn};
 use update_edited::edit_columns;
 use update_edits::Marks;
 use update_rebuild::{Decisions, Given};
-use update_request::{open_update};
-use update_schema::{decide_changes};
-use update_write::write_rebuilt;
+use update_request::open_update;
+use update_schema::decide_changes;
+use update_write::{Changeset, write_rebuilt};
 
-// The last id plus 2^31, from its bits, to count on in 64 bits.
-fn counted(last_id: u32) -> u64
-    ensures { (result ≡ turned last_id) × (result < 4294967296) }
-{
-    u64::from(turn(last_id))
-}
-
-// How much is lent, the last id, and the format version.
-fn given_of<'a>(trees: &Trees<'a>, lists: &Lists<'a>, last: u64, version: u32) -> Given
-    ensures { result ≡ given_in (trees_in trees.now) (lists_in lists.now)
-        last version }
+// How much is lent, the last id plus 2^31, from its bits, and the format version.
+fn given_of<'a>(trees: &Trees<'a>, lists: &Lists<'a>, last_id: u32, version: u32) -> Given
+    ensures { (result ≡ given_in (trees_in trees.now) (lists_in lists.now)
+        (turned last_id) version) × (result.last < 4294967296) }
 {
     Given {
         base: trees.records.len() / 24,
@@ -38,30 +31,29 @@ fn given_of<'a>(trees: &Trees<'a>, lists: &Lists<'a>, last: u64, version: u32) -
         deletions: lists.deletions.len() / 8,
         additions: lists.additions.len() / 8,
         edits: trees.edits.len() / 16,
-        last,
+        last: u64::from(turn(last_id)),
         version,
     }
 }
 
 // Decides all changes of a request that passed 1 to 9: refusal 10, then 11 to 18 and 22, then 23, 24, 13 and 26 of the edits; or what
-// the rebuild needs.
+// the rebuild needs, and the last id consumed.
 fn decide<'a>(
     trees: &Trees<'a>,
     lists: &Lists<'a>,
-    last: u64,
-    version: u32,
+    given: Given,
     columns: u32,
     plan: &PlanRows,
     index: &IndexRows,
     decisions: &mut Decisions,
     marks: &mut Marks,
 ) -> Result<u64, Refusal>
-    requires { Decidable (trees_in trees.now) (lists_in lists.now) last columns plan.now
-        index.now decisions.old marks.old }
-    ensures { Settles (trees_in trees.now) (lists_in lists.now) last
-        version result decisions.new marks.new }
+    requires { Decidable (trees_in trees.now) (lists_in lists.now) given.last columns plan.now
+        index.now decisions.old marks.old
+        × (given ≡ given_in (trees_in trees.now) (lists_in lists.now) given.last given.version) }
+    ensures { Settles (trees_in trees.now) (lists_in lists.now) given.last
+        given.version result decisions.new marks.new }
 {
-    let given = given_of(trees, lists, last, version);
     if columns as usize != given.additions {
         // refusal 10
         return Err(Refusal {
@@ -70,15 +62,9 @@ fn decide<'a>(
             place: 0,
         });
     }
-    match decide_changes(trees, lists, given, plan, index, decisions) {
-        Err(r) => Err(r),
-        Ok(consumed) => {
-            match edit_columns(trees, given, plan, index, decisions, marks) {
-                Err(r) => Err(r),
-                Ok(()) => Ok(consumed),
-            }
-        }
-    }
+    let consumed = decide_changes(trees, lists, given, plan, index, decisions)?;
+    edit_columns(trees, given, plan, index, decisions, marks)?;
+    Ok(consumed)
 }
 
 // Updates a schema: drops, adds and edits columns, rebuilds it. On a refusal no byte changes.
@@ -98,44 +84,39 @@ pub fn update<'a>(
         (out_records.new ∷ out_names.new ∷ []) }
 {
     // open
-    match open_update(trees, lists, version, out_records.len(), out_names.len()) {
-        Err(r) => Err(r),
-        Ok((roots, columns)) => {
-            let mut plan = PlanRows::empty();
-            let mut index = [[0u16; 1024]; 8];
-            // test
-            let n = trees.records.len() / 24;
-            index_base(trees, n, lists.identifiers, &mut plan, &mut index)?;
-            // decide
-            let last = counted(last_id);
-            let mut decisions = [[0u64; 64]; 4];
-            let mut marks = [0u16; 1024];
-            match decide(
-                trees,
-                lists,
-                last,
-                version,
-                columns,
-                &plan,
-                &index,
-                &mut decisions,
-                &mut marks,
-            ) {
-                Err(r) => Err(r),
-                // plan, test, write
-                Ok(consumed) => write_rebuilt(
-                    trees,
-                    lists.identifiers,
-                    given_of(trees, lists, consumed, version),
-                    roots,
-                    &decisions,
-                    &marks,
-                    &mut plan,
-                    &mut index,
-                    out_records,
-                    out_names,
-                ),
-            }
-        }
-    }
+    let (roots, columns) = open_update(trees, lists, version, out_records.len(), out_names.len())?;
+    let given = given_of(trees, lists, last_id, version);
+    // test
+    let mut plan = PlanRows::empty();
+    let mut index = [[0u16; 1024]; 8];
+    index_base(trees, given.base, lists.identifiers, &mut plan, &mut index)?;
+    // decide
+    let mut decisions = Decisions::none();
+    let mut marks = [0u16; 1024];
+    let last = decide(
+        trees,
+        lists,
+        given,
+        columns,
+        &plan,
+        &index,
+        &mut decisions,
+        &mut marks,
+    )?;
+    // plan, test, write
+    let changes = Changeset {
+        given: Given { last, ..given },
+        roots,
+        decisions: &decisions,
+        marks: &marks,
+    };
+    write_rebuilt(
+        trees,
+        lists.identifiers,
+        &changes,
+        &mut plan,
+        &mut index,
+        out_records,
+        out_names,
+    )
 }
