@@ -203,3 +203,5 @@ some_struct s j K b r ek e q = q ∙ rw (e, ek) (go (is_struct (kind_at s j)))
     go : (b : Bool) → cond b (code.Some (record { 0 = j })) code.None ≡ targeted (cond b (some j) none)
     go true = refl
     go false = refl
+
+pub ruleset resolving = (to_nothing, to_itself, to_element, to_value, map_kid)

@@ -33,6 +33,7 @@ fn value_at(recs: &[u8], n: usize, slot: usize) -> usize
 }
 
 // One step from a parent to the struct that receives the addition: itself, a list's element, a map's value; or nothing (refusal 16).
+#[tactic(auto, using(crate::proofs::Receiving::resolving))]
 pub fn resolve_parent_target(recs: &[u8], n: usize, slot: usize) -> Option<Slot>
     requires { Standing 0 recs.now n 15 slot × (ok_bytes recs.now slot ≡ true) }
     ensures { result ≡ targeted (receiving recs.now n slot) }
