@@ -38,12 +38,11 @@ use Rattle.index_names.proofs.Rising.{Climbs, climbs}
 use Rattle.index_names.proofs.Rows.{Rel, none_found, found_at, parent_at, line_nearest, id_row, full_row}
 use Rattle.plan.proofs.Walks.{all_there, all_numbered}
 use Rattle.index_names.proofs.Telling.{fulls_are}
-use Rattle.index_short_names.specs.declared.Sighting.{Sighting}
-use Rattle.index_short_names.specs.declared.Sighting.TheVariants as sighted
-use Rattle.index_turns.specs.Turn.{left_at, seen}
+use Rattle.index_turns.specs.Turn.{left_at}
 use Rattle.index_turns.proofs.Fitting.{left_in}
-use Rattle.index_short_names.specs.Seek.{seek_in, outcome, sighting}
-use Rattle.index_short_names.proofs.Seeking.{past_is, found_is}
+use Rattle.index_short_names.specs.Seek.{Sighting, seek_in, outcome, sighting}
+use Rattle.std.specs.ControlFlow.{break_value}
+use Rattle.laws.proofs.Basics.{none≢some}
 use Rattle.index_short_names.proofs.Entered as short
 use Rattle.index_short_names.proofs.Entered.{short_rel, dotless, found_in}
 use Rattle.index.specs.Index.{Falling, at_slot, found_slot, ById, ByParent, short_slot}
@@ -216,28 +215,29 @@ pub ruleset looks = (slot_small, found_below_room, finds_id, finds_no_id, finds_
 
 -- ---- the walk for a short name: `search shorts`
 
-module _ (l : Trees) (xs : List ℕ) (kids : ℕ → ℕ) (m : ℕ) (x : List ℕ) (w : Sighting) (ew : w ≡ sighting (name_in l xs) (kind_in l xs) Member (left_at x 0) (seen 0) (walk kids m 16 m 0)) where
+module _ (l : Trees) (xs : List ℕ) (kids : ℕ → ℕ) (m : ℕ) (x : List ℕ) (w : Sighting) (ew : w ≡ sighting (name_in l xs) (kind_in l xs) Member (left_at x 0) none (walk kids m 16 m 0)) (f : FoundSlot) (ef : f ≡ break_value w) where
   abbrev short_in : Option ℕ
   short_in = seek_in (name_in l xs) (kind_in l xs) Member (some x) none (trees_of kids m)
 
-  walked : w ≡ outcome (short_in) (walk kids m 16 m 0).next
-  unfolding sighting seen
-  walked = rw (left_in x 0 (omega arith)) at ew
+  broken : (o : Option ℕ) (n : ℕ) → held (break_value (outcome o n)) ≡ o
+  unfolding outcome
+  broken none n = refl
+  broken (some k) n = refl
 
-  pub short_none : (is : List ℕ) (j : Slot) → w ≡ sighted.Past j → None ≡ found_slot is (short_in)
-  unfolding found_slot
-  short_none is j e = rw (past_is (short_in) _ j (sym e ∙ walked)).0
+  walked : held f ≡ short_in
+  unfolding sighting
+  walked = let z : w ≡ outcome short_in (walk kids m 16 m 0).next = rw (left_in x 0 (omega arith)) at ew in ap held ef ∙ ap (λ (v : Sighting). held (break_value v)) z ∙ broken short_in _
 
-  module _ (k : Slot) (e : w ≡ sighted.Found k) where
-    pub short_some : (is : List ℕ) (r : Found) → r ≡ found_slot is (some k.0) → r ≡ found_slot is (short_in)
-    short_some is r h = h ∙ ap (found_slot is) (sym (found_is (short_in) _ k (sym e ∙ walked)))
+  pub short_told : (is : List ℕ) (r : Found) → r ≡ found_slot is (held f) → r ≡ found_slot is short_in
+  short_told is r h = h ∙ ap (found_slot is) walked
 
-    short_room : k.0 < m
-    short_room =
-        found_in (name_in l xs) (kind_in l xs) m k.0 (trees_of kids m) 0 Member (some x) none (all_numbered kids m) (omega (arith, all_there kids m))
-        (λ q. absurd (let z : ◌≡◌ {A = ℕ} 0 1 = cc in omega arith)) (found_is (short_in) _ k (sym e ∙ walked))
+  pub short_below : m ≤ 1024 → Below f
+  short_below h =
+      record {
+        small = λ s q.
+            let z = found_in (name_in l xs) (kind_in l xs) m s.0 (trees_of kids m) 0 Member (some x) none (all_numbered kids m) (omega (arith, all_there kids m))
+            (λ e. absurd (none≢some e)) (sym walked ∙ ap held q) in
+            omega arith;
+      }
 
-    pub short_below : m ≤ 1024 → Below (Some k)
-    short_below h = let z = short_room in record { small = λ s q. let y : s.0 ≡ k.0 = ap (λ (x : Slot). x.0) (let v : s ≡ k = cc in v) in omega arith }
-
-pub ruleset shorts = (short_none, short_some, short_below)
+pub ruleset shorts = (short_told, short_below)

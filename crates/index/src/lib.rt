@@ -30,7 +30,7 @@ use index_full_names::{check_names, find_full};
 use index_identifiers::check_identifiers;
 use index_ids::{IndexRows, UPS, cell, check_ids};
 use index_names::{Prefix, mark_row};
-use index_short_names::{Sighting, seek};
+use index_short_names::seek;
 use paper::Role;
 use plan::{PlanRows, take_base};
 use record::{FieldId, Refusal, Siblings, Slot, Trees, has_dot};
@@ -106,10 +106,7 @@ pub fn with_id(plan: &PlanRows, found: Option<Slot>) -> Option<(FieldId, Slot)>
     requires { Below found }
     ensures { result ≡ found_slot (numbers plan.now) (held found) }
 {
-    let Some(slot) = found else {
-        return None;
-    };
-    let k = slot.0;
+    let Slot(k) = found?;
     found_at(plan.numbers[k], k)
 }
 
@@ -118,8 +115,7 @@ pub fn look_id(plan: &PlanRows, m: usize, index: &IndexRows, id: FieldId) -> Opt
     requires { (m ≤ 1024) × IdsChained (numbers plan.now) index.now m }
     ensures { ById plan.now m id.0 result }
 {
-    let want = id.0;
-    with_id(plan, index_ids::find_id(plan, index, m, want))
+    with_id(plan, index_ids::find_id(plan, index, m, id.0))
 }
 
 // The record above the one that has the id.
@@ -133,12 +129,7 @@ pub fn look_parent(
         × Falling m (ups_in index.now)) }
     ensures { ByParent plan.now index.now m id.0 result }
 {
-    let want = id.0;
-    let found = index_ids::find_id(plan, index, m, want);
-    let Some(slot) = found else {
-        return None;
-    };
-    let k = slot.0;
+    let Slot(k) = index_ids::find_id(plan, index, m, id.0)?;
     let up = cell(index, UPS, k);
     if up == 0 {
         return None;
@@ -163,11 +154,8 @@ fn look_short<'a>(
         count: m as u32,
         levels: 16,
     };
-    let short = seek(trees, plan, m, row, Role::Member, name, 0, 0);
-    let Sighting::Found(slot) = short else {
-        return None;
-    };
-    with_id(plan, Some(slot))
+    let short = seek(trees, plan, m, row, Role::Member, name, 0, None);
+    with_id(plan, short.break_value())
 }
 
 // The record that has the full name; else the first entered that has the short name, which has a dot where it is no full name.

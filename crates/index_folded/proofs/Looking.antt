@@ -3,10 +3,9 @@ use mathlib.Core.Path.{◌≡◌, refl, sym, ap, subst, ◌∙◌}
 use mathlib.Core.Bool.{Bool, true, false, not, cond, true≢false}
 use mathlib.Core.List.{List, [], ◌∷◌}
 use mathlib.Core.Option.{some}
-use Prim.Native.Nat.{ℕ, zero, suc, ◌<◌, ◌≤◌}
+use Prim.Native.Nat.{ℕ, ◌<◌, ◌≤◌}
 use native.Mathlib.Omega.{arith}
-use borrow.Author.Tests.{ne_eqb, not-true, not-false}
-use lib.Dec.{eqb}
+use borrow.Author.Tests.{not-true, not-false}
 use Rattle.paper.specs.declared.Kind.{Kind}
 use Rattle.paper.specs.declared.Role.TheVariants.{Member}
 use Rattle.paper.specs.Answer.{◌>>=◌, among}
@@ -19,8 +18,9 @@ use Rattle.laws.proofs.Folding.{folded_dots}
 use Rattle.record.specs.declared.Slot.{Slot}
 use Rattle.record.specs.declared.Refusal.{Refusal}
 use Rattle.record.specs.Answers.{Check, Found, FoundSlot, Sought}
-use Rattle.std.specs.Prelude.{Ok, Err}
-use Rattle.record.specs.Says.{found_row, looked, slot_before}
+use Rattle.std.specs.Prelude.{Ok, Err, Some, None}
+use Rattle.std.proofs.Common.{Continue, Break}
+use Rattle.record.specs.Says.{found_row, looked}
 use Rattle.record.proofs.Testing.{refused_as}
 use Rattle.record.specs.Trees.{Trees, alone}
 use Rattle.plan.specs.Named.{name_in, kind_in}
@@ -30,63 +30,48 @@ use Rattle.plan.specs.Walk.{walk, trees_of}
 use Rattle.plan.proofs.Standing.{field_in, field_id, plan_is, plan_sources}
 use Rattle.plan.proofs.Walks.{all_there, all_numbered}
 use Rattle.index_ids.specs.Chain.{Below, held}
-use Rattle.index_turns.specs.Turn.{left_at, seen}
+use Rattle.index_turns.specs.Turn.{left_at}
 use Rattle.index_turns.proofs.Fitting.{left_in}
 use Rattle.index.specs.Index.{found_slot}
 use Rattle.index.proofs.Opening.{Opened, reading}
-use Rattle.index_folded_names.specs.declared.Met.{Met}
-use Rattle.index_folded_names.specs.declared.Met.TheVariants.{Twice, Past}
-use Rattle.index_folded_names.specs.Met.{matched, met, meeting}
+use Rattle.index_folded_names.specs.Met.{Met, matched, met, meeting}
 use Rattle.index_folded_names.proofs.Matching.{At, done, more, matching_at, All, matched_below, dotless}
 use Rattle.index_folded.specs.Told.{is_none, Small, told}
 use Rattle.plan.specs.declared.PlanRows.{PlanRows}
 
 -- ---- one function's answer
 
-pub none_twice : (w : Met) (k : Slot) → w ≡ Twice k → false ≡ is_none w
-none_twice w k e = rw e
-
-pub none_past : (w : Met) (j : Slot) (one : ℕ) (b : Bool) → w ≡ Past j one → b ≡ eqb one 0 → b ≡ is_none w
-none_past w j one b e h = rw e h
-
-pub small_second : (w : Met) (k : Slot) → Small w → w ≡ Twice k → k.0 < 1024
+pub small_second : (w : Met) (k : Slot) → Small w → w ≡ Break k → k.0 < 1024
 small_second w k h e = subst Small e h
 
-pub small_one : (w : Met) (j : Slot) (one : ℕ) (s : FoundSlot) → Small w → w ≡ Past j one → s ≡ slot_before one → Below s
-unfolding slot_before
-small_one w j one s h e q = go one s (subst Small e h) q
-  where
-    go : (i : ℕ) (s : FoundSlot) → i ≤ 1024 → s ≡ slot_before i → Below s
-    go zero s l q = record { small = λ t z. absurd (let y : ◌≡◌ {A = ℕ} 0 1 = cc in omega arith) }
-    go (suc i) s l q = record { small = λ t z. let y : t.0 ≡ i = ap (λ (v : Slot). v.0) (let u : t ≡ record { 0 = i } = cc in u) in omega arith }
+pub small_one : (w : Met) (p : Slot × FoundSlot) → Small w → w ≡ Continue p → Below p.1
+small_one w p h e = subst Small e h
 
-held_is : (i : ℕ) → held (slot_before i) ≡ seen i
-unfolding slot_before seen
-held_is zero = refl
-held_is (suc i) = refl
-
-pub tell_second : (ids : List ℕ) (w : Met) (k : Slot) → w ≡ Twice k → Err (record { number = 21; list = 0; place = k.0 }) ≡ told ids w
+pub tell_second : (ids : List ℕ) (w : Met) (k : Slot) → w ≡ Break k → Err (record { number = 21; list = 0; place = k.0 }) ≡ told ids w
 unfolding told
 tell_second ids w k e = rw e
 
-pub tell_one : (ids : List ℕ) (w : Met) (j : Slot) (one : ℕ) (s : FoundSlot) (f : Found) → w ≡ Past j one → s ≡ slot_before one → f ≡ found_slot ids (held s) → Ok f ≡ told ids w
+pub tell_one : (ids : List ℕ) (w : Met) (p : Slot × FoundSlot) (f : Found) → w ≡ Continue p → f ≡ found_slot ids (held p.1) → Ok f ≡ told ids w
 unfolding told
-tell_one ids w j one s f e q h = rw (e, h, q, held_is one)
+tell_one ids w p f e h = rw (e, h)
 
-pub ruleset telling = (none_twice, none_past, small_second, small_one, tell_second, tell_one)
+pub ruleset telling = (small_second, small_one, tell_second, tell_one)
 
 -- ---- lists of matches
 
-none_is : (ks : List ℕ) (n : ℕ) → is_none (met 0 ks n) ≡ true → ks ≡ []
+none_is : (ks : List ℕ) (n : ℕ) → is_none (met None ks n) ≡ true → ks ≡ []
 unfolding met
 none_is [] n e = refl
-none_is (k ∷ []) n e = absurd (true≢false (sym e ∙ ne_eqb (suc k) 0 (λ z. omega arith)))
+none_is (k ∷ []) n e = absurd (true≢false (sym e))
 none_is (k ∷ j ∷ ks) n e = absurd (true≢false (sym e))
 
-small_met : (ks : List ℕ) (b n : ℕ) → b ≤ 1024 → All b ks → Small (met 0 ks n)
+below_one : (k : ℕ) → k < 1024 → Below (Some (record { 0 = k }))
+below_one k l = record { small = λ t z. let y : record { 0 = k } ≡ t = cc in subst (λ (v : Slot). v.0 < 1024) y l }
+
+small_met : (ks : List ℕ) (b n : ℕ) → b ≤ 1024 → All b ks → Small (met None ks n)
 unfolding met
-small_met [] b n l h = omega arith
-small_met (k ∷ []) b n l h = let z = h.0 in omega arith
+small_met [] b n l h = record { small = λ t z. absurd (let y : ◌≡◌ {A = ℕ} 0 1 = cc in omega arith) }
+small_met (k ∷ []) b n l h = below_one k (let z = h.0 in omega arith)
 small_met (k ∷ j ∷ ks) b n l h = let z = h.1.0 in omega arith
 
 module _ (l : Trees) (xs is ks : List ℕ) (m : ℕ) (p : Plan l xs is ks m) (x : List ℕ) where
@@ -103,9 +88,9 @@ module _ (l : Trees) (xs is ks : List ℕ) (m : ℕ) (p : Plan l xs is ks m) (x 
   slots short = matched (λ k. folded (name_in l xs k)) (kind_in l xs) short Member (some (folded x)) places
 
   abbrev walked : Bool → Met
-  walked short = meeting (λ k. folded (name_in l xs k)) (kind_in l xs) short Member (left_at (folded x) 0) 0 (walk (kids_in ks) m 16 m 0)
+  walked short = meeting (λ k. folded (name_in l xs k)) (kind_in l xs) short Member (left_at (folded x) 0) None (walk (kids_in ks) m 16 m 0)
 
-  walked_is : (short : Bool) → walked short ≡ met 0 (slots short) (walk (kids_in ks) m 16 m 0).next
+  walked_is : (short : Bool) → walked short ≡ met None (slots short) (walk (kids_in ks) m 16 m 0).next
   unfolding meeting
   walked_is short = rw (left_in (folded x) 0 (omega arith))
 
@@ -127,14 +112,14 @@ module _ (l : Trees) (xs is ks : List ℕ) (m : ℕ) (p : Plan l xs is ks m) (x 
       (subst (λ (s : (ℕ → List ℕ) × (ℕ → Kind)). At fld (matching (λ r. cond short r.short r.full) x (rows top (mapped fld places))) (matched (λ k. folded (s.0 k)) s.1 short Member (some (folded x)) places)) parts
       (matching_at fld short x places top refl refl (all_numbered (kids_in ks) m)))
 
-  told_is : (rs : List Row) (ss : List ℕ) (n : ℕ) → At fld rs ss → told is (met 0 ss n) ≡ looked (only rs)
-  unfolding told met looked found_row found_slot seen
+  told_is : (rs : List Row) (ss : List ℕ) (n : ℕ) → At fld rs ss → told is (met None ss n) ≡ looked (only rs)
+  unfolding told met looked found_row found_slot
   told_is [] (k ∷ ss) n x3 = elim x3 [ ]
   told_is (r ∷ rs) [] n x4 = elim x4 [ ]
   told_is [] [] n done = refl
   told_is (r ∷ rs) (k ∷ ss) n (more e f a) = go rs ss a
     where
-      go : (rs : List Row) (ss : List ℕ) → At fld rs ss → told is (met (suc k) ss n) ≡ looked (only (r ∷ rs))
+      go : (rs : List Row) (ss : List ℕ) → At fld rs ss → told is (met (Some (record { 0 = k })) ss n) ≡ looked (only (r ∷ rs))
       go [] (j ∷ ss) x7 = elim x7 [ ]
       go (q ∷ rs) [] x8 = elim x8 [ ]
       go [] [] done = rw (e, f, field_id l xs is k)
@@ -155,7 +140,7 @@ module _ (l : Trees) (xs is ks : List ℕ) (m : ℕ) (p : Plan l xs is ks m) (x 
     unfolding look_folded met
     full_told r q er = er ∙ ap (told is) ew ∙ answers false ∙ go (kept false) (slots false) (kept_at false) (sym (ap is_none (ew ∙ walked_is false)) ∙ sym eb ∙ not-true b q)
       where
-        go : (rs : List Row) (ss : List ℕ) → At fld rs ss → is_none (met 0 ss (walk (kids_in ks) m 16 m 0).next) ≡ false → looked (only rs) ≡ looked (only (or_short rs (kept true)))
+        go : (rs : List Row) (ss : List ℕ) → At fld rs ss → is_none (met None ss (walk (kids_in ks) m 16 m 0).next) ≡ false → looked (only rs) ≡ looked (only (or_short rs (kept true)))
         go [] (k ∷ ss) x5 e = elim x5 [ ]
         go (r ∷ rs) [] x5 e = elim x5 [ ]
         go [] [] done e = absurd (let z : ◌≡◌ {A = ℕ} 0 1 = cc in omega arith)
@@ -172,7 +157,7 @@ module _ (l : Trees) (xs is ks : List ℕ) (m : ℕ) (p : Plan l xs is ks m) (x 
     pub root_told : (d : Bool) (r : Sought) → not b ≡ false → d ≡ among 46 x → not d ≡ true → r ≡ told is w → r ≡ looked (look_folded tree x)
     root_told d r q ed t er =
         let s : slots true ≡ [] = dotless (λ k. folded (name_in l xs k)) (kind_in l xs) places (folded x) (folded_dots x ∙ sym ed ∙ not-true d t) (no_full q) in
-        er ∙ ap (told is) (ew ∙ walked_is false) ∙ ap (λ z. told is (met 0 z (walk (kids_in ks) m 16 m 0).next)) (no_full q ∙ sym s)
+        er ∙ ap (told is) (ew ∙ walked_is false) ∙ ap (λ z. told is (met None z (walk (kids_in ks) m 16 m 0).next)) (no_full q ∙ sym s)
         ∙ sym (ap (told is) (walked_is true)) ∙ answers true ∙ to_short q
 
     pub short_told : (v : Met) (r : Sought) → not b ≡ false → v ≡ walked true → r ≡ told is v → r ≡ looked (look_folded tree x)

@@ -13,14 +13,22 @@ ghost use Rattle.index_folded_names.specs.Met.{level};
 ghost use Rattle.index_folded.specs.Told.{is_none, Small, told};
 
 use index::{index_base, with_id};
-use index_folded_names::{Met, meet_row};
+use index_folded_names::meet_row;
+use index_turns::Inside;
 use paper::Role;
 use plan::PlanRows;
-use record::{FieldId, Refusal, Siblings, Slot, Trees, has_dot, slot_before};
+use record::{FieldId, Refusal, Siblings, Slot, Trees, has_dot};
+use std::ops::ControlFlow;
 use tree::read_tree;
 
 // All rows, by their full names or by their short ones.
-fn meet_all<'a>(trees: &Trees<'a>, plan: &PlanRows, m: usize, short: bool, name: &[u8]) -> Met
+fn meet_all<'a>(
+    trees: &Trees<'a>,
+    plan: &PlanRows,
+    m: usize,
+    short: bool,
+    name: &[u8],
+) -> ControlFlow<Slot, (Slot, Option<Slot>)>
     requires { SourcesIn (trees_in trees.now) plan.now m }
     ensures { result ≡ level (trees_in trees.now) plan.now m short
         name.now }
@@ -30,30 +38,38 @@ fn meet_all<'a>(trees: &Trees<'a>, plan: &PlanRows, m: usize, short: bool, name:
         count: m as u32,
         levels: 16,
     };
-    meet_row(trees, plan, m, row, Role::Member, short, name, 0, 0)
+    let roots = Inside {
+        role: Role::Member,
+        pos: 0,
+    };
+    meet_row(trees, plan, m, row, roots, short, name, None)
 }
 
-fn none_met(met: Met) -> bool
+// Whether a walk met no match.
+fn none_met(met: ControlFlow<Slot, (Slot, Option<Slot>)>) -> bool
     ensures { result ≡ is_none met }
 {
     match met {
-        Met::Twice(_) => false,
-        Met::Past(_, one) => one == 0,
+        ControlFlow::Break(_) => false,
+        ControlFlow::Continue((_, one)) => one.is_none(),
     }
 }
 
 // The one match with its id, or nothing; or refusal 21, with the slot of the second.
-fn tell(plan: &PlanRows, met: Met) -> Result<Option<(FieldId, Slot)>, Refusal>
+fn tell(
+    plan: &PlanRows,
+    met: ControlFlow<Slot, (Slot, Option<Slot>)>,
+) -> Result<Option<(FieldId, Slot)>, Refusal>
     requires { Small met }
     ensures { result ≡ told (numbers plan.now) met }
 {
     match met {
-        Met::Twice(second) => Err(Refusal {
+        ControlFlow::Break(second) => Err(Refusal {
             number: 21,
             list: 0,
             place: second.0 as u32,
         }),
-        Met::Past(_, one) => Ok(with_id(plan, slot_before(one))),
+        ControlFlow::Continue((_, one)) => Ok(with_id(plan, one)),
     }
 }
 

@@ -1,22 +1,23 @@
--- The walk that forgets case: each turn of the loop over siblings leaves what is to be answered to the rest of the row. `search meets`.
+-- The walk that forgets case: each turn of the loop over siblings leaves what is to be answered to the rest of the row.
 use mathlib.Core.Path.{◌≡◌, refl, sym, ap, ◌∙◌}
 use mathlib.Core.Bool.{Bool, true, false, not, ◌&&◌, cond, true≢false}
+use mathlib.Core.Logic.{◌⊎◌, inl, inr}
 use mathlib.Core.List.{List, [], ◌∷◌, ◌++◌, append-nil}
 use mathlib.Core.Option.{Option, none, some}
-use Prim.Native.Nat.{ℕ, zero, suc, ◌+◌, ◌-◌, ◌<◌, ◌≤◌}
+use Prim.Native.Nat.{ℕ, ◌+◌, ◌-◌, ◌<◌, ◌≤◌}
 use native.Mathlib.Omega.{arith}
-use borrow.Author.Tests.{ltb-true, lt-ltb, eqb-true, eqb-false, not-true}
-use lib.Dec.{eqb, ltb}
+use borrow.Author.Tests.{eqb-true, eqb-false, not-true}
+use lib.Dec.{eqb}
 use lib.ListN.{length, drop, length-drop}
 use Rattle.paper.specs.declared.Kind.{Kind}
 use Rattle.paper.specs.declared.Role.{Role}
-use Rattle.paper.specs.Answer.{or_else, same}
+use Rattle.paper.specs.Answer.{same}
 use Rattle.paper.specs.Forest.{Forest, empty, node}
 use Rattle.paper.specs.Field.{first, after}
 use Rattle.paper.specs.Folded.{folded}
 use Rattle.paper.specs.Layout.{Part, nothing}
 use Rattle.paper.specs.Rows.{skipped}
-use Rattle.laws.proofs.Basics.{none≢some, some_is, or_else_none}
+use Rattle.laws.proofs.Basics.{none≢some, some_is}
 use Rattle.laws.proofs.Folding.{folded_length}
 use Rattle.laws.proofs.RoundTrip.{both}
 use Rattle.plan.specs.Walk.{walk}
@@ -25,77 +26,81 @@ use Rattle.record.specs.declared.Slot.{Slot}
 use Rattle.record.proofs.Comparing.{same_apart}
 use Rattle.record.specs.Trees.{Trees}
 use Rattle.plan.specs.Named.{names_in, kinds_in}
-use Rattle.index_ids.specs.Chain.{pick}
+use Rattle.record.specs.Answers.{FoundSlot}
+use Rattle.std.specs.Prelude.{Some, None}
+use Rattle.std.specs.Option.{is_some, option_or}
+use Rattle.std.proofs.Common.{Continue, Break}
+use Rattle.index_ids.specs.Chain.{held}
+use Rattle.index_turns.specs.declared.Fit.{Fit}
 use Rattle.index_turns.specs.declared.Inside.{Inside}
-use Rattle.index_turns.specs.Turn.{spelt, left_is, left_at, fits, inside, own, Entered, seen}
+use Rattle.index_turns.specs.Turn.{spelt, left_is, left_at, fits, fit_number, inside, own, own_slot, Entered}
 use Rattle.index_turns.proofs.Fitting.{left_in, left_out, left_inside, mine}
-use Rattle.index_folded_names.specs.declared.Met.{Met}
-use Rattle.index_folded_names.specs.declared.Met.TheVariants.{Twice, Past}
-use Rattle.index_folded_names.specs.Met.{matched, met, meeting}
+use Rattle.index_folded_names.specs.Met.{Met, matched, met, meeting}
 use Rattle.plan.specs.declared.PlanRows.{PlanRows}
 
 -- The two halves of a step, where case is forgotten.
-pub own_met : (nm x : List ℕ) (pos k f : ℕ) → pos ≤ length x → f ≡ fits (spelt true nm) (drop pos (spelt true x)) → (me : ℕ) → me ≡ pick (eqb f 1) (k + 1) 0 → seen me ≡ own (left_at (folded x) pos) (folded nm) k
+pub own_met : (nm x : List ℕ) (pos k : ℕ) (f : Fit) → pos ≤ length x → fit_number f ≡ fits (spelt true nm) (drop pos (spelt true x)) → (me : FoundSlot) → me ≡ own_slot (fit_number f) k → held me ≡ own (left_at (folded x) pos) (folded nm) k
 unfolding spelt
-own_met nm x pos k f q ef me em = mine nm x pos f true q ef k me em
+own_met nm x pos k f q ef me em = mine nm x pos (fit_number f) true q ef k me em
 
-pub left_met : (l : Trees) (plan : PlanRows) (x : List ℕ) (pos k f : ℕ) → pos ≤ length x → f ≡ fits (spelt true (names_in l plan k)) (drop pos (spelt true x)) → (short : Bool) (role : Role) (i : Inside) → Entered l plan short role f x pos k i → left_at (folded x) i.pos ≡ inside (short && skipped role (kinds_in l plan k)) (left_at (folded x) pos) (folded (names_in l plan k))
+pub left_met : (l : Trees) (plan : PlanRows) (x : List ℕ) (pos k : ℕ) (f : Fit) → pos ≤ length x → fit_number f ≡ fits (spelt true (names_in l plan k)) (drop pos (spelt true x)) → (short : Bool) (role : Role) (i : Inside) → Entered l plan short role (fit_number f) x pos k i → left_at (folded x) i.pos ≡ inside (short && skipped role (kinds_in l plan k)) (left_at (folded x) pos) (folded (names_in l plan k))
 unfolding spelt
-left_met l plan x pos k f q ef short role i ei = left_inside (names_in l plan k) x pos f true q ef (short && skipped role (kinds_in l plan k)) i.pos ei.goes
+left_met l plan x pos k f q ef short role i ei = left_inside (names_in l plan k) x pos (fit_number f) true q ef (short && skipped role (kinds_in l plan k)) i.pos ei.goes
 
 pub missed : (m pos : ℕ) (nm y x : List ℕ) → nm ≡ y → (eqb m 0 && not (eqb (length nm) (length x - pos))) ≡ (eqb m 0 && not (eqb (length y) (length x - pos)))
 missed m pos nm y x e = rw e
 
 -- ---- matches behind matches
 
-twice_is : (j : Slot) (next : Slot) (one : ℕ) → Twice j ≡ Past next one → ⊥
+twice_is : (j next : Slot) (one : FoundSlot) → ◌≡◌ {A = Met} (Break j) (Continue (next, one)) → ⊥
 twice_is j next one e = let z : ◌≡◌ {A = ℕ} 0 1 = cc in omega arith
 
-pub met_twice : (a b : List ℕ) (one n n' : ℕ) (j : Slot) → met one a n ≡ Twice j → met one (a ++ b) n' ≡ Twice j
+pub met_twice : (a b : List ℕ) (one : FoundSlot) (n n' : ℕ) (j : Slot) → met one a n ≡ Break j → met one (a ++ b) n' ≡ Break j
 unfolding met
 met_twice [] b one n n' j e = absurd (twice_is j (record { 0 = n }) one (sym e))
-met_twice (k ∷ a) b zero n n' j e = met_twice a b (suc k) n n' j e
-met_twice (k ∷ a) b (suc i) n n' j e = e
+met_twice (k ∷ a) b None n n' j e = met_twice a b (Some (record { 0 = k })) n n' j e
+met_twice (k ∷ a) b (Some i) n n' j e = e
 
-pub met_past : (a b : List ℕ) (one n n' : ℕ) (j : Slot) (i : ℕ) → met one a n ≡ Past j i → (met one (a ++ b) n' ≡ met i b n') × (j.0 ≡ n)
+pub met_past : (a b : List ℕ) (one : FoundSlot) (n n' : ℕ) (j : Slot) (i : FoundSlot) → met one a n ≡ Continue (j, i) → (met one (a ++ b) n' ≡ met i b n') × (j.0 ≡ n)
 unfolding met
 met_past [] b one n n' j i e =
-    let z : one ≡ i = cc in
-    let y : j ≡ record { 0 = n } = cc in
-    (ap (λ (v : ℕ). met v b n') z, ap (λ (v : Slot). v.0) y)
-met_past (k ∷ a) b zero n n' j i e = met_past a b (suc k) n n' j i e
-met_past (k ∷ a) b (suc f) n n' j i e = absurd (twice_is (record { 0 = k }) j i e)
+    let z : ◌≡◌ {A = Slot × FoundSlot} (record { 0 = n }, one) (j, i) = cc in
+    (ap (λ (v : Slot × FoundSlot). met v.1 b n') z, sym (ap (λ (v : Slot × FoundSlot). v.0.0) z))
+met_past (k ∷ a) b None n n' j i e = met_past a b (Some (record { 0 = k })) n n' j i e
+met_past (k ∷ a) b (Some f) n n' j i e = absurd (twice_is (record { 0 = k }) j i e)
 
 -- ---- a record's own match
 
-place_is : (i j : ℕ) → seen i ≡ seen j → i ≡ j
-unfolding seen
-place_is zero zero e = refl
-place_is zero (suc j) e = absurd (none≢some e)
-place_is (suc i) zero e = absurd (none≢some (sym e))
-place_is (suc i) (suc j) e = ap suc (some_is e)
+held_is : (v : FoundSlot) (k : ℕ) → held v ≡ some k → v ≡ Some (record { 0 = k })
+held_is None k e = absurd (none≢some e)
+held_is (Some s) k e = ap (λ (i : ℕ). Some (record { 0 = i })) (some_is e)
 
-module _ (k one me : ℕ) (rest : List ℕ) (n : ℕ) where
-  own_twice : (b : Bool) → seen me ≡ cond b (some k) none → 0 < one → 0 < me → met one (cond b (k ∷ rest) rest) n ≡ Twice (record { 0 = k })
-  unfolding met seen
+held_none : (v : FoundSlot) → held v ≡ none → v ≡ None
+held_none None e = refl
+held_none (Some s) e = absurd (none≢some (sym e))
+
+module _ (k : ℕ) (one me : FoundSlot) (rest : List ℕ) (n : ℕ) where
+  own_twice : (b : Bool) → held me ≡ cond b (some k) none → is_some one ≡ true → is_some me ≡ true → met one (cond b (k ∷ rest) rest) n ≡ Break (record { 0 = k })
+  unfolding met
   own_twice true e l h = go one l
     where
-      go : (i : ℕ) → 0 < i → met i (k ∷ rest) n ≡ Twice (record { 0 = k })
-      go zero l = absurd (omega arith)
-      go (suc i) l = refl
-  own_twice false e l h = absurd (let z : me ≡ 0 = place_is me 0 e in omega arith)
+      go : (i : FoundSlot) → is_some i ≡ true → met i (k ∷ rest) n ≡ Break (record { 0 = k })
+      go None l = absurd (true≢false (sym l))
+      go (Some s) l = refl
+  own_twice false e l h = absurd (true≢false (sym h ∙ ap is_some (held_none me e)))
 
-  own_on : (b : Bool) (i : ℕ) → seen me ≡ cond b (some k) none → ((0 < one) × (0 < me) → ⊥) → seen i ≡ or_else (seen one) (seen me) → met one (cond b (k ∷ rest) rest) n ≡ met i rest n
-  unfolding met seen
-  own_on true i e h q = go one h q
+  own_on : (b : Bool) → held me ≡ cond b (some k) none → (is_some one && is_some me) ≡ false → met one (cond b (k ∷ rest) rest) n ≡ met (option_or one me) rest n
+  unfolding met
+  own_on true e h = rw (held_is me k e) (go one (rw (held_is me k e) at h))
     where
-      me_is : me ≡ suc k
-      me_is = place_is me (suc k) e
-
-      go : (j : ℕ) → ((0 < j) × (0 < me) → ⊥) → seen i ≡ or_else (seen j) (seen me) → met j (k ∷ rest) n ≡ met i rest n
-      go zero h q = ap (λ (v : ℕ). met v rest n) (sym (place_is i (suc k) (q ∙ ap seen me_is)))
-      go (suc j) h q = absurd (h (omega arith, let z = me_is in omega arith))
-  own_on false i e h q = ap (λ (v : ℕ). met v rest n) (sym (place_is i one (q ∙ ap (or_else (seen one)) e ∙ or_else_none (seen one))))
+      go : (i : FoundSlot) → (is_some i && true) ≡ false → met i (k ∷ rest) n ≡ met (option_or i (Some (record { 0 = k }))) rest n
+      go None h = refl
+      go (Some s) h = absurd (true≢false h)
+  own_on false e h = rw (held_none me e) (go one)
+    where
+      go : (i : FoundSlot) → met i rest n ≡ met (option_or i None) rest n
+      go None = refl
+      go (Some s) = refl
 
 -- ---- nothing left to look for
 
@@ -110,31 +115,28 @@ module _ (name : ℕ → List ℕ) (kind : ℕ → Kind) (short : Bool) where
       in_nothing true = refl
       in_nothing false = refl
 
-  nothing_met : (role : Role) (left : Option (List ℕ)) (one : ℕ) (p : Part) (k : ℕ) → p ≡ nothing k → Past (record { 0 = k }) one ≡ meeting name kind short role left one p
+  nothing_met : (role : Role) (left : Option (List ℕ)) (one : FoundSlot) (p : Part) (k : ℕ) → p ≡ nothing k → Continue ((record { 0 = k }), one) ≡ meeting name kind short role left one p
   unfolding matched met meeting
   nothing_met role left one p k e = rw e
 
   -- ---- the loop over the siblings; W is the whole answer
 
-  module _ (kids : ℕ → ℕ) (x : List ℕ) (n lv c k : ℕ) (role : Role) (pos one : ℕ) where
-    meet_out : (j : ℕ) → length x < pos → j ≡ (walk kids n lv c k).next → Past (record { 0 = j }) one ≡ meeting name kind short role (left_at (folded x) pos) one (walk kids n lv c k)
+  module _ (kids : ℕ → ℕ) (x : List ℕ) (n lv c k : ℕ) (role : Role) (pos : ℕ) (one : FoundSlot) where
+    meet_out : (j : ℕ) → length x < pos → j ≡ (walk kids n lv c k).next → Continue ((record { 0 = j }), one) ≡ meeting name kind short role (left_at (folded x) pos) one (walk kids n lv c k)
     unfolding meeting met
     meet_out j l ej = rw (left_out (folded x) pos (omega (arith, folded_length x)), matched_nothing (walk kids n lv c k).trees role, ej)
 
-    meet_deep : lv ≡ 0 → Past (record { 0 = k }) one ≡ meeting name kind short role (left_at (folded x) pos) one (walk kids n lv c k)
+    meet_deep : lv ≡ 0 → Continue ((record { 0 = k }), one) ≡ meeting name kind short role (left_at (folded x) pos) one (walk kids n lv c k)
     meet_deep e = nothing_met role (left_at (folded x) pos) one (walk kids n lv c k) k (walk_deep kids n lv c k e)
 
     module _ (W : Met) (eW : W ≡ meeting name kind short role (left_at (folded x) pos) one (walk kids n lv c k)) where
-      pub leave_out : (j : ℕ) → length x < pos → j ≡ (walk kids n lv c k).next → Past (record { 0 = j }) one ≡ W
-      leave_out j l ej = meet_out j l ej ∙ sym eW
+      -- where nothing can match, the levels are at their end, or the slots are
+      pub leave_over : (j : ℕ) → (length x < pos) ⊎ (((pos ≤ length x) × (lv ≡ 0)) ⊎ ((pos ≤ length x) × (lv ≡ 0 → ⊥) × (n ≤ k))) → j ≡ (walk kids n lv c k).next → Continue ((record { 0 = j }), one) ≡ W
+      leave_over j (inl l) ej = meet_out j l ej ∙ sym eW
+      leave_over j (inr (inl e)) ej = rw (ej ∙ ap (λ (p : Part). p.next) (walk_deep kids n lv c k e.1)) (meet_deep e.1) ∙ sym eW
+      leave_over j (inr (inr l)) ej = rw (ej ∙ ap (λ (p : Part). p.next) (walk_past kids n lv c k l.2)) (nothing_met role (left_at (folded x) pos) one (walk kids n lv c k) k (walk_past kids n lv c k l.2)) ∙ sym eW
 
-      pub leave_deep : lv ≡ 0 → Past (record { 0 = k }) one ≡ W
-      leave_deep e = meet_deep e ∙ sym eW
-
-      pub leave_past : n ≤ k → Past (record { 0 = k }) one ≡ W
-      leave_past l = nothing_met role (left_at (folded x) pos) one (walk kids n lv c k) k (walk_past kids n lv c k l) ∙ sym eW
-
-      pub leave_done : c ≤ 0 → Past (record { 0 = k }) one ≡ W
+      pub leave_done : c ≤ 0 → Continue ((record { 0 = k }), one) ≡ W
       leave_done l = nothing_met role (left_at (folded x) pos) one (walk kids n lv c k) k (walk_none kids n lv c k (omega arith)) ∙ sym eW
 
       module _ (el : lv ≡ 0 → ⊥) (ec : 0 < c) (l : k < n) where
@@ -166,16 +168,16 @@ module _ (name : ℕ → List ℕ) (kind : ℕ → Kind) (short : Bool) where
             ap (λ (o : Option (List ℕ)). left_is o (name k)) (left_in (folded x) pos (omega (arith, folded_length x))) ∙ ap (λ (v : List ℕ). same v (drop pos (folded x))) ek ∙ sym (same_apart (folded nm) (drop pos (folded x)) d) in
             whole ∙ rw (f, e, en)
 
-        module _ (me : ℕ) (two : Bool) (em : seen me ≡ own (left_at (folded x) pos) (name k) k) (eb : two ≡ (ltb 0 one && ltb 0 me)) where
+        module _ (me : FoundSlot) (two : Bool) (em : held me ≡ own (left_at (folded x) pos) (name k) k) (eb : two ≡ (is_some one && is_some me)) where
           -- A second match.
-          pub turn_twice : two ≡ true → Twice (record { 0 = k }) ≡ W
+          pub turn_twice : two ≡ true → Break (record { 0 = k }) ≡ W
           turn_twice q =
-              let h = both (ltb 0 one) (ltb 0 me) (sym eb ∙ q) in
-              sym (whole ∙ own_twice k one me (inner ++ others) rest.next (left_is (left_at (folded x) pos) (name k)) em (ltb-true 0 one h.0) (ltb-true 0 me h.1))
+              let h = both (is_some one) (is_some me) (sym eb ∙ q) in
+              sym (whole ∙ own_twice k one me (inner ++ others) rest.next (left_is (left_at (folded x) pos) (name k)) em h.0 h.1)
 
-          module _ (i : ℕ) (q : two ≡ false) (ei : seen i ≡ or_else (seen one) (seen me)) where
+          module _ (i : FoundSlot) (q : two ≡ false) (ei : i ≡ option_or one me) where
             onward : W ≡ met i (inner ++ others) rest.next
-            onward = whole ∙ own_on k one me (inner ++ others) rest.next (left_is (left_at (folded x) pos) (name k)) i em (λ h. true≢false (sym (rw (lt-ltb 0 one h.0, lt-ltb 0 me h.1)) ∙ (sym eb ∙ q))) ei
+            onward = whole ∙ rw ei (own_on k one me (inner ++ others) rest.next (left_is (left_at (folded x) pos) (name k)) em (sym eb ∙ q))
 
             -- Nothing is inside a leaf.
             pub turn_leaf : (m : ℕ) (nr : Role) → m ≡ kids k → m ≡ 0 → nr ≡ after role → W ≡ meeting name kind short nr (left_at (folded x) pos) i (walk kids n lv (c - 1) (k + 1))
@@ -196,20 +198,18 @@ module _ (name : ℕ → List ℕ) (kind : ℕ → Kind) (short : Bool) where
               unfolding meeting
               inner_met = ew ∙ rw (ek, er, ed)
 
-              pub turn_in : (j : Slot) → w ≡ Twice j → Twice j ≡ W
+              pub turn_in : (j : Slot) → w ≡ Break j → Break j ≡ W
               turn_in j e = sym (onward ∙ met_twice inner others i inside_part.next rest.next j (sym inner_met ∙ e))
 
               -- The walk goes on behind the record.
-              pub turn_further : (j : Slot) (v : ℕ) → w ≡ Past j v → k < j.0
+              pub turn_further : (j : Slot) (v : FoundSlot) → w ≡ Continue (j, v) → k < j.0
               turn_further j v e =
                   let z = met_past inner others i inside_part.next rest.next j v (sym inner_met ∙ e) in
                   let y = (filled kids n (lv - 1) (kids k) (k + 1) (omega arith)).count in
                   omega (arith, z.1)
 
-              pub turn_on : (j : Slot) (v : ℕ) (nr : Role) → w ≡ Past j v → nr ≡ after role → W ≡ meeting name kind short nr (left_at (folded x) pos) v (walk kids n lv (c - 1) j.0)
+              pub turn_on : (j : Slot) (v : FoundSlot) (nr : Role) → w ≡ Continue (j, v) → nr ≡ after role → W ≡ meeting name kind short nr (left_at (folded x) pos) v (walk kids n lv (c - 1) j.0)
               unfolding meeting
               turn_on j v nr e en =
                   let z = met_past inner others i inside_part.next rest.next j v (sym inner_met ∙ e) in
                   onward ∙ z.0 ∙ rw (z.1, en)
-
-pub ruleset meets = (leave_out, leave_deep, leave_past, leave_done)

@@ -2,7 +2,8 @@
 // name. Full names and short ones are walked alike.
 #![tactic(auto)]
 
-ghost use Rattle.std.specs.Prelude.{◌≡◌, not, ◌&&◌, ◌-◌, ◌≤◌, ◌<◌, eqb, ltb, length};
+ghost use Rattle.std.specs.Prelude.{◌≡◌, not, ◌&&◌, ◌-◌, ◌≤◌, ◌<◌, eqb, length};
+ghost use Rattle.std.specs.Option.{is_some};
 ghost use Rattle.paper.specs.Folded.{folded};
 ghost use Rattle.record.specs.Trees.{trees_in};
 ghost use Rattle.plan.specs.Named.{names_in, kinds_in, SourcesIn};
@@ -10,23 +11,17 @@ ghost use Rattle.plan.specs.Walk.{walk_in};
 ghost use Rattle.index_turns.specs.Turn.{left_at};
 ghost use Rattle.index_folded_names.specs.Met.{folded_in, meeting};
 
-use index_turns::{either, fit_at, inside_at, own_place, row_next};
-use paper::{Role, next_role};
+use index_turns::{Inside, fit_at, inside_at, own_slot, row_next};
+use paper::next_role;
 use plan::{PlanRows, name_of};
 use record::{Siblings, Slot, Trees};
+use std::ops::ControlFlow;
 
-// Two matches, with the slot of the second; or the slot behind a row, and the place of the one match up to there, 0 for none.
-#[derive(Clone, Copy)]
-pub enum Met {
-    Twice(Slot),
-    Past(Slot, usize),
-}
-
-// Whether there are two places.
-fn both(a: usize, b: usize) -> bool
-    ensures { result ≡ (ltb 0 a && ltb 0 b) }
+// Whether both are there.
+fn both(a: Option<Slot>, b: Option<Slot>) -> bool
+    ensures { result ≡ (is_some a && is_some b) }
 {
-    (0 < a) & (0 < b)
+    a.is_some() && b.is_some()
 }
 
 // Whether a record without members can't match: its name is not as long as what is left of x. Most are passed over so.
@@ -46,97 +41,67 @@ fn misses<'a>(
         (length x.now - pos))) }
 {
     let name = name_of(trees, plan, m, at);
-    (members == 0) & (name.len() != x.len() - pos)
+    members == 0 && name.len() != x.len() - pos
 }
 
-// The records of a row of trees whose names fold to what is left of x from `pos` on, in slot order, up to the second. `first` is the
-// place of the one before, 0 for none. A subtree is entered where the prefix fits.
+// The records of a row of trees whose names fold to what is left of x, in slot order, up to the second, whose slot is told; or the slot
+// behind the row, with the one match up to there. `part` says what is left at the row's first, `met` is the one match before. A subtree
+// is entered where the prefix fits. No `for`: a turn may go down, to the row inside a last record.
 pub fn meet_row<'a>(
     trees: &Trees<'a>,
     plan: &PlanRows,
     m: usize,
-    row: Siblings,
-    role: Role,
+    mut row: Siblings,
+    mut part: Inside,
     short: bool,
     x: &[u8],
-    pos: usize,
-    first: usize,
-) -> Met
+    mut met: Option<Slot>,
+) -> ControlFlow<Slot, (Slot, Option<Slot>)>
     requires { (row.slot ≤ m) × SourcesIn (trees_in trees.now) plan.now m }
     ensures { result ≡ meeting (folded_in (trees_in trees.now) plan.now)
-        (kinds_in (trees_in trees.now) plan.now) short role
-        (left_at (folded x.now) pos) first
+        (kinds_in (trees_in trees.now) plan.now) short part.role
+        (left_at (folded x.now) part.pos) met
         (walk_in plan.now m row.levels row.count row.slot) }
 {
-    let mut levels = row.levels;
-    let mut at = row.slot;
-    let mut left = row.count;
-    let mut part = role;
-    let mut from = pos;
-    let mut met = first;
-    while 0 < left {
+    while 0 < row.count {
+        let at = row.slot;
         // Nothing here can match: the row is passed over.
-        if x.len() < from {
-            let rest = Siblings {
-                slot: at,
-                count: left,
-                levels,
-            };
-            return Met::Past(Slot(row_next(plan, m, rest)), met);
-        }
-        if levels == 0 {
-            return Met::Past(Slot(at), met);
-        }
-        if m <= at {
-            return Met::Past(Slot(at), met);
+        if x.len() < part.pos || row.levels == 0 || m <= at {
+            return ControlFlow::Continue((Slot(row_next(plan, m, row)), met));
         }
         let members = plan.members[at];
-        if misses(trees, plan, m, at, members, x, from) {
-            at += 1;
-            left -= 1;
-            part = next_role(part);
+        let role = part.role;
+        row.slot = at + 1;
+        row.count -= 1;
+        part.role = next_role(role);
+        if misses(trees, plan, m, at, members, x, part.pos) {
             continue;
         }
-        let f = fit_at(trees, plan, m, at, true, x, from);
-        let me = own_place(f, at);
+        let f = fit_at(trees, plan, m, at, true, x, part.pos);
+        let me = own_slot(f, at);
         if both(met, me) {
-            return Met::Twice(Slot(at));
+            return ControlFlow::Break(Slot(at));
         }
-        met = either(met, me);
+        met = met.or(me);
         // Nothing is inside a leaf: no call is made for it.
         if members == 0 {
-            at += 1;
-            left -= 1;
-            part = next_role(part);
             continue;
         }
-        let inside = inside_at(trees, plan, m, at, part, short, f, x, from);
-        let inner_role = inside.role;
-        // The last of a row: its inside is what is left, and needs no call either.
-        if left == 1 {
-            at += 1;
-            left = members;
-            levels -= 1;
-            part = inner_role;
-            from = inside.pos;
-            continue;
-        }
+        let inside = inside_at(trees, plan, m, at, role, short, f, x, part.pos);
         let inner = Siblings {
             slot: at + 1,
             count: members,
-            levels: levels - 1,
+            levels: row.levels - 1,
         };
-        match meet_row(trees, plan, m, inner, inner_role, short, x, inside.pos, met) {
-            Met::Twice(k) => {
-                return Met::Twice(k);
-            }
-            Met::Past(next, one) => {
-                at = next.0;
-                met = one;
-            }
+        // The last of a row: its inside is what is left, and needs no call either.
+        if row.count == 0 {
+            row = inner;
+            part = inside;
+            continue;
         }
-        left -= 1;
-        part = next_role(part);
+        let (next, one) = meet_row(trees, plan, m, inner, inside, short, x, met)?;
+        met = one;
+        row.slot = next.0;
     }
-    Met::Past(Slot(at), met)
+    ControlFlow::Continue((Slot(row.slot), met))
 }

@@ -6,29 +6,33 @@ use mathlib.Core.List.{List}
 use Prim.Native.Nat.{ℕ, ◌+◌, ◌-◌, ◌<◌, ◌≤◌}
 use native.Mathlib.Numerals.{add-one}
 use native.Mathlib.Omega.{arith}
-use borrow.Author.Tests.{eqb-false, not-true}
-use lib.Dec.{eqb}
+use borrow.Author.Tests.{eqb-false, leb-true, leb-false, not-true}
+use lib.Dec.{eqb, leb}
 use lib.ListN.{length, get_or, drop, drop_of_length-le}
 use lib.Seq.{drop-cons}
+use Rattle.std.specs.Char.{to_ascii_lowercase}
 use Rattle.paper.specs.Answer.{same}
 use Rattle.paper.specs.Folded.{fold, folded}
 use Rattle.laws.proofs.Folding.{fold_low, fold_high, fold_letter, folded_length, folded_at}
+use Rattle.std.proofs.lemmas.Str.Ascii.{lowercase_is}
 use Rattle.record.proofs.Comparing.{same_apart, same_last}
 use Rattle.index_turns.specs.Turn.{spelt}
 
-pub fold_is_low : (x : ℕ) → x < 65 → x ≡ fold x
-fold_is_low x l = sym (fold_low x l)
+pub fold_is : (x : ℕ) → to_ascii_lowercase x ≡ fold x
+fold_is x = low (leb 65 x) refl
+  where
+    high : (b : Bool) → leb x 90 ≡ b → 65 ≤ x → to_ascii_lowercase x ≡ fold x
+    high true e l = let h = leb-true x 90 e in (lowercase_is x).0 (l, h) ∙ sym (fold_letter x l h)
+    high false e l = let h = leb-false x 90 e in (lowercase_is x).2 h ∙ sym (fold_high x h)
 
-pub fold_is_high : (x : ℕ) → 90 < x → x ≡ fold x
-fold_is_high x l = sym (fold_high x l)
-
-pub fold_is_letter : (x : ℕ) → 65 ≤ x → x ≤ 90 → x + 32 ≡ fold x
-fold_is_letter x l h = sym (fold_letter x l h)
+    low : (b : Bool) → leb 65 x ≡ b → to_ascii_lowercase x ≡ fold x
+    low true e = high (leb x 90) refl (leb-true 65 x e)
+    low false e = let h = leb-false 65 x e in (lowercase_is x).1 h ∙ sym (fold_low x h)
 
 pub at_alike : (a b : List ℕ) (i x y : ℕ) → x ≡ fold (get_or a i 0) → y ≡ fold (get_or b i 0) → eqb x y ≡ eqb (get_or (folded a) i 0) (get_or (folded b) i 0)
 at_alike a b i x y ex ey = rw (folded_at a i, folded_at b i, ex, ey)
 
-pub ruleset folding = (fold_is_low, fold_is_high, fold_is_letter, at_alike)
+pub ruleset folding = (fold_is, at_alike)
 
 module _ (a b : List ℕ) where
   lengths : length a ≡ length b → length (folded a) ≡ length (folded b)

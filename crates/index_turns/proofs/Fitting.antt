@@ -4,8 +4,7 @@ use mathlib.Core.Path.{◌≡◌, refl, sym, ap, ◌∙◌}
 use mathlib.Core.Bool.{Bool, true, false, ◌&&◌, cond}
 use mathlib.Core.List.{List, [], ◌∷◌, ◌++◌}
 use mathlib.Core.Option.{none, some}
-use Prim.Native.Nat.{ℕ, zero, suc, ◌+◌, ◌-◌, ◌<◌, ◌≤◌}
-use native.Mathlib.Numerals.{add-one}
+use Prim.Native.Nat.{ℕ, suc, ◌+◌, ◌-◌, ◌<◌, ◌≤◌}
 use native.Mathlib.Omega.{arith}
 use borrow.Author.Tests.{eq-eqb, ne_eqb, lt-ltb, le-ltb, eqb-true, eqb-false}
 use lib.Dec.{eqb}
@@ -13,15 +12,19 @@ use lib.ListN.{length, get_or, take, drop, length-drop}
 use lib.Seq.{drop-drop, get_or-drop, take_all}
 use Rattle.paper.specs.declared.Kind.{Kind}
 use Rattle.paper.specs.declared.Role.{Role}
-use Rattle.paper.specs.Answer.{same, or_else}
+use Rattle.paper.specs.Answer.{same}
 use Rattle.paper.specs.Field.{first}
 use Rattle.paper.specs.Rows.{skipped}
 use Rattle.laws.proofs.Finding.{eqb_flip}
 use Rattle.laws.proofs.Folding.{fold_dot, folded_length, folded_take, folded_drop, folded_at}
 use Rattle.record.specs.Trees.{Trees}
 use Rattle.plan.specs.Named.{names_in, kinds_in}
-use Rattle.index_ids.specs.Chain.{pick}
-use Rattle.index_turns.specs.Turn.{spelt, strip, left_at, fits, deeper, inside, own, Entered, seen}
+use Rattle.record.specs.Answers.{FoundSlot}
+use Rattle.std.specs.Prelude.{Some, None}
+use Rattle.index_ids.specs.Chain.{held}
+use Rattle.index_turns.specs.declared.Fit.{Fit}
+use Rattle.index_turns.specs.declared.Fit.TheVariants.{Whole, Prefix, Neither}
+use Rattle.index_turns.specs.Turn.{spelt, strip, left_at, fits, fit_number, deeper, inside, own, own_slot, Entered}
 use Rattle.plan.specs.declared.PlanRows.{PlanRows}
 
 -- ---- names as they are compared
@@ -216,11 +219,10 @@ module _ (nm x : List ℕ) (pos f : ℕ) (l : pos ≤ length x) (ef : f ≡ fits
       go true e = deep_under (eqb-true f 2 e)
       go false e = deep_out (eqb-false f 2 e)
 
-  own_is : (k : ℕ) → seen (pick (eqb f 1) (k + 1) 0) ≡ own (left_at x pos) nm k
-  unfolding seen
-  own_is k = rw (left_in x pos l, whole_is nm (drop pos x), ← ef, add-one k) (go (eqb f 1))
+  own_is : (k : ℕ) → held (own_slot f k) ≡ own (left_at x pos) nm k
+  own_is k = rw (left_in x pos l, whole_is nm (drop pos x), ← ef) (go (eqb f 1))
     where
-      go : (t : Bool) → seen (pick t (suc k) 0) ≡ cond t (some k) none
+      go : (t : Bool) → held (cond t (Some (record { 0 = k })) None) ≡ cond t (some k) none
       go true = refl
       go false = refl
 
@@ -230,13 +232,13 @@ module _ (nm x : List ℕ) (pos f : ℕ) (b : Bool) (l : pos ≤ length x) (ef :
   spelt_in_room : pos ≤ length (spelt b x)
   spelt_in_room = omega (arith, spelt_length b x)
 
-  pub room_under : f ≡ 2 → pos + length nm < length x
+  room_under : f ≡ 2 → pos + length nm < length x
   room_under q =
       let r = under_room (spelt b nm) (drop pos (spelt b x)) (sym ef ∙ q) in
       omega (arith, length-drop pos (spelt b x), spelt_length b x, spelt_length b nm)
 
-  pub mine : (k me : ℕ) → me ≡ pick (eqb f 1) (k + 1) 0 → seen me ≡ own (left_at (spelt b x) pos) (spelt b nm) k
-  mine k me em = ap seen em ∙ own_is (spelt b nm) (spelt b x) pos f spelt_in_room ef k
+  pub mine : (k : ℕ) (me : FoundSlot) → me ≡ own_slot f k → held me ≡ own (left_at (spelt b x) pos) (spelt b nm) k
+  mine k me em = ap held em ∙ own_is (spelt b nm) (spelt b x) pos f spelt_in_room ef k
 
   pub left_inside : (skip : Bool) (deep : ℕ) → deep ≡ deeper skip f pos (length nm) (length x) → left_at (spelt b x) deep ≡ inside skip (left_at (spelt b x) pos) (spelt b nm)
   left_inside skip deep ed = ap (left_at (spelt b x)) (ed ∙ rw (spelt_length b nm, spelt_length b x)) ∙ deep_is (spelt b nm) (spelt b x) pos f spelt_in_room ef skip
@@ -247,32 +249,22 @@ pub deep_skips : (skip : Bool) (f pos len end : ℕ) → skip ≡ true → pos �
 unfolding deeper
 deep_skips skip f pos len end e = rw e
 
-pub deep_goes : (skip : Bool) (f pos len end : ℕ) → skip ≡ false → f ≡ 2 → pos + len + 1 ≡ deeper skip f pos len end
+pub deep_goes : (skip : Bool) (f : Fit) (pos len end : ℕ) → skip ≡ false → f ≡ Prefix → pos + len + 1 ≡ deeper skip (fit_number f) pos len end
 unfolding deeper
-deep_goes skip f pos len end e q = rw (e, eq-eqb f 2 q)
+deep_goes skip f pos len end e q = rw (e, q)
 
-pub deep_ends : (skip : Bool) (f pos len end : ℕ) → skip ≡ false → (f ≡ 2 → ⊥) → end + 1 ≡ deeper skip f pos len end
+pub deep_ends : (skip : Bool) (f : Fit) (pos len end : ℕ) → skip ≡ false → (f ≡ Prefix → ⊥) → end + 1 ≡ deeper skip (fit_number f) pos len end
 unfolding deeper
-deep_ends skip f pos len end e q = rw (e, ne_eqb f 2 q)
+deep_ends skip Prefix pos len end e q = absurd (q refl)
+deep_ends skip Whole pos len end e q = rw e
+deep_ends skip Neither pos len end e q = rw e
 
-pub own_yes : (f k : ℕ) → f ≡ 1 → k + 1 ≡ pick (eqb f 1) (k + 1) 0
-own_yes f k e = rw (eq-eqb f 1 e)
-
-pub own_no : (f k : ℕ) → (f ≡ 1 → ⊥) → 0 ≡ pick (eqb f 1) (k + 1) 0
-own_no f k e = rw (ne_eqb f 1 e)
-
-pub either_b : (a b : ℕ) → a ≡ 0 → seen b ≡ or_else (seen a) (seen b)
-unfolding seen
-either_b a b e = rw e
-
-pub either_a : (a b : ℕ) → (a ≡ 0 → ⊥) → seen a ≡ or_else (seen a) (seen b)
-unfolding seen
-either_a zero b e = absurd (e refl)
-either_a (suc a) b e = refl
-
-pub ruleset small = (deep_skips, deep_goes, deep_ends, own_yes, own_no, either_a, either_b)
+pub ruleset small = (deep_skips, deep_goes, deep_ends)
 
 -- ---- the name of a record
+
+pub room_fit : (nm x : List ℕ) (pos : ℕ) (f : Fit) (b : Bool) → pos ≤ length x → fit_number f ≡ fits (spelt b nm) (drop pos (spelt b x)) → f ≡ Prefix → pos + length nm < length x
+room_fit nm x pos f b l ef e = room_under nm x pos (fit_number f) b l ef (rw e)
 
 pub fit_named : (b : Bool) (nm y x : List ℕ) (pos f : ℕ) → nm ≡ y → f ≡ fits (spelt b nm) (drop pos (spelt b x)) → f ≡ fits (spelt b y) (drop pos (spelt b x))
 fit_named b nm y x pos f e h = h ∙ rw e
@@ -280,7 +272,7 @@ fit_named b nm y x pos f e h = h ∙ rw e
 pub goes_named : (l : Trees) (plan : PlanRows) (short skip : Bool) (role rl : Role) (kd : Kind) (nm x : List ℕ) (f pos k deep : ℕ) → kd ≡ kinds_in l plan k → nm ≡ names_in l plan k → skip ≡ skipped role kd → rl ≡ first kd → deep ≡ deeper (short && skip) f pos (length nm) (length x) → Entered l plan short role f x pos k (record { role = rl; pos = deep })
 goes_named l plan short skip role rl kd nm x f pos k deep ek en es er ed = record { members = er ∙ ap first ek; goes = ed ∙ rw (es, ek, en) }
 
-pub room_named : (nm y x : List ℕ) (f pos : ℕ) → nm ≡ y → (f ≡ 2 → pos + length y < length x) → f ≡ 2 → pos + length nm < length x
+pub room_named : (nm y x : List ℕ) (f : Fit) (pos : ℕ) → nm ≡ y → (f ≡ Prefix → pos + length y < length x) → f ≡ Prefix → pos + length nm < length x
 room_named nm y x f pos e h q = rw e (h q)
 
 pub ruleset named = (fit_named, goes_named, room_named)

@@ -11,8 +11,8 @@ next_deep kids n lv c k e = rw (walk_deep kids n lv c k e)
 
 -- W is the whole answer.
 module _ (kids : ℕ → ℕ) (n lv c k W : ℕ) (h : W ≡ (walk kids n lv c k).next) where
-  pub next_goes : (m j : ℕ) → (lv ≡ 0 → ⊥) → 0 < c → k < n → m ≡ kids k → j ≡ (walk kids n (lv - 1) m (k + 1)).next → W ≡ (walk kids n lv (c - 1) j).next
-  next_goes m j e f l em ej = h ∙ ap (λ (p : Part). p.next) (walk_in kids n lv c k m e (λ z. omega arith) l em) ∙ rw (← ej)
+  pub next_goes : (m j s : ℕ) → (lv ≡ 0 → ⊥) → 0 < c → s ≡ c - 1 → k < n → m ≡ kids k → j ≡ (walk kids n (lv - 1) m (k + 1)).next → W ≡ (walk kids n lv s j).next
+  next_goes m j s e f es l em ej = h ∙ ap (λ (p : Part). p.next) (walk_in kids n lv c k m e (λ z. omega arith) l em) ∙ rw (← ej, es)
 
   pub next_past : n ≤ k → k ≡ W
   next_past l = sym (h ∙ rw (walk_past kids n lv c k l))

@@ -1,13 +1,17 @@
 -- What a walk that looks for a name carries, and what it meets at a record, over slots.
-use Rattle.std.specs.Prelude.{ℕ, zero, suc, ◌+◌, ◌≡◌, Bool, true, false, ◌&&◌, cond, List, [], ◌∷◌, ◌++◌, eqb, ltb, length, drop}
+use Rattle.std.specs.Prelude.{ℕ, ◌+◌, ◌≡◌, Bool, true, false, ◌&&◌, cond, List, [], ◌∷◌, ◌++◌, eqb, ltb, length, drop}
 use Rattle.std.proofs.Math.Option.{Option, none, some}
 use Rattle.paper.specs.declared.Role.{Role}
 use Rattle.paper.specs.Answer.{same}
 use Rattle.paper.specs.Field.{first}
 use Rattle.paper.specs.Folded.{folded}
 use Rattle.paper.specs.Rows.{skipped}
+use Rattle.std.specs.Prelude.{Some, None}
+use Rattle.record.specs.Answers.{FoundSlot}
 use Rattle.record.specs.Trees.{Trees}
 use Rattle.plan.specs.Named.{names_in, kinds_in}
+use Rattle.index_turns.specs.declared.Fit.{Fit}
+use Rattle.index_turns.specs.declared.Fit.TheVariants.{Whole, Prefix, Neither}
 use Rattle.index_turns.specs.declared.Inside.{Inside}
 use Rattle.plan.specs.declared.PlanRows.{PlanRows}
 
@@ -41,6 +45,12 @@ fits [] (b ∷ y) = cond (eqb b 46) 2 0
 fits (a ∷ p) [] = 0
 fits (a ∷ p) (b ∷ y) = cond (eqb a b) (fits p y) 0
 
+-- The number of an answer to that.
+abbrev pub fit_number : Fit → ℕ
+fit_number Whole = 1
+fit_number Prefix = 2
+fit_number Neither = 0
+
 -- Where what is left inside a record begins: the same where its name is skipped, behind its name and the dot, or behind the end.
 unfoldable pub deeper : (skip : Bool) → (fit pos len end : ℕ) → ℕ
 deeper skip fit pos len end = cond skip pos (cond (eqb fit 2) (pos + len + 1) (end + 1))
@@ -52,10 +62,9 @@ inside skip left name = cond skip left (then_strip left (name ++ (46 ∷ [])))
 abbrev pub own : Option (List ℕ) → List ℕ → ℕ → Option ℕ
 own left name k = cond (left_is left name) (some k) none
 
--- A place, one more than a slot or 0, as a found slot.
-unfoldable pub seen : ℕ → Option ℕ
-seen zero = none
-seen (suc k) = some k
+-- The same of the slot, as the code has it.
+abbrev pub own_slot : (fit slot : ℕ) → FoundSlot
+own_slot fit k = cond (eqb fit 1) (Some (record { 0 = k })) None
 
 -- What is inside the record at slot k for a search; full names skip no record.
 pub record Entered (l : Trees) (plan : PlanRows) (short : Bool) (role : Role) (f : ℕ) (x : List ℕ) (pos k : ℕ) (r : Inside) : Type 0 where

@@ -3,18 +3,26 @@
 #![tactic(auto)]
 
 ghost use Rattle.std.specs.Prelude.{◌≡◌, ◌&&◌, ◌+◌, ◌≤◌, ◌<◌, eqb, length, get_or, drop};
-ghost use Rattle.paper.specs.Answer.{or_else, same};
+ghost use Rattle.paper.specs.Answer.{same};
 ghost use Rattle.paper.specs.Folded.{fold, folded};
 ghost use Rattle.paper.specs.Rows.{skipped};
 ghost use Rattle.record.specs.Trees.{trees_in};
-ghost use Rattle.index_ids.specs.Chain.{pick};
 ghost use Rattle.plan.specs.Named.{names_in, kinds_in, SourcesIn};
 ghost use Rattle.plan.specs.Walk.{walk_in};
-ghost use Rattle.index_turns.specs.Turn.{spelt, fits, deeper, Entered, seen};
+ghost use Rattle.index_turns.specs.declared.Fit.TheVariants.{Prefix};
+ghost use Rattle.index_turns.specs.Turn.{spelt, fits, fit_number, deeper, own_slot, Entered};
 
 use paper::{Kind, Role, first_role, is_struct};
 use plan::{PlanRows, name_of, planned_kind};
-use record::{Siblings, Trees, equal};
+use record::{Siblings, Slot, Trees, equal};
+
+// What a name is to what is left of an asked one: that, or it and a dot begin it, or neither.
+#[derive(Clone, Copy, PartialEq, Eq)]
+pub enum Fit {
+    Whole,
+    Prefix,
+    Neither,
+}
 
 // What is inside a record for a search: its first member's role, and where to look on.
 #[derive(Clone, Copy)]
@@ -29,23 +37,20 @@ pub fn row_next(plan: &PlanRows, m: usize, row: Siblings) -> usize
     ensures { result
         ≡ (walk_in plan.now m row.levels row.count row.slot).next }
 {
-    let levels = row.levels;
-    if levels == 0 {
+    if row.levels == 0 {
         return row.slot;
     }
     let mut at = row.slot;
-    let mut left = row.count;
-    while 0 < left {
+    for done in 0..row.count {
         if m <= at {
             return at;
         }
         let inside = Siblings {
             slot: at + 1,
             count: plan.members[at],
-            levels: levels - 1,
+            levels: row.levels - 1,
         };
         at = row_next(plan, m, inside);
-        left -= 1;
     }
     at
 }
@@ -54,13 +59,7 @@ pub fn row_next(plan: &PlanRows, m: usize, row: Siblings) -> usize
 fn fold(x: u8) -> u8
     ensures { result ≡ fold x }
 {
-    if x < 65 {
-        return x;
-    }
-    if 90 < x {
-        return x;
-    }
-    x + 32
+    x.to_ascii_lowercase()
 }
 
 // Whether two names fold to the same byte at a place.
@@ -88,10 +87,8 @@ fn equal_folded(a: &[u8], b: &[u8]) -> bool
     }
     // the loop has no other end, so that many bytes can be compared at a step
     let mut so_far = true;
-    let mut i = 0;
-    while i < n {
-        so_far = so_far & alike_at(a, b, i);
-        i += 1;
+    for i in 0..n {
+        so_far &= alike_at(a, b, i);
     }
     so_far
 }
@@ -111,10 +108,8 @@ fn skips(role: Role, kind: Kind) -> bool
     ensures { result ≡ skipped role kind }
 {
     match role {
-        Role::Member => false,
-        Role::Element => is_struct(kind),
-        Role::Key => false,
-        Role::Value => is_struct(kind),
+        Role::Member | Role::Key => false,
+        Role::Element | Role::Value => is_struct(kind),
     }
 }
 
@@ -125,55 +120,53 @@ fn kind_of<'a>(trees: &Trees<'a>, plan: &PlanRows, m: usize, k: usize) -> Kind
     planned_kind(trees, plan.sources[k])
 }
 
-// A name against x from `pos` on: 1 it is that, 2 it and a dot begin it, 0 neither. What stands behind it in x is looked at first,
-// so most names are not compared at all.
-fn fit(name: &[u8], x: &[u8], pos: usize, folding: bool) -> u8
+// A name against x from `pos` on. What stands behind it in x is looked at first, so most names are not compared at all.
+fn fit_name(name: &[u8], x: &[u8], pos: usize, folding: bool) -> Fit
     requires { pos ≤ length x.now }
-    ensures { result ≡ fits (spelt folding name.now)
+    ensures { fit_number result ≡ fits (spelt folding name.now)
         (drop pos (spelt folding x.now)) }
 {
     if x.len() - pos < name.len() {
-        return 0;
+        return Fit::Neither;
     }
     let end = pos + name.len();
     if end == x.len() {
         if alike(name, &x[pos..end], folding) {
-            return 1;
+            return Fit::Whole;
         }
-        return 0;
+        return Fit::Neither;
     }
-    if x[end] != 46 {
-        return 0;
+    if x[end] != b'.' {
+        return Fit::Neither;
     }
     if alike(name, &x[pos..end], folding) {
-        return 2;
+        return Fit::Prefix;
     }
-    0
+    Fit::Neither
 }
 
 // Where to look on inside the record: behind x's end where nothing there can match.
-fn deeper(f: u8, skip: bool, name: &[u8], x: &[u8], pos: usize) -> usize
-    requires { (pos ≤ length x.now) × (f ≡ 2 → pos + length name.now < length x.now) }
-    ensures { result ≡ deeper skip f pos (length name.now) (length x.now) }
+fn deeper(f: Fit, skip: bool, name: &[u8], x: &[u8], pos: usize) -> usize
+    requires { (pos ≤ length x.now) × (f ≡ Prefix → pos + length name.now < length x.now) }
+    ensures { result ≡ deeper skip (fit_number f) pos (length name.now) (length x.now) }
 {
     if skip {
         return pos;
     }
-    if f == 2 {
-        return pos + name.len() + 1;
+    match f {
+        Fit::Prefix => pos + name.len() + 1,
+        _ => x.len() + 1,
     }
-    x.len() + 1
 }
 
-// The place of the record itself, if its name is what is left.
-pub fn own_place(f: u8, slot: usize) -> usize
-    requires { slot ≤ 1024 }
-    ensures { result ≡ pick (eqb f 1) (slot + 1) 0 }
+// The slot of the record itself, if its name is what is left.
+pub fn own_slot(f: Fit, slot: usize) -> Option<Slot>
+    ensures { result ≡ own_slot (fit_number f) slot }
 {
-    if f == 1 {
-        return slot + 1;
+    match f {
+        Fit::Whole => Some(Slot(slot)),
+        Fit::Prefix | Fit::Neither => None,
     }
-    0
 }
 
 // A record's name against what is left of x, which begins at `pos`: the first half of a walk's step.
@@ -185,13 +178,13 @@ pub fn fit_at<'a>(
     folding: bool,
     x: &[u8],
     pos: usize,
-) -> u8
+) -> Fit
     requires { (at < m) × ((pos ≤ length x.now)
         × SourcesIn (trees_in trees.now) plan.now m) }
-    ensures { result ≡ fits (spelt folding (names_in (trees_in trees.now)
+    ensures { fit_number result ≡ fits (spelt folding (names_in (trees_in trees.now)
         plan.now at)) (drop pos (spelt folding x.now)) }
 {
-    fit(name_of(trees, plan, m, at), x, pos, folding)
+    fit_name(name_of(trees, plan, m, at), x, pos, folding)
 }
 
 // Where to look on inside a record, and its members' role: the second half, which a record without members does not need.
@@ -202,14 +195,14 @@ pub fn inside_at<'a>(
     at: usize,
     role: Role,
     short: bool,
-    f: u8,
+    f: Fit,
     x: &[u8],
     pos: usize,
 ) -> Inside
-    requires { (at < m) × ((pos ≤ length x.now) × ((f ≡ 2 → pos
+    requires { (at < m) × ((pos ≤ length x.now) × ((f ≡ Prefix → pos
         + length (names_in (trees_in trees.now) plan.now at) < length x.now)
         × SourcesIn (trees_in trees.now) plan.now m)) }
-    ensures { Entered (trees_in trees.now) plan.now short role f
+    ensures { Entered (trees_in trees.now) plan.now short role (fit_number f)
         x.now pos at result }
 {
     let kind = kind_of(trees, plan, m, at);
@@ -219,14 +212,4 @@ pub fn inside_at<'a>(
         role: first_role(kind),
         pos: deeper(f, skip, name, x, pos),
     }
-}
-
-// The first of two places, if there is one.
-pub fn either(a: usize, b: usize) -> usize
-    ensures { seen result ≡ or_else (seen a) (seen b) }
-{
-    if a == 0 {
-        return b;
-    }
-    a
 }

@@ -3,9 +3,6 @@ use Rattle.index.proofs.Looking.{shorts}
 use borrow.Author.Rules.{rules}
 use Rattle.index.proofs.look_short.Goals as goal
 
-pub returns-in_default : goal.returns-in_default
-returns-in_default c = search (shorts, rules)
-
 pub with_id-requires : goal.with_id-requires
 with_id-requires c = search (shorts, rules)
 

@@ -6,8 +6,8 @@ use Rattle.index_folded.proofs.tell.Goals as goal
 pub with_id-requires : goal.with_id-requires
 with_id-requires c = search (telling, rules)
 
-pub returns-in-Twice : goal.returns-in-Twice
-returns-in-Twice c = search (telling, rules)
+pub returns-in-Break : goal.returns-in-Break
+returns-in-Break c = search (telling, rules)
 
-pub returns-in-Past : goal.returns-in-Past
-returns-in-Past c = search (telling, rules)
+pub returns-in-Continue : goal.returns-in-Continue
+returns-in-Continue c = search (telling, rules)

@@ -6,8 +6,8 @@ use Rattle.index_turns.proofs.deeper.Goals as goal
 pub returns-then-skip : goal.returns-then-skip
 returns-then-skip c = search (small, rules)
 
-pub returns-then-f-eq2 : goal.returns-then-f-eq2
-returns-then-f-eq2 c = search (small, rules)
+pub returns-in-Prefix : goal.returns-in-Prefix
+returns-in-Prefix c = search (small, rules)
 
-pub returns : goal.returns
-returns c = search (small, rules)
+pub returns-in_default : goal.returns-in_default
+returns-in_default c = search (small, rules)

@@ -1,7 +1,7 @@
 -- What stands behind the name in x decides whether it is compared.
 use Rattle.index_turns.proofs.Fitting.{fitting}
 use borrow.Author.Rules.{rules}
-use Rattle.index_turns.proofs.fit.Goals as goal
+use Rattle.index_turns.proofs.fit_name.Goals as goal
 
 pub returns-then-x-pos : goal.returns-then-x-pos
 returns-then-x-pos c = search (fitting, rules)
