@@ -4,7 +4,7 @@ use mathlib.Core.Path.{◌≡◌, refl, sym, ap, ◌∙◌}
 use mathlib.Core.Bool.{Bool, true, false, not}
 use mathlib.Core.List.{List}
 use native.Mathlib.Omega.{arith}
-use lib.ListN.{length, replicate}
+use lib.ListN.{length}
 use borrow.Author.Tests.{not-true, not-false}
 use Rattle.paper.specs.Bytes.{turned}
 use Rattle.paper.specs.Limits.{whole}
@@ -15,7 +15,7 @@ use Rattle.std.specs.Prelude.{Ok, Err, Some, None}
 use Rattle.record.specs.declared.Refusal.{Refusal}
 use Rattle.record.specs.Says.{slot_before}
 use Rattle.record_limits.proofs.Within.{whole_most}
-use Rattle.plan.specs.Table.{numbers, TakenIn}
+use Rattle.plan.specs.Table.{numbers, no_rows, TakenIn}
 use Rattle.index_ids.specs.Chain.{lowest_below}
 use Rattle.index_ids.specs.Ids.{is_id}
 use Rattle.index_ids.specs.Path.{IndexedIn}
@@ -75,8 +75,9 @@ module _ (s ids : List ℕ) (rounds : ℕ) (b : Bool) (eb : b ≡ whole 24 1024 
     pub timed_bytes : n * 24 ≤ length s
     timed_bytes = omega arith
 
-    module _ (zeros plan : PlanRows) (old index : List (List ℕ)) (ez : numbers zeros ≡ replicate 1024 0) (t : TakenIn s n zeros plan) (r : Check) (x : IndexedIn (numbers plan) n 0 r old index) where
+    module _ (zeros plan : PlanRows) (old index : List (List ℕ)) (ez : zeros ≡ no_rows) (t : TakenIn s n zeros plan) (r : Check) (x : IndexedIn (numbers plan) n 0 r old index) where
       same_row : numbers plan ≡ id_row s
+      unfolding no_rows
       same_row = t.numbers_set ∙ rw (ez, en)
 
       pub timed_refused : (y : Refusal) → r ≡ Err y → 0 ≡ timed s ids rounds

@@ -57,12 +57,7 @@ pub fn braidhurdle_timed_search(records: &[u8], ids: &[u8], rounds: u32) -> u32
         return 0;
     }
     let n = records.len() / 24;
-    // zeros, which the definition names and `PlanRows::empty` doesn't promise
-    let mut plan = PlanRows {
-        sources: [0; 1024],
-        numbers: [0; 1024],
-        members: [0; 1024],
-    };
+    let mut plan = PlanRows::empty();
     let mut index = [[0u16; 1024]; 8];
     take_base(records, n, &mut plan);
     match check_ids(&plan, n, 0, &mut index) {
