@@ -55,7 +55,7 @@ fn check_contents<'a>(trees: &Trees<'a>, lists: &Lists<'a>) -> Result<(u32, u32)
 fn known_version(version: u32) -> bool
     ensures { result ≡ known_version version }
 {
-    (version == 2) | (version == 3)
+    matches!(version, 2 | 3)
 }
 
 // How many roots the base has, and how many the additions tree: refusals 1 and 2 for everything, 25, then those of the contents. The
