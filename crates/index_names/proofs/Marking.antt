@@ -2,7 +2,7 @@
 -- are one run of stores.
 use mathlib.Core.Path.{◌≡◌, refl, sym, ap, ◌∙◌}
 use mathlib.Core.List.{List, [], ◌∷◌, ◌++◌, map}
-use Prim.Native.Nat.{ℕ, suc, ◌+◌, ◌-◌, ◌*◌, ◌<◌, ◌≤◌}
+use Prim.Native.Nat.{ℕ, suc, ◌+◌, ◌-◌, ◌<◌, ◌≤◌}
 use native.Mathlib.Numerals.{add-one}
 use native.Mathlib.Omega.{arith}
 use lib.ListN.{length, set, length-append, length-map}
@@ -11,14 +11,11 @@ use Rattle.paper.specs.Forest.{Forest, empty, node, size}
 use Rattle.paper.specs.Layout.{Part, nothing, before}
 use Rattle.paper.specs.Rows.{dotted}
 use Rattle.laws.proofs.Runs.{sets_append, map_append}
-use Rattle.record.specs.Trees.{Trees}
-use Rattle.index_ids.specs.Table.{row}
-use Rattle.index_ids.proofs.Tables.{within_same, within_both, within_wider, within_cell, row_left, cell_stored}
+use Rattle.index_ids.proofs.Tables.{within_same, within_both}
 use Rattle.index_names.specs.declared.Prefix.{Prefix}
 use Rattle.plan.specs.Walk.{walk}
 use Rattle.index_names.specs.Hash.{mix, hash_on, hash_of, tag, tag_of}
 use Rattle.index_names.specs.Full.{fulls, ups}
-use Rattle.plan.specs.Named.{Sources}
 use Rattle.index_names.specs.Told.{Marked}
 use Rattle.index_names.specs.Table.{inside, PutIn, OneIn, MarkedIn}
 use Rattle.index_names.proofs.Hashing.{hash_append}
@@ -74,31 +71,6 @@ module _ (name : ℕ → List ℕ) where
 
 -- ---- the same in the rows of an index
 
--- One slot is marked: a store in each of the three rows.
-module _ (t : List (List ℕ)) (k u own x : ℕ) where
-  abbrev first : List (List ℕ)
-  first = set t 3 (set (row t 3) k u)
-
-  abbrev second : List (List ℕ)
-  second = set first 4 (set (row first 4) k own)
-
-  abbrev third : List (List ℕ)
-  third = set second 5 (set (row second 5) k x)
-
-  pub put_three : PutIn k u own x t third
-  put_three =
-      record {
-        ups_put = row_left second 5 _ 3 (λ z. omega arith) ∙ row_left first 4 _ 3 (λ z. omega arith) ∙ cell_stored t 3 k u;
-        lens_put = row_left second 5 _ 4 (λ z. omega arith) ∙ cell_stored first 4 k own ∙ ap (λ (z : List ℕ). set z k own) (row_left t 3 _ 4 (λ z. omega arith));
-        tags_put = cell_stored second 5 k x ∙ ap (λ (z : List ℕ). set z k x) (row_left first 4 _ 5 (λ z. omega arith) ∙ row_left t 3 _ 5 (λ z. omega arith));
-        within =
-            within_both 3 6 t first third
-            (within_wider 3 4 3 6 t first (within_cell t 3 k u) (omega arith) (omega arith))
-            (within_both 3 6 first second third
-            (within_wider 4 5 3 6 first second (within_cell first 4 k own) (omega arith) (omega arith))
-            (within_wider 5 6 3 6 second third (within_cell second 5 k x) (omega arith) (omega arith)));
-      }
-
 module _ (name : ℕ → List ℕ) (kids : ℕ → ℕ) (n lv c k u l h : ℕ) (t : List (List ℕ)) where
   nothing_in : walk kids n lv c k ≡ nothing k → MarkedIn name (walk kids n lv c k) k u l h t t k
   nothing_in e = record { marked = nothing_marked name _ k u l h _ _ _ e; within = within_same 3 6 t }
@@ -143,10 +115,6 @@ module _ (name : ℕ → List ℕ) (kids : ℕ → ℕ) (n lv c k u l h : ℕ) (
   pub onward_done : c' ≤ 0 → MarkedIn name (walk kids n lv c k) k u l h old t k'
   onward_done q = on.go lv k' t (omega arith) (mark_none name kids n lv c' k' u l h t (omega arith))
 
--- One record is marked, and what is inside it.
-pub one_marked : (name : ℕ → List ℕ) (k u x h h₂ tg : ℕ) (own : List ℕ) (p : Prefix) (t t₀ : List (List ℕ)) → own ≡ name k → x ≡ length (name k) → x ≤ 255 → h ≡ hash_on p.hash own → tg ≡ tag h → h₂ ≡ mix h 46 → PutIn k u (p.len + x) tg t t₀ → OneIn name k u p record { hash = h₂; len = p.len + x + 1 } t t₀
-one_marked name k u x h h₂ tg own p t t₀ eo ex lx eh et eh₂ put = record { put = rw (← eo, ← eh, ← et, eo, ← ex) put; inner = rw (ex, eh₂, eh, eo); room = omega arith }
-
 module _ (name : ℕ → List ℕ) (kids : ℕ → ℕ) (n b c k u : ℕ) (p : Prefix) (old : List (List ℕ)) (b' c' k' : ℕ) (t : List (List ℕ)) (on : Onward name kids n b c k u p.len p.hash old b' c' k' t) (r : Prefix) (t₀ : List (List ℕ)) (f : 0 < c') (q : k' < n) (one : OneIn name k' u p r t t₀) (s : ℕ) (es : s ≡ c' - 1) where
   pub onward_goes : (m j : ℕ) (t₁ : List (List ℕ)) → m ≡ kids k' → MarkedIn name (walk kids n b' m (k' + 1)) (k' + 1) (k' + 1) r.len r.hash t₀ t₁ j → Onward name kids n b c k u p.len p.hash old b' s j t₁
   onward_goes m j t₁ em w =
@@ -163,15 +131,3 @@ module _ (name : ℕ → List ℕ) (kids : ℕ → ℕ) (n b c k u : ℕ) (p : P
   -- Inside a leaf there is nothing to mark.
   pub onward_leaf : kids k' ≡ 0 → Onward name kids n b c k u p.len p.hash old b' s (k' + 1) t₀
   onward_leaf none = onward_goes _ (k' + 1) t₀ refl (mark_none name kids n b' _ (k' + 1) (k' + 1) r.len r.hash t₀ none)
-
-pub level_falls : (lv b t : ℕ) → lv ≡ t → (lv ≡ 0 → ⊥) → b ≡ lv - 1 → b < t
-level_falls lv b t e h eb = omega arith
-
-pub room_here : (lv len : ℕ) → (lv ≡ 0 → ⊥) → len + lv * 256 ≤ 4096 → len + 255 ≤ 4096
-room_here lv len e h = omega arith
-
-pub room_in : (name : ℕ → List ℕ) (k u : ℕ) (p r : Prefix) (t t₀ : List (List ℕ)) (lv b : ℕ) → OneIn name k u p r t t₀ → (lv ≡ 0 → ⊥) → p.len + lv * 256 ≤ 4096 → b ≡ lv - 1 → r.len + b * 256 ≤ 4096
-room_in name k u p r t t₀ lv b one e h eb = omega (arith, one.room)
-
-pub up_small : (l : Trees) (xs : List ℕ) (n u : ℕ) → Sources l xs n → u ≤ n → u ≤ 1024
-up_small l xs n u s q = omega (arith, s.few)
