@@ -1,4 +1,4 @@
--- The name of a slot: `search naming`. And of a column that a look-up found: its name, as a part of the lent pool.
+-- The name of a slot: the family `naming`. And of a column that a look-up found: its name, as a part of the lent pool.
 use Prim.Native.Nat.{ℕ, ◌+◌, ◌<◌, ◌≤◌}
 use mathlib.Core.Path.{◌≡◌, refl, sym, ap, ◌∙◌}
 use mathlib.Core.Bool.{Bool, true, false, not}

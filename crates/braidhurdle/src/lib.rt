@@ -241,6 +241,7 @@ pub fn braidhurdle_renumber<'a>(
 }
 
 // The column of a full name, or else of a short name.
+#[tactic(auto, using(crate::proofs::Telling::telling))]
 pub fn braidhurdle_find_name<'a>(records: &'a [u8], pool: &'a [u8], name: &[u8]) -> FoundNumbers
     ensures { result ≡ found_in (found (find_name records.now pool.now
         name.now)) }
@@ -249,6 +250,7 @@ pub fn braidhurdle_find_name<'a>(records: &'a [u8], pool: &'a [u8], name: &[u8])
 }
 
 // The same where case is forgotten; refusal 21 where two columns match at the same level.
+#[tactic(auto, using(crate::proofs::Telling::telling))]
 pub fn braidhurdle_find_folded<'a>(records: &'a [u8], pool: &'a [u8], name: &[u8]) -> FoundNumbers
     ensures { result ≡ found_in (found (find_folded records.now pool.now
         name.now)) }
@@ -257,6 +259,7 @@ pub fn braidhurdle_find_folded<'a>(records: &'a [u8], pool: &'a [u8], name: &[u8
 }
 
 // The slot of an id.
+#[tactic(auto, using(crate::proofs::Telling::telling))]
 pub fn braidhurdle_find_id<'a>(records: &'a [u8], pool: &'a [u8], id: u32) -> FoundNumbers
     ensures { result ≡ found_in
         (found (find_id records.now pool.now id)) }
@@ -280,6 +283,7 @@ pub fn braidhurdle_find_ids<'a>(
 }
 
 // The column above that of an id.
+#[tactic(auto, using(crate::proofs::Telling::telling))]
 pub fn braidhurdle_find_parent<'a>(records: &'a [u8], pool: &'a [u8], id: u32) -> FoundNumbers
     ensures { result ≡ found_in (found (find_parent records.now pool.now
         id)) }
@@ -288,6 +292,7 @@ pub fn braidhurdle_find_parent<'a>(records: &'a [u8], pool: &'a [u8], id: u32) -
 }
 
 // The name of the record at a slot, as a part of the lent pool. That record alone is read; the tree is not tested.
+#[tactic(auto, using(crate::proofs::Naming::naming))]
 pub fn braidhurdle_found_name(records: &[u8], pool: &[u8], slot: u32) -> NameNumbers
     ensures { result ≡ name_numbers (found_name records.now pool.now slot) }
 {
