@@ -56,6 +56,7 @@ pub fn row_next(plan: &PlanRows, m: usize, row: Siblings) -> usize
 }
 
 // A to Z become a to z; no other byte folds.
+#[tactic(auto, using(crate::proofs::Comparing::fold_is))]
 fn fold(x: u8) -> u8
     ensures { result ≡ fold x }
 {
@@ -63,6 +64,7 @@ fn fold(x: u8) -> u8
 }
 
 // Whether two names fold to the same byte at a place.
+#[tactic(auto, using(crate::proofs::Comparing::at_alike))]
 fn alike_at(a: &[u8], b: &[u8], i: usize) -> bool
     requires { (i < length a.now) × (i < length b.now) }
     ensures { result ≡ eqb (get_or (folded a.now) i 0)
@@ -94,6 +96,7 @@ fn equal_folded(a: &[u8], b: &[u8]) -> bool
 }
 
 // The one comparison of names: by their bytes, or by what these fold to.
+#[tactic(auto, using(crate::proofs::Comparing::alike_folded, crate::proofs::Comparing::alike_exact))]
 fn alike(a: &[u8], b: &[u8], folding: bool) -> bool
     ensures { result ≡ same (spelt folding a.now) (spelt folding b.now) }
 {
@@ -121,6 +124,7 @@ fn kind_of<'a>(trees: &Trees<'a>, plan: &PlanRows, m: usize, k: usize) -> Kind
 }
 
 // A name against x from `pos` on. What stands behind it in x is looked at first, so most names are not compared at all.
+#[tactic(auto, using(crate::proofs::Fitting::fit_none, crate::proofs::Fitting::fit_whole, crate::proofs::Fitting::fit_other, crate::proofs::Fitting::fit_apart, crate::proofs::Fitting::fit_under, crate::proofs::Fitting::fit_unlike))]
 fn fit_name(name: &[u8], x: &[u8], pos: usize, folding: bool) -> Fit
     requires { pos ≤ length x.now }
     ensures { fit_number result ≡ fits (spelt folding name.now)
@@ -146,6 +150,7 @@ fn fit_name(name: &[u8], x: &[u8], pos: usize, folding: bool) -> Fit
 }
 
 // Where to look on inside the record: behind x's end where nothing there can match.
+#[tactic(auto, using(crate::proofs::Fitting::deep_skips, crate::proofs::Fitting::deep_goes, crate::proofs::Fitting::deep_ends))]
 fn deeper(f: Fit, skip: bool, name: &[u8], x: &[u8], pos: usize) -> usize
     requires { (pos ≤ length x.now) × (f ≡ Prefix → pos + length name.now < length x.now) }
     ensures { result ≡ deeper skip (fit_number f) pos (length name.now) (length x.now) }
