@@ -1,10 +1,9 @@
 -- The role by the place above a slot is that of the paper's row: a row that a look-up finds is the record at its slot, in its role.
-use Prim.Native.Nat.{ℕ, zero, suc, ◌+◌, ◌-◌, ◌*◌, ◌<◌, ◌≤◌}
+use Prim.Native.Nat.{ℕ, zero, suc, ◌+◌, ◌*◌, ◌<◌, ◌≤◌}
 use mathlib.Core.Path.{◌≡◌, refl, sym, ap, ◌∙◌}
 use mathlib.Core.Bool.{Bool, true, false, cond}
 use mathlib.Core.List.{List}
 use mathlib.Core.Option.{some}
-use native.Mathlib.Numerals.{sub-one}
 use native.Mathlib.Omega.{arith}
 use lib.Dec.{eqb}
 use lib.ListN.{length, get_or}
@@ -25,37 +24,45 @@ use Rattle.laws.proofs.Taken.{Laid, roots_take}
 use Rattle.tree.specs.Read.{got}
 use Rattle.tree.proofs.Steps.{fine_got}
 use Rattle.index_names.proofs.Rising.{Climbs}
+use Rattle.record.specs.Answers.{FoundSlot}
+use Rattle.record.specs.Says.{slot_before}
+use Rattle.record.specs.declared.Slot.{Slot}
+use Rattle.std.specs.Prelude.{Some, None}
 use Rattle.update_gone.specs.Gone.{base_slots, Rises}
 use Rattle.update_gone.proofs.Leaving.{base_climbs, up_falls}
 use Rattle.update_edits.specs.Roles.{role_under, role_at, Stood}
 
 -- ---- the code: `search roles`
 
-module _ (records us : List ℕ) (slot above : ℕ) (e : above ≡ get_or us slot 0) where
-  pub role_root : above ≡ 0 → Member ≡ role_at records us slot
-  unfolding role_under
-  role_root z = rw (← e, z)
+module _ (records us : List ℕ) (slot above : ℕ) (e : above ≡ get_or us slot 0) (w : FoundSlot) (ew : w ≡ slot_before above) where
+  pub role_root : w ≡ None → Member ≡ role_at records us slot
+  unfolding role_under slot_before
+  role_root z = rw (← e) (go above (sym ew ∙ z))
+    where
+      go : (u : ℕ) → slot_before u ≡ None → Member ≡ role_under records u slot
+      go zero h = refl
+      go (suc p) h = cc
 
-  module _ (z : above ≡ 0 → ⊥) where
-    pub role_room : {n : ℕ} → Rises records n us → slot < n → (above - 1) * 24 + 24 ≤ length records
-    role_room R l = let f = up_falls R slot l in let w = R.whole in omega arith
+  module _ (j : Slot) (z : w ≡ Some j) where
+    above_is : get_or us slot 0 ≡ suc j.0
+    unfolding slot_before
+    above_is = sym e ∙ go above (sym ew ∙ z)
+      where
+        go : (u : ℕ) → slot_before u ≡ Some j → u ≡ suc j.0
+        go zero h = cc
+        go (suc p) h = let q : record { 0 = p } ≡ j = cc in ap (λ (x : Slot). suc x.0) q
 
-    module _ (k : Kind) (f : Role) (ek : k ≡ kind_at records (above - 1)) (ef : f ≡ first k) where
-      pub role_first : slot ≡ above → f ≡ role_at records us slot
+    pub role_room : {n : ℕ} → Rises records n us → slot < n → j.0 * 24 + 24 ≤ length records
+    role_room R l = let f = up_falls R slot l in let q = above_is in let r = R.whole in omega arith
+
+    module _ (k : Kind) (f : Role) (ek : k ≡ kind_at records j.0) (ef : f ≡ first k) where
+      pub role_first : slot ≡ j.0 + 1 → f ≡ role_at records us slot
       unfolding role_under
-      role_first q = rw (← e) (go above z ek q)
-        where
-          go : (u : ℕ) → (u ≡ 0 → ⊥) → k ≡ kind_at records (u - 1) → slot ≡ u → f ≡ role_under records u slot
-          go zero h d q = absurd (h refl)
-          go (suc p) h d q = rw (ef, d, sub-one (suc p), q, eqb_self (suc p))
+      role_first q = let d : slot ≡ suc j.0 = omega arith in rw (above_is, ef, ek, d, eqb_self (suc j.0))
 
-      pub role_next : (r : Role) → (slot ≡ above → ⊥) → r ≡ after f → r ≡ role_at records us slot
+      pub role_next : (r : Role) → (slot ≡ j.0 + 1 → ⊥) → r ≡ after f → r ≡ role_at records us slot
       unfolding role_under
-      role_next r q er = rw (← e) (go above z ek q)
-        where
-          go : (u : ℕ) → (u ≡ 0 → ⊥) → k ≡ kind_at records (u - 1) → (slot ≡ u → ⊥) → r ≡ role_under records u slot
-          go zero h d q = absurd (h refl)
-          go (suc p) h d q = rw (er, ef, d, sub-one (suc p), ne_eqb slot (suc p) q)
+      role_next r q er = rw (above_is, er, ef, ek, ne_eqb slot (suc j.0) (λ d. q (omega arith)))
 
 pub ruleset roles = (role_root, role_room, role_first, role_next)
 

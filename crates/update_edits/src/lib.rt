@@ -20,7 +20,7 @@ ghost use Rattle.update_edits.specs.Marks.{mark_with, marked_by, remarked, Remar
 use index_ids::{IndexRows, UPS, cell};
 use paper::{Role, first_role, is_key, is_primitive, next_role};
 use plan::PlanRows;
-use record::{FieldId, Refusal, Slot, Trees, code_at, has_dot, kind_at};
+use record::{FieldId, Refusal, Slot, Trees, code_at, has_dot, kind_at, slot_before};
 use record_entries::{What, new_code_at, new_name_at, what_at};
 use update_dropped::Dropped;
 use update_gone::is_gone;
@@ -99,12 +99,11 @@ fn role_at(recs: &[u8], n: usize, index: &IndexRows, slot: usize) -> Role
     requires { Rises recs.now n (ups_in index.now) × (slot < n) }
     ensures { result ≡ role_at recs.now (ups_in index.now) slot }
 {
-    let above = cell(index, UPS, slot);
-    if above == 0 {
+    let Some(above) = slot_before(cell(index, UPS, slot)) else {
         return Role::Member;
-    }
-    let first = first_role(kind_at(recs, above - 1));
-    if slot == above {
+    };
+    let first = first_role(kind_at(recs, above.0));
+    if slot == above.0 + 1 {
         return first;
     }
     next_role(first)
