@@ -1,7 +1,7 @@
 -- The parts of a line, put into a buffer one behind another.
 use mathlib.Core.Path.{◌≡◌, refl, ◌∙◌}
 use mathlib.Core.List.{List, [], ◌∷◌, ◌++◌}
-use Prim.Native.Nat.{ℕ, zero, suc, ◌+◌, ◌-◌}
+use Prim.Native.Nat.{ℕ, ◌+◌}
 use native.Mathlib.Numerals.{add-one}
 use native.Mathlib.Omega.{arith}
 use lib.ListN.{length, get_or, set, length-append}
@@ -37,14 +37,6 @@ module _ (at : ℕ) (out : List ℕ) where
 
   put_text : (t : List ℕ) (o : List ℕ) → o ≡ sets out at t → Put t at out (at + length t) o
   put_text t o e = record { bytes = e; end = refl }
-
-module _ (is out : List ℕ) (at : ℕ) where
-  pub put_root : (up : ℕ) → up ≡ 0 → Put (parent_text (above is up)) at out (at + 1) (set out at 45)
-  put_root up e = rw e (put_byte at out 45)
-
-  pub put_above : (up r : ℕ) (o : List ℕ) → (up ≡ 0 → ⊥) → Put (signed (id_in is (up - 1))) at out r o → Put (parent_text (above is up)) at out r o
-  put_above zero r o z h = absurd (z refl)
-  put_above (suc p) r o z h = let e : suc p - 1 ≡ p = omega arith in rw e at h
 
 pub put_numbers : (is : List ℕ) (k u : ℕ) (out : List ℕ) (a : ℕ) (o₁ : List ℕ) (b : ℕ) (o₂ : List ℕ) (c : ℕ) (o₃ : List ℕ)
     → Put (decimal k) 0 out a o₁ → Put (signed (id_in is k)) (a + 1) (set o₁ a 32) b o₂ → Put (parent_text (above is u)) (b + 1) (set o₂ b 32) c o₃

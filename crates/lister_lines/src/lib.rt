@@ -194,8 +194,8 @@ fn list_rows<'a>(
     at
 }
 
-// 2 to 8, then the listing, of any bytes: its bytes from `from` on, as many as the buffer holds. Answers the length of the whole listing. The
-// buffer for a line has room for the longest name that a u16 can count, and for what stands around it.
+// 2 to 8, then the listing, of any bytes: its bytes from `from` on, as many as the buffer holds. Answers the length of the whole
+// listing. The buffer for a line has room for the longest name that a u16 can count, and for what stands around it.
 pub fn listing<'a>(records: &'a [u8], pool: &'a [u8], from: usize, out: &mut [u8]) -> usize
     ensures { Shown (lister records.now pool.now) from
         out.old result out.new }

@@ -1,4 +1,4 @@
--- The steps in their order, each as the paper has it. Rulesets: `opening` (1 to 6) and `deciding` (20).
+-- The steps in their order, each as the paper has it. Ruleset: `opening` (1 to 6).
 use mathlib.Core.Path.{◌≡◌, refl, sym, ap, ◌∙◌}
 use mathlib.Core.Bool.{Bool, true, false, not}
 use mathlib.Core.List.{List, [], ◌∷◌}
@@ -100,8 +100,6 @@ module _ (s : List ℕ) (c : ℕ) (plan : PlanRows) (index : List (List ℕ)) (h
 -- No slot is marked yet.
 pub unmarked : Unmarked (replicate {A = ℕ} 1024 0)
 unmarked = record { room = length-replicate {A = ℕ} 1024 0; none_marked = λ k l. get_or-replicate 1024 k 0 0 l }
-
-pub ruleset deciding = (decide_stops, decide_goes)
 
 -- ---- test: the base as its own plan
 

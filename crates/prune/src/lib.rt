@@ -21,6 +21,7 @@ use record_limits::{room, sized_ids};
 use tree::check_tree;
 
 // Refusals 1 to 6, or the number of roots.
+// Apart from renumber's `open`: this crate's wrong edit tree_as_additions stands on its text.
 fn open(
     records: &[u8],
     pool: &[u8],

@@ -34,7 +34,7 @@ use tree_walk::is_map;
 #[derive(Clone, Copy)]
 pub struct Choice<'a> {
     pub records: &'a [u8],
-    pub marks: &'a [u8; 1024],
+    pub marks: &'a [u8; 1024], // bytes, not bools: a narrower type would ask more of callers
     pub full: bool,
 }
 

@@ -13,7 +13,6 @@ use Rattle.paper.specs.Answer.{any, place_of}
 use Rattle.paper.specs.Bytes.{turned, from}
 use Rattle.paper.specs.Lists.{id_at, id_list}
 use Rattle.laws.proofs.Finding.{place_none, place_some, any_more, one_place, eqb_flip}
-use Rattle.record.specs.declared.Slot.{Slot}
 use Rattle.record.specs.Answers.{FoundSlot}
 use Rattle.std.specs.Prelude.{Some, None}
 use Rattle.record.specs.Says.{slot_before}
@@ -23,13 +22,6 @@ use Rattle.index_ids.specs.Ids.{id_in, is_id}
 use Rattle.index_ids.proofs.Repeats.{slot_at, found_below}
 use Rattle.prune_columns.specs.Projected.{marked}
 use Rattle.prune_marks.specs.Marks.{mark_at, Unmarked, DistinctIds, Marks}
-
-module _ (w : FoundSlot) (l : List ℕ) where
-  pub mark_none : w ≡ None → l ≡ mark_at w l
-  mark_none e = rw e
-
-  pub mark_some : (s : Slot) → w ≡ Some s → set l s.0 1 ≡ mark_at w l
-  mark_some s e = rw e
 
 -- The first i chosen ids are marked.
 pub record Marking (sel is : List ℕ) (m : ℕ) (marks : List ℕ) (i : ℕ) : Type 0 where

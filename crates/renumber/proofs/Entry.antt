@@ -130,9 +130,6 @@ module _ (records pool identifiers : List ℕ) (lr ln li : ℕ) where
       pub few_identifiers : length identifiers ≤ 256
       few_identifiers = ids_most 64 records pool identifiers true (sym p.limits) refl
 
-      pub few_records : slots records < 4294967296
-      few_records = let a = few in omega arith
-
       pub numbers_left : (is : List ℕ) (first : ℕ) → first ≤ 4294967295 - slots records → Room records 16 c 0 is first
       numbers_left is first l = let a = o.all in let e = few in record { there = o.there; numbers = omega arith }
 
