@@ -65,7 +65,7 @@ fn marked_source(marks: &Marks, source: u32) -> u32
     if 1024 <= source {
         return source;
     }
-    let mark = marks[source as usize] as u32;
+    let mark = u32::from(marks[source as usize]);
     if mark == 0 {
         return source;
     }
