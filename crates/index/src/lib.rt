@@ -111,6 +111,7 @@ pub fn with_id(plan: &PlanRows, found: Option<Slot>) -> Option<(FieldId, Slot)>
 }
 
 // The record that has the id.
+#[tactic(auto, using(index_ids::proofs::Chains::found_below_room, crate::proofs::Looking::finds_id))]
 pub fn look_id(plan: &PlanRows, m: usize, index: &IndexRows, id: FieldId) -> Option<(FieldId, Slot)>
     requires { (m ≤ 1024) × IdsChained (numbers plan.now) index.now m }
     ensures { ById plan.now m id.0 result }
@@ -159,6 +160,7 @@ fn look_short<'a>(
 }
 
 // The record that has the full name; else the first entered that has the short name, which has a dot where it is no full name.
+#[tactic(auto, using(index_ids::proofs::Chains::found_below_room, crate::proofs::Looking::by_full, crate::proofs::Looking::by_short, crate::proofs::Looking::by_root))]
 pub fn look_name<'a>(
     trees: &Trees<'a>,
     plan: &PlanRows,
