@@ -7,12 +7,13 @@ ghost use Rattle.paper.specs.Bytes.{turned};
 ghost use Rattle.paper.specs.Lister.{decimal, signed, parent_text, lister};
 ghost use Rattle.record.specs.Trees.{trees_in};
 ghost use Rattle.plan.specs.Table.{numbers};
-ghost use Rattle.index_names.specs.Table.{full_in, SpeltIn};
+ghost use Rattle.index_names.specs.Table.{full_in};
 ghost use Rattle.lister_lines.specs.Digits.{Put};
 ghost use Rattle.lister_lines.specs.Text.{above, line_start, line_at, joined, refusal_text, Shown};
 
 use index::index_base;
-use index_ids::{IndexRows, LENS, UPS, cell};
+use index_ids::{LENS, UPS, cell};
+use index_order::Names;
 use itoa::Buffer;
 use plan::{PlanRows, name_of, put_bytes};
 use record::{Refusal, Trees};
@@ -48,28 +49,19 @@ fn put_signed(out: &mut [u8], at: usize, id: u32) -> usize
 }
 
 // The full name of a slot from `at` on: its own name at the end, then the names above it, each before a dot.
-fn put_full<'a>(
-    trees: &Trees<'a>,
-    plan: &PlanRows,
-    m: usize,
-    index: &IndexRows,
-    slot: usize,
-    out: &mut [u8],
-    at: usize,
-) -> usize
-    requires { (slot < m) × (SpeltIn (trees_in trees.now) plan.now m index.now
-        × (at + 65535 ≤ length out.old)) }
-    ensures { Put (full_in (trees_in trees.now) plan.now
-        index.now slot) at out.old result out.new × (result ≤ at + 65535) }
+fn put_full<'a>(names: &Names<'a>, slot: usize, out: &mut [u8], at: usize) -> usize
+    requires { (slot < names.now.m) × (at + 65535 ≤ length out.old) }
+    ensures { Put (full_in (trees_in names.now.trees.now) names.now.plan.now
+        names.now.index.now slot) at out.old result out.new × (result ≤ at + 65535) }
 {
-    let stop = at + cell(index, LENS, slot);
+    let stop = at + cell(names.index, LENS, slot);
     let mut end = stop;
     let mut here = slot;
     loop {
-        let name = name_of(trees, plan, m, here);
+        let name = name_of(names.trees, names.plan, names.m, here);
         let from = end - name.len();
         put_bytes(out, from, name);
-        let up = cell(index, UPS, here);
+        let up = cell(names.index, UPS, here);
         if up == 0 {
             return stop;
         }
@@ -108,21 +100,13 @@ fn put_numbers(out: &mut [u8], plan: &PlanRows, slot: usize, up: usize) -> usize
 }
 
 // The line of a slot at the start of the buffer, and its length.
-fn put_line<'a>(
-    trees: &Trees<'a>,
-    plan: &PlanRows,
-    m: usize,
-    index: &IndexRows,
-    slot: usize,
-    out: &mut [u8],
-) -> usize
-    requires { (slot < m) × (SpeltIn (trees_in trees.now) plan.now m index.now
-        × (65571 ≤ length out.old)) }
-    ensures { Put (line_at (trees_in trees.now) plan.now
-        index.now slot) 0 out.old result out.new × (result ≤ 65571) }
+fn put_line<'a>(names: &Names<'a>, slot: usize, out: &mut [u8]) -> usize
+    requires { (slot < names.now.m) × (65571 ≤ length out.old) }
+    ensures { Put (line_at (trees_in names.now.trees.now) names.now.plan.now
+        names.now.index.now slot) 0 out.old result out.new × (result ≤ 65571) }
 {
-    let named = put_numbers(out, plan, slot, cell(index, UPS, slot));
-    let end = put_full(trees, plan, m, index, slot, out, named);
+    let named = put_numbers(out, names.plan, slot, cell(names.index, UPS, slot));
+    let end = put_full(names, slot, out, named);
     out[end] = b'\n';
     end + 1
 }
@@ -171,23 +155,14 @@ fn list_refusal(refusal: Refusal, from: usize, out: &mut [u8]) -> usize
 }
 
 // The listing of a tree, line after line.
-fn list_rows<'a>(
-    trees: &Trees<'a>,
-    plan: &PlanRows,
-    m: usize,
-    index: &IndexRows,
-    from: usize,
-    line: &mut [u8],
-    out: &mut [u8],
-) -> usize
-    requires { SpeltIn (trees_in trees.now) plan.now m index.now
-        × (65571 ≤ length line.old) }
-    ensures { Shown (joined (line_at (trees_in trees.now) plan.now
-        index.now) m) from out.old result out.new }
+fn list_rows<'a>(names: &Names<'a>, from: usize, line: &mut [u8], out: &mut [u8]) -> usize
+    requires { 65571 ≤ length line.old }
+    ensures { Shown (joined (line_at (trees_in names.now.trees.now) names.now.plan.now
+        names.now.index.now) names.now.m) from out.old result out.new }
 {
     let mut at = 0;
-    for slot in 0..m {
-        let n = put_line(trees, plan, m, index, slot, line);
+    for slot in 0..names.m {
+        let n = put_line(names, slot, line);
         put_shown(out, from, at, &line[..n]);
         at += n;
     }
@@ -213,5 +188,11 @@ pub fn listing<'a>(records: &'a [u8], pool: &'a [u8], from: usize, out: &mut [u8
         return list_refusal(refusal, from, out);
     }
     let mut line = [0u8; 65571];
-    list_rows(&trees, &plan, n, &index, from, &mut line, out)
+    let names = Names {
+        trees: &trees,
+        plan: &plan,
+        m: n,
+        index: &index,
+    };
+    list_rows(&names, from, &mut line, out)
 }

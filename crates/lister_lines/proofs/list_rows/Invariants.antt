@@ -5,4 +5,4 @@ use Rattle.lister_lines.proofs.Showing.{Listing}
 use Rattle.lister_lines.proofs.list_rows.Given as goal
 
 abbrev pub invariant-loop-slot : goal.invariant-loop-slot
-invariant-loop-slot l = Listing (line_at (trees_in l.trees) l.plan l.index) l.m l.from l.initial.line l.initial.out l.line l.out l.at l.slot
+invariant-loop-slot l = Listing (line_at (trees_in l.names.trees.now) l.names.plan.now l.names.index.now) l.names.m l.from l.initial.line l.initial.out l.line l.out l.at l.slot

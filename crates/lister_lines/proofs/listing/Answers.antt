@@ -16,6 +16,11 @@ returns-in-Err-tested c =
     let o = opened _ _ _ c.read_tree-read.ensures _ c.in_default.is _ _ _ _ (rw c.alone-trees.ensures at c.index_base-tested.ensures) in
     search (listed, o, rules)
 
+pub invariant_of-names : goal.invariant_of-names
+invariant_of-names c =
+    let o = opened _ _ _ c.read_tree-read.ensures _ c.in_default.is _ _ _ _ (rw c.alone-trees.ensures at c.index_base-tested.ensures) in
+    rw c.alone-trees.ensures (record { spelt = (o.indexed c.in_default-tested.is).spelt })
+
 pub returns : goal.returns
 returns c =
     let o = opened _ _ _ c.read_tree-read.ensures _ c.in_default.is _ _ _ _ (rw c.alone-trees.ensures at c.index_base-tested.ensures) in

@@ -13,7 +13,7 @@ pub returns-then-up-eq0 : goal.returns-then-up-eq0
 returns-then-up-eq0 c = (search (climbing, rules), search rules)
 
 pub overflow_sub-end : goal.overflow_sub-end
-overflow_sub-end c = climb_dot _ _ _ _ _ _ _ _ _ _ _ c.loop-m.invariant _ c.name_of-name.ensures _ c.cell-up.ensures.0 c.if-up-eq0.false
+overflow_sub-end c = climb_dot _ _ _ _ _ _ _ _ _ _ _ c.loop-slot.invariant _ c.name_of-name.ensures _ c.cell-up.ensures.0 c.if-up-eq0.false
 
-pub loop-m-preserved : goal.loop-m-preserved
-loop-m-preserved c = search (climb_goes, rules)
+pub loop-slot-preserved : goal.loop-slot-preserved
+loop-slot-preserved c = search (climb_goes, rules)
