@@ -1,5 +1,5 @@
 -- The loops count as the definitions do, and a fresh table is what they begin with. `search rounds`, `search timing`.
-use Prim.Native.Nat.{ℕ, suc, ◌+◌, ◌*◌, ◌/◌, ◌%◌, ◌≤◌}
+use Prim.Native.Nat.{ℕ, suc, ◌+◌, ◌*◌, ◌/◌, ◌≤◌}
 use mathlib.Core.Path.{◌≡◌, refl, sym, ap, ◌∙◌}
 use mathlib.Core.Bool.{Bool, true, false, not}
 use mathlib.Core.List.{List}
@@ -9,9 +9,8 @@ use borrow.Author.Tests.{not-true, not-false}
 use Rattle.paper.specs.Bytes.{turned}
 use Rattle.paper.specs.Limits.{whole}
 use Rattle.paper.specs.Lists.{id_at}
-use Rattle.record.specs.declared.Slot.{Slot}
 use Rattle.record.specs.Answers.{FoundSlot, Check}
-use Rattle.std.specs.Prelude.{Ok, Err, Some, None}
+use Rattle.std.specs.Prelude.{Ok, Err}
 use Rattle.record.specs.declared.Refusal.{Refusal}
 use Rattle.record.specs.Says.{slot_before}
 use Rattle.record_limits.proofs.Within.{whole_most}
@@ -21,15 +20,6 @@ use Rattle.index_ids.specs.Ids.{is_id}
 use Rattle.index_ids.specs.Path.{IndexedIn}
 use Rattle.index_timed.specs.Timed.{counts, each_round, all_rounds, id_row, timed}
 use Rattle.plan.specs.declared.PlanRows.{PlanRows}
-
-module _ (w : FoundSlot) (c : ℕ) where
-  pub count_same : w ≡ None → c ≡ counts w c
-  count_same e = rw e
-
-  pub count_more : (s : Slot) → w ≡ Some s → (c + 1) % 4294967296 ≡ counts w c
-  count_more s e = rw e
-
-pub ruleset counting = (count_same, count_more)
 
 -- ---- one round
 

@@ -16,10 +16,10 @@ use record_limits::whole_list;
 fn counted(found: Option<Slot>, count: u32) -> u32
     ensures { result ≡ counts found count }
 {
-    let Some(_) = found else {
-        return count;
-    };
-    ((count as u64 + 1) % 4294967296) as u32
+    match found {
+        None => count,
+        Some(_) => count.wrapping_add(1),
+    }
 }
 
 // One round: a search for each id. The count goes through, so that no round can be left out as the same as the one before.
