@@ -109,84 +109,86 @@ pub fn place_at_root(
     })
 }
 
-// Whether the name is taken in the struct at a slot: a member that stays has it. In a dropped struct every name is free.
-#[tactic(auto, unfolding(crate::specs::Entry::taken_at))]
-fn is_taken(recs: &[u8], pool: &[u8], n: usize, slot: usize, name: &[u8], dropped: &Dropped) -> bool
-    requires { Sited pool.now recs.now n slot }
-    ensures { result ≡ taken_at pool.now recs.now n slot (dropped_ids dropped.now) name.now }
-{
-    !dropped.holds(FieldId(id_bits_at(recs, slot)))
-        && name_taken(recs, pool, n, slot, name, dropped)
+// The base, to whose structs additions go: its records and how many they are, the pool of their names, its index, and the ids that go.
+#[derive(Clone, Copy)]
+pub struct Base<'a> {
+    pub records: &'a [u8],
+    pub n: usize,
+    pub pool: &'a [u8],
+    pub index: &'a IndexRows,
+    pub dropped: &'a Dropped,
 }
 
-// The struct at a slot takes an addition unless it goes (refusal 22), or the name is taken in it (17).
-#[tactic(auto, using(crate::proofs::Placing::joining))]
-fn join(
-    recs: &[u8],
-    pool: &[u8],
-    n: usize,
-    index: &IndexRows,
-    slot: usize,
-    name: &[u8],
-    place: u32,
-    dropped: &Dropped,
-) -> Result<u64, Refusal>
-    requires { Sited pool.now recs.now n slot × Rises recs.now n (ups_in index.now) }
-    ensures { result ≡ goes (under_place pool.now recs.now n slot
-        (dropped_ids dropped.now) place name.now) }
-{
-    if is_gone(recs, n, index, slot, dropped) {
-        // refusal 22
-        return Err(Refusal {
-            number: 22,
-            list: 3,
-            place,
-        });
+impl<'a> Base<'a> {
+    // Whether the name is taken in the struct at a slot: a member that stays has it. In a dropped struct every name is free.
+    #[tactic(auto, unfolding(crate::specs::Entry::taken_at))]
+    fn is_taken(&self, slot: usize, name: &[u8]) -> bool
+        requires { Sited self.now.pool.now self.now.records.now self.now.n slot }
+        ensures { result ≡ taken_at self.now.pool.now self.now.records.now self.now.n slot
+            (dropped_ids self.now.dropped.now) name.now }
+    {
+        !self.dropped.holds(FieldId(id_bits_at(self.records, slot)))
+            && name_taken(self.records, self.pool, self.n, slot, name, self.dropped)
     }
-    if is_taken(recs, pool, n, slot, name, dropped) {
-        // refusal 17
-        return Err(Refusal {
-            number: 17,
-            list: 3,
-            place,
-        });
-    }
-    Ok(under_of(id_bits_at(recs, slot)))
-}
 
-// An addition under a parent goes to 1 + x, where the struct that its path leads to by one step has the bits x: refusals 15 (no
-// parent), 16 (no struct), 22 and 17.
-pub fn place_under(
-    found: Option<(FieldId, Slot)>,
-    recs: &[u8],
-    pool: &[u8],
-    n: usize,
-    index: &IndexRows,
-    name: &[u8],
-    place: u32,
-    dropped: &Dropped,
-) -> Result<u64, Refusal>
-    requires { FoundSited pool.now recs.now n found × Rises recs.now n (ups_in index.now) }
-    ensures { UnderParent found pool.now recs.now n
-        (dropped_ids dropped.now) place name.now result }
-{
-    let Some((_, parent)) = found else {
-        // refusal 15
-        return Err(Refusal {
-            number: 15,
-            list: 3,
-            place,
-        });
-    };
-    let Some(slot) = resolve_parent_target(recs, n, parent.0) else {
-        // refusal 16
-        return Err(Refusal {
-            number: 16,
-            list: 3,
-            place,
-        });
-    };
-    join(recs, pool, n, index, slot.0, name, place, dropped)
+    // The struct at a slot takes an addition unless it goes (refusal 22), or the name is taken in it (17).
+    #[tactic(auto, using(crate::proofs::Placing::joining))]
+    fn join(&self, slot: usize, name: &[u8], place: u32) -> Result<u64, Refusal>
+        requires { Sited self.now.pool.now self.now.records.now self.now.n slot
+            × Rises self.now.records.now self.now.n (ups_in self.now.index.now) }
+        ensures { result ≡ goes (under_place self.now.pool.now self.now.records.now self.now.n slot
+            (dropped_ids self.now.dropped.now) place name.now) }
+    {
+        if is_gone(self.records, self.n, self.index, slot, self.dropped) {
+            // refusal 22
+            return Err(Refusal {
+                number: 22,
+                list: 3,
+                place,
+            });
+        }
+        if self.is_taken(slot, name) {
+            // refusal 17
+            return Err(Refusal {
+                number: 17,
+                list: 3,
+                place,
+            });
+        }
+        Ok(under_of(id_bits_at(self.records, slot)))
+    }
+
+    // An addition under a parent goes to 1 + x, where the struct that its path leads to by one step has the bits x: refusals 15 (no
+    // parent), 16 (no struct), 22 and 17.
+    pub fn place_under(
+        &self,
+        found: Option<(FieldId, Slot)>,
+        name: &[u8],
+        place: u32,
+    ) -> Result<u64, Refusal>
+        requires { FoundSited self.now.pool.now self.now.records.now self.now.n found
+            × Rises self.now.records.now self.now.n (ups_in self.now.index.now) }
+        ensures { UnderParent found self.now.pool.now self.now.records.now self.now.n
+            (dropped_ids self.now.dropped.now) place name.now result }
+    {
+        let Some((_, parent)) = found else {
+            // refusal 15
+            return Err(Refusal {
+                number: 15,
+                list: 3,
+                place,
+            });
+        };
+        let Some(slot) = resolve_parent_target(self.records, self.n, parent.0) else {
+            // refusal 16
+            return Err(Refusal {
+                number: 16,
+                list: 3,
+                place,
+            });
+        };
+        self.join(slot.0, name, place)
+    }
 }
 
 // The ids of an addition, in preorder after the last one that was consumed, shifted by 2^31: the bits of the first, and the last; or

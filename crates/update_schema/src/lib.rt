@@ -28,7 +28,7 @@ use plan::PlanRows;
 use record::{Lists, Refusal, Trees, name_at};
 use record_entries::{has_path, path_at};
 use tree::tree_end;
-use update_decide::{assign_fresh_ids, check_added, drop_one, place_at_root, place_under};
+use update_decide::{Base, assign_fresh_ids, check_added, drop_one, place_at_root};
 use update_dropped::Dropped;
 use update_rebuild::{Decisions, Given};
 
@@ -111,16 +111,14 @@ impl<'a> Request<'a> {
         if has_path(self.lists.additions, k) {
             let path = path_at(trees.request_pool, self.lists.additions, k);
             let parent = look_name(trees, self.plan, n, self.index, path);
-            return place_under(
-                parent,
-                trees.records,
-                trees.pool,
+            let base = Base {
+                records: trees.records,
                 n,
-                self.index,
-                name,
-                k as u32,
+                pool: trees.pool,
+                index: self.index,
                 dropped,
-            );
+            };
+            return base.place_under(parent, name, k as u32);
         }
         let taken = look_name(trees, self.plan, n, self.index, name);
         place_at_root(taken, k as u32, dropped)

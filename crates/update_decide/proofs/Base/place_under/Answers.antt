@@ -1,6 +1,6 @@
 -- Nothing found is 15, no struct 16; then the struct decides.
 use Rattle.update_decide.proofs.Leading.{parent_nothing, parent_stands, target_sited, parent_shut, parent_joins}
-use Rattle.update_decide.proofs.place_under.Goals as goal
+use Rattle.update_decide.proofs.Base.place_under.Goals as goal
 
 pub returns-in_default : goal.returns-in_default
 returns-in_default c = parent_nothing _ _ _ _ _ _ _ c.in_default.is
