@@ -1,5 +1,5 @@
 -- What the planner's functions ask and what they leave.
-use Rattle.std.specs.Prelude.{ℕ, ◌+◌, ◌-◌, ◌*◌, ◌≤◌, ◌<◌, ◌≡◌, Bool, true, ◌&&◌, cond, List, leb, length, get_or}
+use Rattle.std.specs.Prelude.{ℕ, ◌+◌, ◌-◌, ◌*◌, ◌≤◌, ◌<◌, ◌≡◌, Bool, true, ◌&&◌, cond, List, leb, length, get_or, replicate}
 use Rattle.std.proofs.Math.Option.{Option}
 use Rattle.std.proofs.lemmas.List.Edits.{sets}
 use Rattle.paper.specs.Forest.{Forest, empty, size, siblings, levels}
@@ -69,6 +69,16 @@ pub record DecisionsRoom (decisions : Decisions) : Type 0 where
   pub unders_room : length (unders_in decisions) ≡ 64
   pub firsts_room : length (firsts_in decisions) ≡ 64
   pub starts_room : length (starts_in decisions) ≡ 64
+
+-- Nothing is decided: rows of zeros, and root lists.
+unfoldable pub nothing_decided : Decisions
+nothing_decided =
+    record {
+      drops = replicate 64 0;
+      unders = replicate 64 None;
+      firsts = replicate 64 0;
+      starts = replicate 64 0;
+    }
 
 abbrev pub ResolvedIn : (added : List ℕ) (given : Given) (decisions : Decisions) → Type 0
 ResolvedIn added given decisions =

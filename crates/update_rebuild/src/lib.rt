@@ -21,6 +21,7 @@ ghost use Rattle.update_rebuild.specs.Planned.{
   StandsAt,
   closing,
   DecisionsRoom,
+  nothing_decided,
   RowPlanned,
   OnePlanned,
   Rebuilds,
@@ -49,16 +50,18 @@ pub struct Given {
 // (`None`: it goes to the root list), its first slot in the additions tree, and the bits of its first id.
 #[derive(Clone, Copy)]
 pub struct Decisions {
-    pub drops: [u64; 64],
+    pub drops: [u32; 64],
     pub unders: [Option<u32>; 64],
     pub firsts: [usize; 64],
     pub starts: [u32; 64],
 }
 
 impl Decisions {
-    // Nothing decided yet: rows of zeros.
+    // Nothing decided yet: rows of zeros, and root lists.
+    #[tactic(auto, unfolding(crate::specs::Planned::nothing_decided))]
     pub fn none() -> Decisions
-        ensures { DecisionsRoom result }
+        ensures zeros { result ≡ nothing_decided }
+        ensures room { DecisionsRoom result }
     {
         Decisions {
             drops: [0; 64],
