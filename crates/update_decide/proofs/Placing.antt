@@ -16,6 +16,7 @@ use Rattle.std.specs.Prelude.{Ok, Err, Some, None}
 use Rattle.record.specs.Answers.{Found}
 use Rattle.record.specs.Says.{found_row, refusal_of, checked}
 use Rattle.update_gone.specs.Gone.{slot_id, ids_gone}
+use Rattle.update_decide.specs.Answers.{Going}
 use Rattle.update_decide.specs.Entry.{Known, unbarred, goes, root_place, AtRoot, taken_at, under_place, freshly}
 use Rattle.update_decide.proofs.Deleting.{at_none, nothing_some, id_back}
 
@@ -42,11 +43,11 @@ pub ruleset adding = (added_dot, added_required, added_fine)
 
 -- ---- at the root
 
-pub root_free : (f : Found) (ds : List ℕ) (k : ℕ) → f ≡ None → AtRoot f ds k (Ok 0)
+pub root_free : (f : Found) (ds : List ℕ) (k : ℕ) → f ≡ None → AtRoot f ds k (Ok None)
 unfolding root_place ◌>>=◌ goes
 root_free f ds k e = record { says = λ o. go o }
   where
-    go : (o : Option Row) → Known o → f ≡ found_row o → Ok 0 ≡ goes (root_place o ds k)
+    go : (o : Option Row) → Known o → f ≡ found_row o → ◌≡◌ {A = Going} (Ok None) (goes (root_place o ds k))
     go none h q = refl
     go (some r) h q = absurd (nothing_some r (sym e ∙ q))
 
@@ -54,11 +55,11 @@ module _ (f : Found) (ds : List ℕ) (k : ℕ) (x : FieldId) (p : Slot) (b : Boo
   asked : (r : Row) → Known (some r) → f ≡ found_row (some r) → among r.field.id ds ≡ b
   asked r h q = ap (λ (z : ℕ). among z ds) (sym (id_back f x p r e h q)) ∙ sym eb
 
-  pub root_dropped : b ≡ true → AtRoot f ds k (Ok 0)
+  pub root_dropped : b ≡ true → AtRoot f ds k (Ok None)
   unfolding root_place ◌>>=◌ goes
   root_dropped t = record { says = λ o. go o }
     where
-      go : (o : Option Row) → Known o → f ≡ found_row o → Ok 0 ≡ goes (root_place o ds k)
+      go : (o : Option Row) → Known o → f ≡ found_row o → ◌≡◌ {A = Going} (Ok None) (goes (root_place o ds k))
       go none h q = absurd (at_none x p (sym e ∙ q))
       go (some r) h q = rw (asked r h q, t)
 
@@ -84,9 +85,9 @@ module _ (pool s : List ℕ) (n slot : ℕ) (ds : List ℕ) (k : ℕ) (x : List 
     unfolding under_place ◌>>=◌ goes
     under_taken q = rw (← eb, t, ← eg, q)
 
-    pub under_free : (i u : ℕ) → g ≡ false → i ≡ (rec_at s slot).id → i < 4294967296 → u ≡ i + 1 → Ok u ≡ goes (under_place pool s n slot ds k x)
+    pub under_free : (i : ℕ) → g ≡ false → i ≡ (rec_at s slot).id → i < 4294967296 → ◌≡◌ {A = Going} (Ok (Some i)) (goes (under_place pool s n slot ds k x))
     unfolding under_place ◌>>=◌ goes
-    under_free i u q ei hi e = rw (← eb, t, ← eg, q, ← ei, turned_twice i hi, e, add-one i)
+    under_free i q ei hi = rw (← eb, t, ← eg, q, ← ei, turned_twice i hi)
 
 pub ruleset joining = (under_gone, under_taken, under_free)
 

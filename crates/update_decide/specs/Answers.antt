@@ -1,5 +1,5 @@
 -- What a deletion and an addition answer.
-use Rattle.std.specs.Prelude.{ℕ, Result}
+use Rattle.std.specs.Prelude.{ℕ, Option, Result}
 use Rattle.record.specs.declared.FieldId.{FieldId}
 use Rattle.record.specs.declared.Refusal.{Refusal}
 
@@ -7,9 +7,9 @@ use Rattle.record.specs.declared.Refusal.{Refusal}
 abbrev pub Dropping : Type 0
 Dropping = Result FieldId Refusal
 
--- Where an addition goes: 0 is the root list, 1 + x the struct whose id has the bits x; or refusal 15, 16, 22 or 17.
+-- Where an addition goes: to the root list, or to the struct whose id has these 32 bits; or refusal 15, 16, 22 or 17.
 abbrev pub Going : Type 0
-Going = Result ℕ Refusal
+Going = Result (Option ℕ) Refusal
 
 -- The bits of an addition's first id, and the last id that it consumes, shifted by 2^31; or refusal 18.
 abbrev pub Fresh : Type 0

@@ -13,7 +13,7 @@ use Rattle.paper.specs.Update.{root_taken, member_taken, receiver}
 use Rattle.record.specs.declared.FieldId.{FieldId}
 use Rattle.record.specs.declared.Slot.{Slot}
 use Rattle.record.specs.Answers.{Found}
-use Rattle.std.specs.Prelude.{Ok, Err, Some}
+use Rattle.std.specs.Prelude.{Ok, Err, Some, None}
 use Rattle.record.specs.Says.{refusal_of, found_row}
 use Rattle.tree.specs.Read.{Standing}
 use Rattle.update_gone.specs.Gone.{base_slots, slot_id, ids_gone}
@@ -49,8 +49,8 @@ unbarred pool records slot k = do
   fillable k (eqb (rec_at records slot).flags 1)
 
 unfoldable pub goes : Answer (Option ℕ) → Going
-goes (ok none) = Ok 0
-goes (ok (some i)) = Ok (suc (turned i))
+goes (ok none) = Ok None
+goes (ok (some i)) = Ok (Some (turned i))
 goes (refused n l p) = Err (refusal_of n l p)
 
 -- 17 at the root

@@ -12,7 +12,7 @@ ghost use Rattle.record.specs.Says.{checked};
 ghost use Rattle.update_decide.specs.Entry.{Deleted, unbarred, goes, AtRoot, taken_at, under_place, Sited, FoundSited, UnderParent, freshly};
 
 use index_ids::IndexRows;
-use record::{FieldId, Refusal, Slot, flags_at, has_dot, id_bits_at, name_at, turn_back, under_of};
+use record::{FieldId, Refusal, Slot, flags_at, has_dot, id_bits_at, name_at, turn_back};
 use record_entries::id_at;
 use update_dropped::Dropped;
 use update_gone::is_gone;
@@ -86,20 +86,19 @@ pub fn check_added(recs: &[u8], pool: &[u8], slot: usize, place: u32) -> Result<
     Ok(())
 }
 
-// A root addition goes to 0, the root list, unless look-up found its name undeleted: refusal 17.
-// No Option: `goes` and `parent` of the specs have the root list and 1 + x in one number, which `Decisions` keeps.
+// A root addition goes to the root list (`None`), unless look-up found its name undeleted: refusal 17.
 pub fn place_at_root(
     found: Option<(FieldId, Slot)>,
     place: u32,
     dropped: &Dropped,
-) -> Result<u64, Refusal>
+) -> Result<Option<u32>, Refusal>
     ensures { AtRoot found (dropped_ids dropped.now) place result }
 {
     let Some((id, _)) = found else {
-        return Ok(0);
+        return Ok(None);
     };
     if dropped.holds(id) {
-        return Ok(0);
+        return Ok(None);
     }
     // refusal 17
     Err(Refusal {
@@ -133,7 +132,7 @@ impl<'a> Base<'a> {
 
     // The struct at a slot takes an addition unless it goes (refusal 22), or the name is taken in it (17).
     #[tactic(auto, using(crate::proofs::Placing::joining))]
-    fn join(&self, slot: usize, name: &[u8], place: u32) -> Result<u64, Refusal>
+    fn join(&self, slot: usize, name: &[u8], place: u32) -> Result<Option<u32>, Refusal>
         requires { Sited self.now.pool.now self.now.records.now self.now.n slot
             × Rises self.now.records.now self.now.n (ups_in self.now.index.now) }
         ensures { result ≡ goes (under_place self.now.pool.now self.now.records.now self.now.n slot
@@ -155,17 +154,17 @@ impl<'a> Base<'a> {
                 place,
             });
         }
-        Ok(under_of(id_bits_at(self.records, slot)))
+        Ok(Some(id_bits_at(self.records, slot)))
     }
 
-    // An addition under a parent goes to 1 + x, where the struct that its path leads to by one step has the bits x: refusals 15 (no
+    // An addition under a parent goes to the struct that its path leads to by one step, told by the bits of its id: refusals 15 (no
     // parent), 16 (no struct), 22 and 17.
     pub fn place_under(
         &self,
         found: Option<(FieldId, Slot)>,
         name: &[u8],
         place: u32,
-    ) -> Result<u64, Refusal>
+    ) -> Result<Option<u32>, Refusal>
         requires { FoundSited self.now.pool.now self.now.records.now self.now.n found
             × Rises self.now.records.now self.now.n (ups_in self.now.index.now) }
         ensures { UnderParent found self.now.pool.now self.now.records.now self.now.n

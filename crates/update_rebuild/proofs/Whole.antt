@@ -70,7 +70,7 @@ module _ {records : List ℕ} {n c : ℕ} (b : Based records n c) where
       let e : part 0 (kids_at records) n 16 c 0 ≡ p = part_is 0 (kids_at records) n 16 c 0 p (rw ec g.0) in
       rw (ep, e) (refl, g.1)
 
-  pub base_rebuilt : (dropped : List ℕ) (adds : List (Addition Source)) (plan : PlanRows) (r : Step) (plan' : PlanRows) → RowPlanned records dropped adds n 16 c 0 (parent 0) true plan 0 r plan' → Rebuilds (rebuilt_base records n dropped adds) (passed_base records n dropped) n plan r plan'
+  pub base_rebuilt : (dropped : List ℕ) (adds : List (Addition Source)) (plan : PlanRows) (r : Step) (plan' : PlanRows) → RowPlanned records dropped adds n 16 c 0 (parent None) true plan 0 r plan' → Rebuilds (rebuilt_base records n dropped adds) (passed_base records n dropped) n plan r plan'
   unfolding rebuilt_base passed_base parent
   base_rebuilt dropped adds plan r plan' h = rw base_is.0 (judged _ _ n plan r plan' (rw base_is.1 at h.by))
 

@@ -1,5 +1,5 @@
 -- What the planner's functions ask and what they leave.
-use Rattle.std.specs.Prelude.{ℕ, suc, ◌+◌, ◌-◌, ◌*◌, ◌≤◌, ◌<◌, ◌≡◌, Bool, true, ◌&&◌, cond, List, leb, length, get_or}
+use Rattle.std.specs.Prelude.{ℕ, ◌+◌, ◌-◌, ◌*◌, ◌≤◌, ◌<◌, ◌≡◌, Bool, true, ◌&&◌, cond, List, leb, length, get_or, replicate}
 use Rattle.std.proofs.Math.Option.{Option}
 use Rattle.std.proofs.lemmas.List.Edits.{sets}
 use Rattle.paper.specs.Forest.{Forest, empty, size, siblings, levels}
@@ -14,13 +14,17 @@ use Rattle.plan.specs.Plan.{Source}
 use Rattle.plan.specs.Table.{sources, numbers, members, LaidIn}
 use Rattle.update_rebuild.specs.declared.Given.{Given}
 use Rattle.update_rebuild.specs.declared.Place.{Place}
-use Rattle.update_rebuild.specs.Answers.{Step}
+use Rattle.update_rebuild.specs.Answers.{Step, Under}
 use Rattle.update_rebuild.specs.declared.Head.{Head}
 use Rattle.update_rebuild.specs.Sources.{additions, rebuilt_row, rebuilt_one, passed}
 use Rattle.plan.specs.declared.PlanRows.{PlanRows}
 use Rattle.update_rebuild.specs.declared.Decisions.{Decisions}
 
 -- ---- what is asked
+
+-- where additions go is told by 32 bits
+abbrev pub Word : Under → Type 0
+Word u = (x : ℕ) → u ≡ Some x → x < 4294967296
 
 -- n records of which a row of c trees from slot k on was read
 pub record Readable (records : List ℕ) (n lv c k : ℕ) : Type 0 where
@@ -38,11 +42,11 @@ pub record Inside (records : List ℕ) (n lv k : ℕ) : Type 0 where
   pub inside : Readable records n (lv - 1) (kids_at records k) (k + 1)
 
 -- the additions: each of `total` has a parent, and its tree in the n added records
-pub record Resolved (added : List ℕ) (n : ℕ) (unders firsts : List ℕ) (total : ℕ) : Type 0 where
+pub record Resolved (added : List ℕ) (n : ℕ) (unders : List Under) (firsts : List ℕ) (total : ℕ) : Type 0 where
   pub whole : n * 24 ≤ length added
   pub small : n ≤ 1024
   pub few : total ≤ 64
-  pub under : (j : ℕ) → j < total → get_or unders j 0 ≤ 4294967296
+  pub under : (j : ℕ) → j < total → Word (get_or unders j None)
   pub first : (j : ℕ) → j < total → get_or firsts j 0 ≤ n
   pub tree : (j : ℕ) → j < total → reads 1 (kids_at added) n 16 1 (get_or firsts j 0) ≡ true
 
@@ -50,7 +54,7 @@ pub record Resolved (added : List ℕ) (n : ℕ) (unders firsts : List ℕ) (tot
 abbrev pub drops_in : Decisions → List ℕ
 drops_in decisions = decisions.drops
 
-abbrev pub unders_in : Decisions → List ℕ
+abbrev pub unders_in : Decisions → List Under
 unders_in decisions = decisions.unders
 
 abbrev pub firsts_in : Decisions → List ℕ
@@ -65,6 +69,16 @@ pub record DecisionsRoom (decisions : Decisions) : Type 0 where
   pub unders_room : length (unders_in decisions) ≡ 64
   pub firsts_room : length (firsts_in decisions) ≡ 64
   pub starts_room : length (starts_in decisions) ≡ 64
+
+-- Nothing is decided: rows of zeros, and root lists.
+unfoldable pub nothing_decided : Decisions
+nothing_decided =
+    record {
+      drops = replicate 64 0;
+      unders = replicate 64 None;
+      firsts = replicate 64 0;
+      starts = replicate 64 0;
+    }
 
 abbrev pub ResolvedIn : (added : List ℕ) (given : Given) (decisions : Decisions) → Type 0
 ResolvedIn added given decisions =
@@ -113,8 +127,8 @@ pub record HeadOf (records : List ℕ) (k : ℕ) (h : Head) : Type 0 where
   pub id : h.id ≡ (rec_at records k).id
   pub members : h.members ≡ kids_at records k
   pub opens : h.under.opens ≡ is_struct (kind_at records k)
-  pub under : h.under.q ≡ suc (rec_at records k).id
-  pub word : h.under.q ≤ 4294967296
+  pub under : h.under.q ≡ Some (rec_at records k).id
+  pub word : Word h.under.q
 
 -- A walk stands at w: all four of its numbers are these.
 pub record StandsAt (next at count visited : ℕ) (w : Place) : Type 0 where

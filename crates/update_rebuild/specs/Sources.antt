@@ -1,5 +1,5 @@
 -- The paper's rebuild over sources: slots of the base, and slots of the additions tree with fresh ids.
-use Rattle.std.specs.Prelude.{ℕ, zero, suc, ◌+◌, ◌-◌, Bool, true, List, length, get_or}
+use Rattle.std.specs.Prelude.{ℕ, ◌+◌, ◌-◌, Bool, true, List, length, get_or, None, Some}
 use Rattle.std.proofs.Math.Option.{Option, none, some}
 use Rattle.paper.specs.declared.Kind.{Kind}
 use Rattle.paper.specs.Forest.{Forest, empty, node, mapped}
@@ -10,6 +10,7 @@ use Rattle.paper.specs.Gone.{outermost}
 use Rattle.paper.specs.Rebuild.{Addition, fresh, rebuilt}
 use Rattle.tree.specs.Read.{got, part}
 use Rattle.plan.specs.Plan.{Source}
+use Rattle.update_rebuild.specs.Answers.{Under}
 
 abbrev pub base_source : (records : List ℕ) → ℕ → Source
 base_source records k = record { slot = k; id = (rec_at records k).id }
@@ -25,20 +26,20 @@ source_id a = turned a.id
 abbrev pub source_kind : (records : List ℕ) → Source → Kind
 source_kind records a = kind_at records a.slot
 
--- Where additions go: 0 is the root list, 1 + x the struct whose id has the 32 bits x.
-unfoldable pub parent : ℕ → Option ℕ
-parent zero = none
-parent (suc x) = some (turned x)
+-- Where additions go: the root list, or the struct whose id has the 32 bits x.
+unfoldable pub parent : Under → Option ℕ
+parent None = none
+parent (Some x) = some (turned x)
 
 -- The tree at slot k of the n added records, with ids from that of the 32 bits `start` on.
 unfoldable pub added_tree : (added : List ℕ) (n k start : ℕ) → Forest Source
 added_tree added n k start = fresh added_source (turned start) (part 1 (kids_at added) n 16 1 k).trees
 
-abbrev pub addition_at : (added : List ℕ) (n : ℕ) (unders firsts starts : List ℕ) → ℕ → Addition Source
+abbrev pub addition_at : (added : List ℕ) (n : ℕ) (unders : List Under) (firsts starts : List ℕ) → ℕ → Addition Source
 addition_at added n unders firsts starts j =
-    record { parent = parent (get_or unders j 0); tree = added_tree added n (get_or firsts j 0) (get_or starts j 0) }
+    record { parent = parent (get_or unders j None); tree = added_tree added n (get_or firsts j 0) (get_or starts j 0) }
 
-unfoldable pub additions : (added : List ℕ) (n : ℕ) (unders firsts starts : List ℕ) (total : ℕ) → List (Addition Source)
+unfoldable pub additions : (added : List ℕ) (n : ℕ) (unders : List Under) (firsts starts : List ℕ) (total : ℕ) → List (Addition Source)
 additions added n unders firsts starts total = from (addition_at added n unders firsts starts) 0 total
 
 -- What is planned of siblings of the base, under q.

@@ -9,6 +9,7 @@ ghost use Rattle.paper.specs.Rebuild.{arriving};
 ghost use Rattle.tree.specs.Read.{reads};
 ghost use Rattle.update_rebuild.specs.Sources.{parent, added_tree, rebuilt_base, passed_base};
 ghost use Rattle.update_rebuild.specs.Planned.{
+  Word,
   Readable,
   Inside,
   ResolvedIn,
@@ -20,6 +21,7 @@ ghost use Rattle.update_rebuild.specs.Planned.{
   StandsAt,
   closing,
   DecisionsRoom,
+  nothing_decided,
   RowPlanned,
   OnePlanned,
   Rebuilds,
@@ -27,7 +29,7 @@ ghost use Rattle.update_rebuild.specs.Planned.{
 
 use paper::is_struct;
 use plan::{PlanRows, put_planned};
-use record::{Siblings, id_bits_at, kids_at, kind_at, under_of};
+use record::{Siblings, id_bits_at, kids_at, kind_at};
 use tree::{row_end, tree_end};
 use update_dropped::Dropped;
 
@@ -44,24 +46,26 @@ pub struct Given {
     pub version: u32,
 }
 
-// What is decided of a request: the bits of each deletion's id; of each addition where it goes, its first slot in the additions tree,
-// and the bits of its first id.
+// What is decided of a request: the bits of each deletion's id; of each addition the bits of the id of the struct that it goes to
+// (`None`: it goes to the root list), its first slot in the additions tree, and the bits of its first id.
 #[derive(Clone, Copy)]
 pub struct Decisions {
-    pub drops: [u64; 64],
-    pub unders: [u64; 64],
+    pub drops: [u32; 64],
+    pub unders: [Option<u32>; 64],
     pub firsts: [usize; 64],
     pub starts: [u32; 64],
 }
 
 impl Decisions {
-    // Nothing decided yet: rows of zeros.
+    // Nothing decided yet: rows of zeros, and root lists.
+    #[tactic(auto, unfolding(crate::specs::Planned::nothing_decided))]
     pub fn none() -> Decisions
-        ensures { DecisionsRoom result }
+        ensures zeros { result ≡ nothing_decided }
+        ensures room { DecisionsRoom result }
     {
         Decisions {
             drops: [0; 64],
-            unders: [0; 64],
+            unders: [None; 64],
             firsts: [0; 64],
             starts: [0; 64],
         }
@@ -93,7 +97,7 @@ pub struct Place {
 #[derive(Clone, Copy)]
 pub struct Under {
     pub opens: bool,
-    pub q: u64,
+    pub q: Option<u32>,
 }
 
 // What the rebuild asks of a record: its id, how many members it has, and what they stand under.
@@ -114,7 +118,7 @@ fn head_at(recs: &[u8], slot: usize) -> Head
         members: kids_at(recs, slot),
         under: Under {
             opens: is_struct(kind_at(recs, slot)),
-            q: under_of(id),
+            q: Some(id),
         },
     }
 }
@@ -211,8 +215,14 @@ fn add_tree(
 
 impl<'a> Rebuilder<'a> {
     // The additions under q, in entry order.
-    fn add_all(&self, q: u64, levels: usize, plan: &mut PlanRows, place: Place) -> Option<Place>
-        requires { (q ≤ 4294967296) × (levels ≤ 16) × (place.at ≤ 1024)
+    fn add_all(
+        &self,
+        q: Option<u32>,
+        levels: usize,
+        plan: &mut PlanRows,
+        place: Place,
+    ) -> Option<Place>
+        requires { Word q × (levels ≤ 16) × (place.at ≤ 1024)
             × (place.count ≤ place.at) × (place.visited ≤ place.at + 1024) }
         ensures { Planned (arriving (additions_in self.now.added.now self.now.given
             self.now.decisions.now) (parent q)) 0 place.next levels place.at
@@ -240,7 +250,7 @@ impl<'a> Rebuilder<'a> {
 
     // The end of a row: additions follow the members of the root list or of a struct.
     fn close(&self, under: Under, levels: usize, plan: &mut PlanRows, place: Place) -> Option<Place>
-        requires { (under.q ≤ 4294967296) × (levels ≤ 16) × (place.at ≤ 1024)
+        requires { Word under.q × (levels ≤ 16) × (place.at ≤ 1024)
             × (place.count ≤ place.at) × (place.visited ≤ place.at + 1024) }
         ensures { Planned (closing (additions_in self.now.added.now self.now.given
             self.now.decisions.now) (parent under.q) under.opens) 0 place.next
@@ -305,7 +315,7 @@ impl<'a> Rebuilder<'a> {
         at: usize,
     ) -> Option<Place>
         requires { Readable self.now.records.now self.now.given.base row.levels
-            row.count row.slot × (under.q ≤ 4294967296) × (at ≤ 1024) }
+            row.count row.slot × Word under.q × (at ≤ 1024) }
         ensures { RowPlanned self.now.records.now
             (dropped_ids self.now.dropped.now)
             (additions_in self.now.added.now self.now.given
@@ -350,6 +360,14 @@ impl<'a> Rebuilder<'a> {
             count: roots,
             levels: 16,
         };
-        self.rebuild_fields(all, Under { opens: true, q: 0 }, plan, 0)
+        self.rebuild_fields(
+            all,
+            Under {
+                opens: true,
+                q: None,
+            },
+            plan,
+            0,
+        )
     }
 }

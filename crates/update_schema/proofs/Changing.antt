@@ -19,6 +19,7 @@ use Rattle.std.specs.Prelude.{Ok, Err}
 use Rattle.update_dropped.specs.declared.Dropped.{Dropped}
 use Rattle.update_dropped.specs.Set.{dropped_ids}
 use Rattle.update_decide.specs.Entry.{parent_place}
+use Rattle.update_rebuild.specs.Answers.{Under}
 use Rattle.update_schema.specs.Answers.{Decided}
 use Rattle.update_dropped.specs.Gathered.{row_ids, Gathered}
 use Rattle.update_schema.specs.Deletions.{DropsAll}
@@ -74,7 +75,7 @@ module _ (t : Forest Field) (ds ds' : List ℕ) (h : (x : ℕ) → among x ds �
       ∙ sym (placed_step t ds' last k p ps f m n)
 
 module _ (t : Forest Field) (ids request deletions : List ℕ) (d : ℕ) (added additions : List ℕ) (total m last : ℕ) (c : Check) (bits : List ℕ) (dc : DropsAll t ids request deletions d c bits) where
-  pub changes_stop : (x : Refusal) (us fs st : List ℕ) → c ≡ Err x → Decides t ids request deletions d added additions total m last (Err x) bits us fs st
+  pub changes_stop : (x : Refusal) (us : List Under) (fs st : List ℕ) → c ≡ Err x → Decides t ids request deletions d added additions total m last (Err x) bits us fs st
   unfolding changes
   changes_stop x us fs st q =
       let e = (rw q at dc).by in
@@ -83,7 +84,7 @@ module _ (t : Forest Field) (ids request deletions : List ℕ) (d : ℕ) (added 
       differ : (i : ℕ) → Err x ≡ Ok i → ⊥
       differ i z = let y : ◌≡◌ {A = ℕ} 0 1 = cc in omega arith
 
-  pub changes_go : (s : Dropped) (r : Decided) (kept us fs st : List ℕ) → c ≡ (Ok tt) → Gathered bits d s → PlacesAll t (dropped_ids s) request added additions total m last r us fs st → kept ≡ bits → Decides t ids request deletions d added additions total m last r kept us fs st
+  pub changes_go : (s : Dropped) (r : Decided) (kept : List ℕ) (us : List Under) (fs st : List ℕ) → c ≡ (Ok tt) → Gathered bits d s → PlacesAll t (dropped_ids s) request added additions total m last r us fs st → kept ≡ bits → Decides t ids request deletions d added additions total m last r kept us fs st
   unfolding changes all_placed
   changes_go s r kept us fs st q g p k =
       let e = (rw q at dc).by in

@@ -39,39 +39,41 @@ use Rattle.update_rebuild.specs.Sources as sources
 use Rattle.update_rebuild.proofs.Paper.{fresh_fields}
 use Rattle.update_schema.specs.declared.Spot.{Spot}
 use Rattle.update_schema.specs.Answers.{Spotted}
-use Rattle.std.specs.Prelude.{Ok, Err}
+use Rattle.std.specs.Prelude.{Ok, Err, None}
+use Rattle.update_rebuild.specs.Answers.{Under}
+use Rattle.update_rebuild.specs.Planned.{Word}
 use Rattle.update_schema.specs.Base as given
 use Rattle.update_schema.specs.Additions.{column_size, one_placed, Settled, OneSpotted, Columns, parents_in, all_placed, PlacesAll}
 use Rattle.update_schema.proofs.Deleting.{entry_here}
 
 -- ---- the row
 
-parents_more : (us : List ℕ) (k v : ℕ) → k < length us → parents_in (set us k v) (k + 1) ≡ parents_in us k ++ (parent v ∷ [])
+parents_more : (us : List Under) (k : ℕ) (v : Under) → k < length us → parents_in (set us k v) (k + 1) ≡ parents_in us k ++ (parent v ∷ [])
 unfolding parents_in from
 parents_more us k v l =
-    from_append (λ j. parent (get_or (set us k v) j 0)) 0 k 1
+    from_append (λ j. parent (get_or (set us k v) j None)) 0 k 1
     ∙ ap₂ (λ (a b : List (Option ℕ)). a ++ b)
-    (from_same (λ j. parent (get_or (set us k v) j 0)) (λ j. parent (get_or us j 0)) 0 k (λ j h. ap parent (get_or-set_other us k j v 0 (λ e. omega arith))))
-    (let z : 0 + k ≡ k = omega arith in rw z (ap (λ (y : ℕ). parent y ∷ []) (get_or-set_same us k v 0 l)))
+    (from_same (λ j. parent (get_or (set us k v) j None)) (λ j. parent (get_or us j None)) 0 k (λ j h. ap parent (get_or-set_other us k j v None (λ e. omega arith))))
+    (let z : 0 + k ≡ k = omega arith in rw z (ap (λ (y : Under). parent y ∷ []) (get_or-set_same us k v None l)))
 
 -- what holds of the first k elements and of the new one holds of the first k + 1
-stored : (P : ℕ → Type 0) (us : List ℕ) (k v : ℕ) → k < length us → ((j : ℕ) → j < k → P (get_or us j 0)) → P v → (j : ℕ) → j < k + 1 → P (get_or (set us k v) j 0)
-stored P us k v l h p j b =
+stored : {A : Type 0} (d : A) (P : A → Type 0) (us : List A) (k : ℕ) (v : A) → k < length us → ((j : ℕ) → j < k → P (get_or us j d)) → P v → (j : ℕ) → j < k + 1 → P (get_or (set us k v) j d)
+stored d P us k v l h p j b =
     ⊎_elim
-    (λ e. subst P (sym (ap (λ (i : ℕ). get_or (set us k v) i 0) e ∙ get_or-set_same us k v 0 l)) p)
-    (λ c. subst P (sym (get_or-set_other us k j v 0 (λ e. omega arith))) (h j c))
+    (λ e. subst P (sym (ap (λ (i : ℕ). get_or (set us k v) i d) e ∙ get_or-set_same us k v d l)) p)
+    (λ c. subst P (sym (get_or-set_other us k j v d (λ e. omega arith))) (h j c))
     (eq-or-lt_of_le (omega arith))
 
 -- ---- the paper's arrivals
 
-adds_more : (s : List ℕ) (m : ℕ) (us fs st : List ℕ) (k u f a : ℕ) → k < length us → k < length fs → k < length st
+adds_more : (s : List ℕ) (m : ℕ) (us : List Under) (fs st : List ℕ) (k : ℕ) (u : Under) (f a : ℕ) → k < length us → k < length fs → k < length st
     → from (addition_at s m (set us k u) (set fs k f) (set st k a)) 0 (k + 1) ≡ from (addition_at s m us fs st) 0 k ++ (record { parent = parent u; tree = added_tree s m f a } ∷ [])
 unfolding from
 adds_more s m us fs st k u f a lu lf ls =
     from_append (addition_at s m (set us k u) (set fs k f) (set st k a)) 0 k 1
     ∙ ap₂ (λ (x y : List (Addition Source)). x ++ y)
-    (from_same (addition_at s m (set us k u) (set fs k f) (set st k a)) (addition_at s m us fs st) 0 k (λ j h. rw (get_or-set_other us k j u 0 (λ e. omega arith), get_or-set_other fs k j f 0 (λ e. omega arith), get_or-set_other st k j a 0 (λ e. omega arith))))
-    (let z : 0 + k ≡ k = omega arith in rw (z, get_or-set_same us k u 0 lu, get_or-set_same fs k f 0 lf, get_or-set_same st k a 0 ls))
+    (from_same (addition_at s m (set us k u) (set fs k f) (set st k a)) (addition_at s m us fs st) 0 k (λ j h. rw (get_or-set_other us k j u None (λ e. omega arith), get_or-set_other fs k j f 0 (λ e. omega arith), get_or-set_other st k j a 0 (λ e. omega arith))))
+    (let z : 0 + k ≡ k = omega arith in rw (z, get_or-set_same us k u None lu, get_or-set_same fs k f 0 lf, get_or-set_same st k a 0 ls))
 
 all_append : {A B : Type 0} (g : A → B) (xs ys : List (Addition A)) → mapped_all g (xs ++ ys) ≡ mapped_all g xs ++ mapped_all g ys
 all_append g [] ys = refl
@@ -112,18 +114,18 @@ none_left t ds last k a = refl
 abbrev rest : (t : Forest Field) (ds request added additions : List ℕ) (total m end k slot : ℕ) → Answer Placed
 rest t ds request added additions total m end k slot = placed_all t ds end k (from (parent_path request additions) k (total - k)) (fields request added (part 1 (kids_at added) m 16 (total - k) slot).trees)
 
-pub record Placing (t : Forest Field) (ds request added additions : List ℕ) (total m last k slot end : ℕ) (us fs st : List ℕ) : Type 0 where
+pub record Placing (t : Forest Field) (ds request added additions : List ℕ) (total m last k slot end : ℕ) (us : List Under) (fs st : List ℕ) : Type 0 where
   pub within : k ≤ total
   pub read : reads 1 (kids_at added) m 16 (total - k) slot ≡ true
   pub most : end < 4294967296
-  pub under : (j : ℕ) → j < k → get_or us j 0 ≤ 4294967296
+  pub under : (j : ℕ) → j < k → Word (get_or us j None)
   pub first : (j : ℕ) → j < k → get_or fs j 0 ≤ m
   pub tree : (j : ℕ) → j < k → reads 1 (kids_at added) m 16 1 (get_or fs j 0) ≡ true
   pub arrive : (pool base edits : List ℕ) (qs : List (Option ℕ)) → arrivals with_id last (parents_in us k ++ qs) (fields request added (part 1 (kids_at added) m 16 total 0).trees) ≡ mapped_all (planned_field (lent_trees base pool added request edits)) (from (addition_at added m us fs st) 0 k) ++ arrivals with_id end qs (fields request added (part 1 (kids_at added) m 16 (total - k) slot).trees)
   pub goes : (r : Placed) → rest t ds request added additions total m end k slot ≡ ok r → all_placed t ds request added additions total m last ≡ ok (record { parents = parents_in us k ++ r.parents; last = r.last })
   pub stops : (i j s : ℕ) → rest t ds request added additions total m end k slot ≡ refused i j s → all_placed t ds request added additions total m last ≡ refused i j s
 
-pub place_starts : (t : Forest Field) (ds request added additions : List ℕ) (total m last : ℕ) (us fs st : List ℕ) → Columns request added additions total m → last < 4294967296 → Placing t ds request added additions total m last 0 0 last us fs st
+pub place_starts : (t : Forest Field) (ds request added additions : List ℕ) (total m last : ℕ) (us : List Under) (fs st : List ℕ) → Columns request added additions total m → last < 4294967296 → Placing t ds request added additions total m last 0 0 last us fs st
 unfolding parents_in from all_placed
 place_starts t ds request added additions total m last us fs st h b =
     let z : total - 0 ≡ total = omega arith in
@@ -139,7 +141,7 @@ place_starts t ds request added additions total m last us fs st h b =
       stops = λ i j s e. rw z at e;
     }
 
-module _ (t : Forest Field) (ds request added additions : List ℕ) (total m last k slot end : ℕ) (us fs st : List ℕ) (H : Placing t ds request added additions total m last k slot end us fs st) where
+module _ (t : Forest Field) (ds request added additions : List ℕ) (total m last k slot end : ℕ) (us : List Under) (fs st : List ℕ) (H : Placing t ds request added additions total m last k slot end us fs st) where
   arrive_none : (pool base edits : List ℕ) → mapped_all (planned_field (lent_trees base pool added request edits)) (from (addition_at added m us fs st) 0 k) ++ arrivals with_id end [] (fields request added (part 1 (kids_at added) m 16 (total - k) slot).trees) ≡ mapped_all (planned_field (lent_trees base pool added request edits)) (from (addition_at added m us fs st) 0 k)
   arrive_none pool base edits = ap (λ (z : List (Addition Field)). mapped_all (planned_field (lent_trees base pool added request edits)) (from (addition_at added m us fs st) 0 k) ++ z) (arrivals_none end _) ∙ append-nil _
 
@@ -180,7 +182,7 @@ module _ (t : Forest Field) (ds request added additions : List ℕ) (total m las
         ap₂ (λ (y : List (Option (List ℕ))) (z : Part). placed_all t ds end k y (fields request added z.trees)) (from_step (parent_path request additions) k total l) (part_in 1 (kids_at added) m 16 (total - k) slot H.read (kids_at added slot) (λ z. omega arith) refl)
         ∙ placed_step t ds end k (parent_path request additions k) (from (parent_path request additions) (k + 1) (total - (k + 1))) (field_at request added slot) (fields request added inner.trees) (fields request added (part 1 (kids_at added) m 16 (total - k - 1) inner.next).trees)
 
-    pub place_stops : (r : Spotted) (x : Refusal) (us' fs' st' : List ℕ) → OneSpotted t ds request added additions m end k slot r → r ≡ Err x → PlacesAll t ds request added additions total m last (Err x) us' fs' st'
+    pub place_stops : (r : Spotted) (x : Refusal) (us' : List Under) (fs' st' : List ℕ) → OneSpotted t ds request added additions m end k slot r → r ≡ Err x → PlacesAll t ds request added additions total m last (Err x) us' fs' st'
     place_stops r x us' fs' st' d q = let e = (rw q at d).by in record { by = H.stops x.number x.list x.place (here ∙ bind_not _ _ x.number x.list x.place e) }
 
     -- the column by itself was read too
@@ -268,9 +270,9 @@ module _ (t : Forest Field) (ds request added additions : List ℕ) (total m las
             within = omega arith;
             read = rw (← left_is) (reads_rest 1 (kids_at added) m 16 (total - k) slot H.read (kids_at added slot) (λ z. omega arith) refl s.next (sym next_is));
             most = d.most;
-            under = stored (λ v. v ≤ 4294967296) us k s.under (omega arith) H.under d.under;
-            first = stored (λ v. v ≤ m) fs k slot (omega arith) H.first (omega arith);
-            tree = stored (λ v. reads 1 (kids_at added) m 16 1 v ≡ true) fs k slot (omega arith) H.tree (alone th);
+            under = stored None Word us k s.under (omega arith) H.under d.under;
+            first = stored 0 (λ v. v ≤ m) fs k slot (omega arith) H.first (omega arith);
+            tree = stored 0 (λ v. reads 1 (kids_at added) m 16 1 v ≡ true) fs k slot (omega arith) H.tree (alone th);
             arrive = λ pool base edits qs. arrive_on pool base edits qs (omega arith) (omega arith) (omega arith);
             goes = λ r e. H.goes (joined (parent s.under) r) (onward (ok r) e ∙ bind_is (ok r) _ r refl) ∙ ap ok (spot_joined r (omega arith));
             stops = λ i j v e. H.stops i j v (onward (refused i j v) e ∙ bind_not (refused i j v) _ i j v refl);

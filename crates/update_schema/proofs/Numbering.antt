@@ -12,6 +12,7 @@ use Rattle.record.specs.Says.{refusal_of}
 use Rattle.tree.specs.Read.{part, Standing}
 use Rattle.tree.proofs.Steps.{part_full}
 use Rattle.update_decide.specs.Answers.{Fresh}
+use Rattle.update_rebuild.specs.Answers.{Under}
 use Rattle.update_schema.specs.Answers.{Spotted}
 use Rattle.std.specs.Prelude.{Ok, Err}
 use Rattle.update_decide.specs.Entry.{freshly}
@@ -31,7 +32,7 @@ column_few s m k h =
     let e = f.next in
     omega arith
 
-module _ (under last k slot records next d : ℕ) (r : Fresh) (en : next ≡ slot + records) (ed : d ≡ next - slot) (er : r ≡ freshly last d k) where
+module _ (under : Under) (last k slot records next d : ℕ) (r : Fresh) (en : next ≡ slot + records) (ed : d ≡ next - slot) (er : r ≡ freshly last d k) where
   same : r ≡ freshly last records k
   same = let z : d ≡ records = omega arith in rw z at er
 

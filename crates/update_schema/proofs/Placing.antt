@@ -1,5 +1,5 @@
 -- One addition: its own rules, its place, its ids, in the paper's order.
-use Prim.Native.Nat.{ℕ, suc, ◌+◌, ◌<◌, ◌≤◌}
+use Prim.Native.Nat.{ℕ, suc, ◌+◌, ◌<◌}
 use mathlib.Core.Path.{◌≡◌, refl, sym, ◌∙◌}
 use mathlib.Core.Bool.{Bool, true, false, not, ◌&&◌, cond}
 use mathlib.Core.List.{List}
@@ -21,7 +21,10 @@ use Rattle.laws.proofs.Fitting.{size_mapped}
 use Rattle.tree.specs.Read.{part}
 use Rattle.record.specs.declared.Refusal.{Refusal}
 use Rattle.record.specs.Answers.{Check}
-use Rattle.std.specs.Prelude.{Ok, Err}
+use Rattle.std.specs.Prelude.{Ok, Err, Some, None}
+use Rattle.std.proofs.lemmas.Option.{none-some}
+use Rattle.update_rebuild.specs.Answers.{Under}
+use Rattle.update_rebuild.specs.Planned.{Word}
 use Rattle.record.specs.Says.{refusal_of, checked}
 use Rattle.record.proofs.Testing.{checked_refused, checked_ok}
 use Rattle.record.specs.Trees.{Trees}
@@ -42,10 +45,13 @@ Small (ok none) = Unit {0}
 Small (ok (some i)) = i < 4294967296
 Small (refused n l p) = Unit {0}
 
-under_is : (a : Answer (Option ℕ)) (u : ℕ) → Small a → Ok u ≡ goes a → (a ≡ ok (parent u)) × (u ≤ 4294967296)
+word_some : (x y : ℕ) → y < 4294967296 → ◌≡◌ {A = Under} (Some y) (Some x) → x < 4294967296
+word_some x y h e = let z : y ≡ x = cc in omega arith
+
+under_is : (a : Answer (Option ℕ)) (u : Under) → Small a → Ok u ≡ goes a → (a ≡ ok (parent u)) × Word u
 unfolding Small goes parent
-under_is (ok none) u h e = let z : u ≡ 0 = cc in rw z (refl, omega arith)
-under_is (ok (some i)) u h e = let z : u ≡ suc (turned i) = cc in let y = turned_below i in rw (z, turned_twice i h) (refl, omega arith)
+under_is (ok none) u h e = let z : u ≡ None = cc in rw z (refl, λ x q. absurd (none-some x q))
+under_is (ok (some i)) u h e = let z : u ≡ Some (turned i) = cc in rw z (rw (turned_twice i h) refl, λ x q. word_some x (turned i) (turned_below i) q)
 under_is (refused n l p) u h e = let y : ◌≡◌ {A = ℕ} 0 1 = cc in absurd (omega arith)
 
 under_not : (a : Answer (Option ℕ)) (f : Refusal) → Err f ≡ goes a → a ≡ refused f.number f.list f.place
@@ -108,8 +114,8 @@ module _ (l : Trees) (xs is ks : List ℕ) (n : ℕ) (b : Based l xs is ks n) (d
               ∙ rw (checked_ok (unbarred l.request_pool l.added_records slot k) w ew ef, under_not (placed (plan_fields l xs is ks n) ds k (name_of l.request_pool l.added_records slot) (parent_path l.request_pool additions k)) f (sym q ∙ eg));
         }
 
-    module _ (u : ℕ) (q : g ≡ Ok u) where
-      where_to : (placed (plan_fields l xs is ks n) ds k (name_of l.request_pool l.added_records slot) (parent_path l.request_pool additions k) ≡ ok (parent u)) × (u ≤ 4294967296)
+    module _ (u : Under) (q : g ≡ Ok u) where
+      where_to : (placed (plan_fields l xs is ks n) ds k (name_of l.request_pool l.added_records slot) (parent_path l.request_pool additions k) ≡ ok (parent u)) × Word u
       where_to = under_is _ u (small_place l xs is ks n b ds k (name_of l.request_pool l.added_records slot) (parent_path l.request_pool additions k)) (sym q ∙ eg)
 
       size_is : suc (last + size inner) ≡ last + column_size l.added_records m slot

@@ -4,6 +4,7 @@ use mathlib.Core.Path.{◌≡◌, ◌∙◌}
 use mathlib.Core.List.{List}
 use lib.ListN.{set, length-set}
 use Rattle.update_rebuild.specs.Planned.{drops_in, unders_in, firsts_in, starts_in, DecisionsRoom}
+use Rattle.update_rebuild.specs.Answers.{Under}
 use Rattle.update_rebuild.specs.declared.Decisions.{Decisions}
 
 -- ---- an id is stored
@@ -14,12 +15,12 @@ drops_stored d k v r = record { drops_room = length-set d.drops k v ∙ r.drops_
 -- ---- a place is stored
 
 -- What holds of the rows of the additions, where the row of the dropped ids is as it was.
-pub record Held (P : (unders firsts starts : List ℕ) → Type 0) (old d : Decisions) : Type 0 where
+pub record Held (P : (unders : List Under) (firsts starts : List ℕ) → Type 0) (old d : Decisions) : Type 0 where
   pub holds : P (unders_in d) (firsts_in d) (starts_in d)
   pub room : DecisionsRoom d
   pub same_drops : drops_in d ≡ drops_in old
 
-pub place_stored : (P : (unders firsts starts : List ℕ) → Type 0) (old d : Decisions) (k u f a : ℕ) → DecisionsRoom d → drops_in d ≡ drops_in old → P (set (unders_in d) k u) (set (firsts_in d) k f) (set (starts_in d) k a) → Held P old (record { drops = d.drops; unders = set d.unders k u; firsts = set d.firsts k f; starts = set d.starts k a })
+pub place_stored : (P : (unders : List Under) (firsts starts : List ℕ) → Type 0) (old d : Decisions) (k : ℕ) (u : Under) (f a : ℕ) → DecisionsRoom d → drops_in d ≡ drops_in old → P (set (unders_in d) k u) (set (firsts_in d) k f) (set (starts_in d) k a) → Held P old (record { drops = d.drops; unders = set d.unders k u; firsts = set d.firsts k f; starts = set d.starts k a })
 place_stored P old d k u f a r q p =
     record {
       holds = p;

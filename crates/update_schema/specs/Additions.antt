@@ -21,9 +21,10 @@ use Rattle.update_dropped.specs.declared.Dropped.{Dropped}
 use Rattle.update_dropped.specs.Set.{dropped_ids}
 use Rattle.update_rebuild.specs.declared.Given.{Given}
 use Rattle.update_rebuild.specs.Sources.{parent, additions}
-use Rattle.update_rebuild.specs.Planned.{drops_in, unders_in, firsts_in, starts_in}
+use Rattle.update_rebuild.specs.Planned.{Word, drops_in, unders_in, firsts_in, starts_in}
 use Rattle.update_schema.specs.Answers.{Decided, Spotted}
-use Rattle.std.specs.Prelude.{Ok, Err}
+use Rattle.std.specs.Prelude.{Ok, Err, None}
+use Rattle.update_rebuild.specs.Answers.{Under}
 use Rattle.update_schema.specs.Base.{Entries}
 use Rattle.update_schema.specs.declared.Spot.{Spot}
 use Rattle.plan.specs.declared.PlanRows.{PlanRows}
@@ -34,7 +35,7 @@ unfoldable pub column_size : (added : List ℕ) (m slot : ℕ) → ℕ
 column_size added m slot = suc (size (part 1 (kids_at added) m 15 (kids_at added slot) (slot + 1)).trees)
 
 -- 18, or the spot of an addition that has its place.
-unfoldable pub numbered : (under last k slot records : ℕ) → Spotted
+unfoldable pub numbered : (under : Under) (last k slot records : ℕ) → Spotted
 numbered under last k slot records =
     cond (ltb highest (last + records)) (Err (refusal_of 18 3 k)) (Ok (record { under = under; start = turned (suc last); last = last + records; next = slot + records }))
 
@@ -50,7 +51,7 @@ one_placed t dropped last k p f m = do
 -- What it says of an addition: its place, its ids, and the slot behind it.
 pub record Settled (a : Answer (Option ℕ)) (last slot records : ℕ) (s : Spot) : Type 0 where
   pub goes : a ≡ ok (parent s.under)
-  pub under : s.under ≤ 4294967296
+  pub under : Word s.under
   pub start : s.start ≡ turned (suc last)
   pub end : s.last ≡ last + records
   pub most : s.last < 4294967296
@@ -74,27 +75,27 @@ pub record Columns (request added additions : List ℕ) (total m : ℕ) : Type 0
   pub named : lowest (in_pool (length request) added) 0 m ≡ none
 
 -- The places in the first row, as the paper has them.
-unfoldable pub parents_in : List ℕ → ℕ → List (Option ℕ)
-parents_in unders total = from (λ j. parent (get_or unders j 0)) 0 total
+unfoldable pub parents_in : List Under → ℕ → List (Option ℕ)
+parents_in unders total = from (λ j. parent (get_or unders j None)) 0 total
 
 -- What the paper says of all additions.
 unfoldable pub all_placed : Forest Field → (dropped request added additions : List ℕ) (total m last : ℕ) → Answer Placed
 all_placed t dropped request added additions total m last = placed_all t dropped last 0 (from (parent_path request additions) 0 total) (fields request added (part 1 (kids_at added) m 16 total 0).trees)
 
 -- The places in the row and the last id consumed are the paper's, each addition's tree was read, and the three rows are the paper's arrivals.
-pub record Placings (a : Answer Placed) (request added : List ℕ) (total m given last : ℕ) (unders firsts starts : List ℕ) : Type 0 where
+pub record Placings (a : Answer Placed) (request added : List ℕ) (total m given last : ℕ) (unders : List Under) (firsts starts : List ℕ) : Type 0 where
   pub is : a ≡ ok (record { parents = parents_in unders total; last = last })
   pub most : last < 4294967296
-  pub under : (j : ℕ) → j < total → get_or unders j 0 ≤ 4294967296
+  pub under : (j : ℕ) → j < total → Word (get_or unders j None)
   pub first : (j : ℕ) → j < total → get_or firsts j 0 ≤ m
   pub tree : (j : ℕ) → j < total → reads 1 (kids_at added) m 16 1 (get_or firsts j 0) ≡ true
   pub arrive : (pool base edits : List ℕ) → mapped_all (planned_field (lent_trees base pool added request edits)) (additions added m unders firsts starts total) ≡ arrivals with_id given (parents_in unders total) (fields request added (part 1 (kids_at added) m 16 total 0).trees)
 
-abbrev pub PlacesBy : Decided → Answer Placed → (request added : List ℕ) (total m given : ℕ) (unders firsts starts : List ℕ) → Type 0
+abbrev pub PlacesBy : Decided → Answer Placed → (request added : List ℕ) (total m given : ℕ) (unders : List Under) (firsts starts : List ℕ) → Type 0
 PlacesBy (Ok e) a request added total m given unders firsts starts = Placings a request added total m given e unders firsts starts
 PlacesBy (Err r) a request added total m given unders firsts starts = a ≡ refused r.number r.list r.place
 
-pub record PlacesAll (t : Forest Field) (dropped request added additions : List ℕ) (total m last : ℕ) (r : Decided) (unders firsts starts : List ℕ) : Type 0 where
+pub record PlacesAll (t : Forest Field) (dropped request added additions : List ℕ) (total m last : ℕ) (r : Decided) (unders : List Under) (firsts starts : List ℕ) : Type 0 where
   pub by : PlacesBy r (all_placed t dropped request added additions total m last) request added total m last unders firsts starts
 
 -- The same of the tables; the row of the dropped ids is as it was.

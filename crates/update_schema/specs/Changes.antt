@@ -9,6 +9,7 @@ use Rattle.record_entries.specs.declared.PathList.TheVariants.{Deletions}
 use Rattle.paper.specs.Update.{deleted, Placed}
 use Rattle.update_schema.specs.Answers.{Decided}
 use Rattle.std.specs.Prelude.{Ok}
+use Rattle.update_rebuild.specs.Answers.{Under}
 use Rattle.update_dropped.specs.Gathered.{row_ids}
 use Rattle.record.specs.Trees.{Trees, Lists}
 use Rattle.plan.specs.Table.{fields_in}
@@ -24,7 +25,7 @@ unfoldable pub changes : Forest Field → (identifiers request deletions : List 
 changes t identifiers request deletions d added additions total m last = deleted t identifiers 0 (from (path_of request deletions) 0 d) >>= λ dropped. all_placed t dropped request added additions total m last
 
 -- The additions as `PlacesBy` has them, behind the deletions; where all is accepted, the dropped ids are in their row.
-pub record Decides (t : Forest Field) (identifiers request deletions : List ℕ) (d : ℕ) (added additions : List ℕ) (total m last : ℕ) (r : Decided) (bits unders firsts starts : List ℕ) : Type 0 where
+pub record Decides (t : Forest Field) (identifiers request deletions : List ℕ) (d : ℕ) (added additions : List ℕ) (total m last : ℕ) (r : Decided) (bits : List ℕ) (unders : List Under) (firsts starts : List ℕ) : Type 0 where
   pub by : PlacesBy r (changes t identifiers request deletions d added additions total m last) request added total m last unders firsts starts
   pub dropped : (e : ℕ) → r ≡ Ok e → deleted t identifiers 0 (from (path_of request deletions) 0 d) ≡ ok (row_ids bits d)
 

@@ -35,7 +35,7 @@ use update_rebuild::{Decisions, Given};
 // An addition that is accepted: where it goes, the bits of its first id, the last id consumed, and the slot behind its column.
 #[derive(Clone, Copy)]
 pub struct Spot {
-    pub under: u64,
+    pub under: Option<u32>,
     pub start: u32,
     pub last: u64,
     pub next: usize,
@@ -56,7 +56,7 @@ fn number(
     added: &[u8],
     m: usize,
     slot: usize,
-    under: u64,
+    under: Option<u32>,
     place: u32,
     last: u64,
 ) -> Result<Spot, Refusal>
@@ -87,13 +87,13 @@ impl<'a> Request<'a> {
             let path = path_at(self.trees.request_pool, self.lists.deletions, k);
             let found = look_name(self.trees, self.plan, self.given.base, self.index, path);
             let id = drop_one(found, self.lists.identifiers, k as u32)?;
-            decisions.drops[k] = u64::from(id.0);
+            decisions.drops[k] = id.0;
         }
         Ok(())
     }
 
     // Where the addition k goes, whose column is at a slot of the additions tree: refusals 15, 16, 22, 17.
-    fn find_place(&self, k: usize, slot: usize, dropped: &Dropped) -> Result<u64, Refusal>
+    fn find_place(&self, k: usize, slot: usize, dropped: &Dropped) -> Result<Option<u32>, Refusal>
         requires { Asked (trees_in self.now.trees.now) (lists_in self.now.lists.now)
             self.now.given self.now.plan.now self.now.index.now
             × AdditionIn (trees_in self.now.trees.now)

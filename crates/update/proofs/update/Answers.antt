@@ -19,7 +19,7 @@ returns-in_err-index_base c =
     rw (p.1, p.2) (test_stops _ _ _ _ _ _ _ c.open_update.ensures _ _ c.in_ok-roots.was _ c.given_of-given.ensures.0 _ _ _ _ c.index_base.ensures _ c.in_err-index_base.was)
 
 pub decide-requires : goal.decide-requires
-decide-requires c = decide_asks _ _ _ _ _ _ c.open_update.ensures _ _ c.in_ok-roots.was _ _ c.given_of-given.ensures _ _ _ _ c.index_base.ensures c.in_ok-index_base.was _ c.none-decisions.ensures _ refl
+decide-requires c = decide_asks _ _ _ _ _ _ c.open_update.ensures _ _ c.in_ok-roots.was _ _ c.given_of-given.ensures _ _ _ _ c.index_base.ensures c.in_ok-index_base.was _ c.none-decisions.ensures.room _ refl
 
 pub returns-in_err-last : goal.returns-in_err-last
 returns-in_err-last c =
