@@ -9,11 +9,13 @@ use update::update;
 
 // The format version that a line names, or 2. A line with edits has a field more before the sign, one that names another version two more.
 fn version_in(line: &[u8]) -> Result<u32, Fault> {
-    if readable(line, b"wwbbbwbbbbww=") || readable(line, b"wwbbbwbbbbwwb=") {
-        return Ok(2);
+    if readable(line, b"wwbbbwbbbbwwbw=") {
+        return number_at(line, 13);
     }
-    read(line, b"wwbbbwbbbbwwbw=")?;
-    number_at(line, 13)
+    if !readable(line, b"wwbbbwbbbbwwb=") {
+        read(line, b"wwbbbwbbbbww=")?;
+    }
+    Ok(2)
 }
 
 // update JUDGE RECORDS POOL IDENTIFIERS LAST_ID DELETIONS ADDITIONS ADDED_RECORDS REQUEST_POOL OUT_RECORDS OUT_NAMES = answer
