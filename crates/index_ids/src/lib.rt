@@ -33,7 +33,8 @@ pub const NAME_HEADS: usize = 6;
 
 pub const NAME_NEXT: usize = 7;
 
-// Where the way to an id leads: to the slot that has it, or to the row and the cell in which its path ends.
+// Where the way to an id leads: to the slot that has it, or to the row and the cell in which its path ends. No Option or Result: an
+// index asks for the end, a search for the slot.
 #[derive(Clone, Copy)]
 pub enum Way {
     Met(Slot),
@@ -105,6 +106,7 @@ fn follow(plan: &PlanRows, index: &IndexRows, k: usize, id: u32) -> Way
     let mut bits = id / 1024;
     let mut left = 22u32;
     let mut at = cell(index, line, c);
+    // no `for`: a path is followed
     while 0 < at {
         c = at - 1;
         if same_id(id, plan.numbers[c]) {

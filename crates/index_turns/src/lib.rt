@@ -87,7 +87,7 @@ fn equal_folded(a: &[u8], b: &[u8]) -> bool
             return false;
         }
     }
-    // the loop has no other end, so that many bytes can be compared at a step
+    // the loop has no other end, so that many bytes can be compared at a step, as the library's search for a difference can't
     let mut so_far = true;
     for i in 0..n {
         so_far &= alike_at(a, b, i);

@@ -57,6 +57,7 @@ fn put_full<'a>(names: &Names<'a>, slot: usize, out: &mut [u8], at: usize) -> us
     let stop = at + cell(names.index, LENS, slot);
     let mut end = stop;
     let mut here = slot;
+    // no `for`: it goes up from record to record
     loop {
         let name = name_of(names.trees, names.plan, names.m, here);
         let from = end - name.len();

@@ -251,7 +251,7 @@ impl<'a> Choice<'a> {
         self.project_fields(inside, plan, at)
     }
 
-    // A list: the same tests on its element.
+    // A list: the same tests on its element. (A function of its own, since the Rust has one of this name.)
     #[cycle(project)]
     fn project_list(&self, row: Siblings, plan: &mut PlanRows, at: usize) -> Step
         requires { Row self.now.records.now row.levels row.count row.slot at }

@@ -63,6 +63,7 @@ pub struct Siblings {
 }
 
 // Why a request is turned down: 01's number, the list and the place in it.
+// `number` is no enum: rules have numbers in every definition, on every page and in C.
 #[derive(Clone, Copy, PartialEq, Eq)]
 pub struct Refusal {
     pub number: u32,
@@ -105,13 +106,6 @@ pub fn turn_back(x: u64) -> u32
     ensures { result ≡ turned x }
 {
     turn(low_32(x))
-}
-
-// Where additions to a struct go, by the bits of its id: 1 more. (0 is the root list.)
-pub fn under_of(id: u32) -> u64
-    ensures { (result ≡ id + 1) × (result ≤ 4294967296) }
-{
-    id as u64 + 1
 }
 
 // The four bytes of a word, the lowest first.

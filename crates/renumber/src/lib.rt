@@ -17,7 +17,7 @@ use renumber_id_reassigner::reassign_field_ids;
 use renumber_identifiers::{apply_to_identifier_fields, find_identifiers};
 use tree::check_tree;
 
-// Refusals 1 to 6, or the number of roots.
+// Refusals 1 to 6, or the number of roots. Apart from prune's `open`: a wrong edit stands on the text of that.
 fn open(
     records: &[u8],
     pool: &[u8],

@@ -36,6 +36,7 @@ pub fn row_end(
     let mut at = slot;
     let mut left = count;
     let mut spare = levels;
+    // no `for`: a row goes on inside its last tree
     while 0 < left {
         // refusal 5: level 17
         if spare == 0 {
@@ -101,6 +102,7 @@ pub fn check_shape(recs: &[u8], n: usize, list: u32) -> Result<u32, Refusal>
 {
     let mut slot = 0;
     let mut count: u32 = 0;
+    // no `for`: a step passes over a whole tree
     while slot < n {
         let kids = kids_at(recs, slot);
         // a leaf has no inside to walk
@@ -164,6 +166,7 @@ pub fn check_labels(
     let mut at = slot;
     let mut left = count;
     let mut part = role;
+    // no `for`: siblings are counted, and a step passes over a whole tree
     while 0 < left {
         if !label_ok(recs, pool, at, part) {
             return Err(Refusal {
