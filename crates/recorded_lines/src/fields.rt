@@ -26,7 +26,8 @@ pub fn is_hex(text: &[u8]) -> bool {
     }
 }
 
-// Whether a field is of a kind: b bytes, w any word or number, = the sign.
+// Whether a field is of a kind: b bytes, w any word or number, = the sign. No enum: a line's form is one word as text, and a list of 13
+// cases as cases.
 fn fits(text: &[u8], kind: u8) -> bool {
     match kind {
         b'b' => is_hex(text),
