@@ -16,20 +16,13 @@ use plan::{
     Origin, PlanRows, edited_code, edited_flags, edited_name_len, origin_of, planned_name,
     put_bytes,
 };
-use record::{
-    Trees, attribute_at, code_at, flags_at, kind_at, name_from, name_len_at, word_bytes,
-};
+use record::{Trees, attribute_at, code_at, flags_at, kind_at, name_from, name_len_at, word_bytes};
 
 // The byte that stands for a kind.
 fn kind_byte(k: Kind) -> u8
     ensures { result ≡ kind_byte k }
 {
-    match k {
-        Kind::Primitive => 0,
-        Kind::Structure => 1,
-        Kind::Listing => 2,
-        Kind::Mapping => 3,
-    }
+    k as u8
 }
 
 // The 24 bytes of a record.
