@@ -1,4 +1,4 @@
-pub mod Numerals
+pub mod Counting
 pub mod Putting
 pub mod Climbing
 pub mod Showing

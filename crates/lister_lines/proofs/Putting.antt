@@ -1,11 +1,13 @@
--- The parts of a line, put into a buffer one behind another.
+-- Digits put into a buffer, and the sign before them; then the parts of a line, one behind another.
 use mathlib.Core.Path.{◌≡◌, refl, ◌∙◌}
 use mathlib.Core.List.{List, [], ◌∷◌, ◌++◌}
-use Prim.Native.Nat.{ℕ, ◌+◌}
+use Prim.Native.Nat.{ℕ, ◌+◌, ◌-◌, ◌%◌, ◌<◌, ◌≤◌}
 use native.Mathlib.Numerals.{add-one}
 use native.Mathlib.Omega.{arith}
-use lib.ListN.{length, get_or, set, length-append}
-use lib.Seq.{sets}
+use borrow.Author.Tests.{lt-ltb, le-ltb}
+use lib.ListN.{length, get_or, take, drop, set, length-append, length-drop}
+use lib.Seq.{sets, take-length}
+use Rattle.paper.specs.Bytes.{turned}
 use Rattle.paper.specs.Lister.{decimal, signed, parent_text, listing}
 use Rattle.paper.specs.Sound.{text}
 use Rattle.record.specs.declared.Refusal.{Refusal}
@@ -15,9 +17,34 @@ use Rattle.plan.specs.Table.{numbers}
 use Rattle.index_ids.specs.Ids.{id_in}
 use Rattle.index_ids.specs.Table.{ups_in}
 use Rattle.index_names.specs.Table.{full_in}
-use Rattle.lister_lines.specs.Digits.{Put}
+use Rattle.lister_lines.specs.declared.Digits.{Digits}
+use Rattle.lister_lines.specs.Digits.{Ends, Put}
 use Rattle.lister_lines.specs.Text.{above, line_start, line_at, refusal_text}
 use Rattle.plan.specs.declared.PlanRows.{PlanRows}
+
+pub put_whole : (text : List ℕ) (d : Digits) (at : ℕ) (out out' : List ℕ) → Ends text d → out' ≡ sets out at (take (10 - d.start) (drop d.start d.bytes)) → Put text at out (at + (10 - d.start)) out'
+put_whole text d at out out' h e =
+    let t = h.ten in
+    let l = length-drop d.start d.bytes in
+    let n : 10 - d.start ≡ length (drop d.start d.bytes) = omega arith in
+    record { bytes = e ∙ rw (n, take-length (drop d.start d.bytes), h.holds); end = rw (n, h.holds) }
+
+module _ (id at : ℕ) (out : List ℕ) (r : ℕ) (out' : List ℕ) where
+  pub signed_low : id < 2147483648 → Put (decimal id) at out r out' → Put (signed (turned id)) at out r out'
+  unfolding signed turned
+  signed_low l h =
+      let e : (id + 2147483648) % 4294967296 ≡ id + 2147483648 = omega arith in
+      let d : id + 2147483648 - 2147483648 ≡ id = omega arith in
+      rw (e, le-ltb (id + 2147483648) 2147483648 (omega arith), d) h
+
+  pub signed_high : (x : ℕ) → 2147483648 ≤ id → id < 4294967296 → x ≡ 4294967295 - id + 1 → Put (decimal x) (at + 1) (set out at 45) r out' → Put (signed (turned id)) at out r out'
+  unfolding signed turned
+  signed_high x l o ex h =
+      let e : (id + 2147483648) % 4294967296 ≡ id - 2147483648 = omega arith in
+      let d : 2147483648 - (id - 2147483648) ≡ x = omega arith in
+      let b = rw (add-one at) at h.bytes in
+      let n = h.end in
+      rw (e, lt-ltb (id - 2147483648) 2147483648 (omega arith), d) (record { bytes = b; end = omega arith })
 
 -- ---- one behind another
 

@@ -8,24 +8,40 @@ ghost use Rattle.paper.specs.Lister.{decimal, signed, parent_text, lister};
 ghost use Rattle.record.specs.Trees.{trees_in};
 ghost use Rattle.plan.specs.Table.{numbers};
 ghost use Rattle.index_names.specs.Table.{full_in};
-ghost use Rattle.lister_lines.specs.Digits.{Put};
+ghost use Rattle.lister_lines.specs.Digits.{Ends, Put};
 ghost use Rattle.lister_lines.specs.Text.{above, line_start, line_at, joined, refusal_text, Shown};
 
 use index::index_base;
 use index_ids::{LENS, UPS, cell};
 use index_order::Names;
-use itoa::Buffer;
 use plan::{PlanRows, name_of, put_bytes};
 use record::{Refusal, Trees};
 use tree::read_tree;
 
-// A text from `at` on, and the place behind it.
-fn put_text(out: &mut [u8], at: usize, text: &[u8]) -> usize
-    requires { at + length text.now ≤ length out.old }
-    ensures { Put text.now at out.old result out.new }
+// Decimal digits, at the end of ten bytes.
+#[derive(Clone, Copy)]
+struct Digits {
+    bytes: [u8; 10],
+    start: usize,
+}
+
+// The digits of a number.
+fn digits_of(number: u32) -> Digits
+    ensures { Ends (decimal number) result }
 {
-    put_bytes(out, at, text);
-    at + text.len()
+    let mut bytes = [48u8; 10];
+    let mut start: usize = 9;
+    let mut left = number;
+    while 10 <= left {
+        bytes[start] = (48 + left % 10) as u8;
+        if start == 0 {
+            return Digits { bytes, start };
+        }
+        start -= 1;
+        left /= 10;
+    }
+    bytes[start] = (48 + left) as u8;
+    Digits { bytes, start }
 }
 
 // A number in decimal from `at` on, and the place behind it.
@@ -34,8 +50,11 @@ fn put_decimal(out: &mut [u8], at: usize, number: u32) -> usize
     ensures { Put (decimal number) at out.old result out.new
         × (result ≤ at + 10) }
 {
-    let mut buffer = Buffer::new();
-    put_text(out, at, buffer.format(number).as_bytes())
+    let digits = digits_of(number);
+    let bytes = digits.bytes;
+    let start = digits.start;
+    put_bytes(out, at, &bytes[start..10]);
+    at + (10 - start)
 }
 
 // An id as the signed number that it is.
@@ -44,8 +63,11 @@ fn put_signed(out: &mut [u8], at: usize, id: u32) -> usize
     ensures { Put (signed (turned id)) at out.old result out.new
         × (result ≤ at + 11) }
 {
-    let mut buffer = Buffer::new();
-    put_text(out, at, buffer.format(id.cast_signed()).as_bytes())
+    if id < 2147483648 {
+        return put_decimal(out, at, id);
+    }
+    out[at] = 45;
+    put_decimal(out, at + 1, 4294967295 - id + 1)
 }
 
 // The full name of a slot from `at` on: its own name at the end, then the names above it, each before a dot.
@@ -67,7 +89,7 @@ fn put_full<'a>(names: &Names<'a>, slot: usize, out: &mut [u8], at: usize) -> us
             return stop;
         }
         end = from - 1;
-        out[end] = b'.';
+        out[end] = 46;
         here = up - 1;
     }
 }
@@ -79,7 +101,7 @@ fn put_parent(out: &mut [u8], at: usize, plan: &PlanRows, up: usize) -> usize
         out.old result out.new × (result ≤ at + 11) }
 {
     if up == 0 {
-        out[at] = b'-';
+        out[at] = 45;
         return at + 1;
     }
     put_signed(out, at, plan.numbers[up - 1])
@@ -92,11 +114,11 @@ fn put_numbers(out: &mut [u8], plan: &PlanRows, slot: usize, up: usize) -> usize
         out.new × (result ≤ 35) }
 {
     let a = put_decimal(out, 0, slot as u32);
-    out[a] = b' ';
+    out[a] = 32;
     let b = put_signed(out, a + 1, plan.numbers[slot]);
-    out[b] = b' ';
+    out[b] = 32;
     let c = put_parent(out, b + 1, plan, up);
-    out[c] = b' ';
+    out[c] = 32;
     c + 1
 }
 
@@ -139,9 +161,9 @@ fn put_refusal(refusal: Refusal, out: &mut [u8]) -> usize
     let a = put_decimal(out, 8, refusal.number);
     put_bytes(out, a, b" at ");
     let b = put_decimal(out, a + 4, refusal.list);
-    out[b] = b' ';
+    out[b] = 32;
     let c = put_decimal(out, b + 1, refusal.place);
-    out[c] = b'\n';
+    out[c] = 10;
     c + 1
 }
 

@@ -102,7 +102,10 @@ pub struct Base<'a> {
 }
 
 // Puts the first three inputs into the buffer, one after the other; answers them and the rest of it.
-pub fn decode_base<'a>(line: &[u8], buffer: &'a mut [u8]) -> (Base<'a>, &'a mut [u8]) {
+pub fn decode_base<'a>(line: &[u8], buffer: &'a mut [u8]) -> (Base<'a>, &'a mut [u8])
+    ensures { length result.0.records.now + (length result.0.pool.now + (length result.0.third.now
+        + length result.1.now)) ≡ length buffer.old }
+{
     let (records, rest) = decode(field(line, 2), buffer);
     let (pool, rest) = decode(field(line, 3), rest);
     let (third, rest) = decode(field(line, 4), rest);

@@ -33,3 +33,4 @@ pub mod Many
 pub mod Sites
 pub mod Folds
 pub mod Promises
+pub mod Rows

@@ -1,11 +1,11 @@
--- The library's signed numbers are the paper's ids.
-use mathlib.Core.Path.{◌∙◌}
+-- From 2^31 on the bits are those of a negative number.
 use native.Mathlib.Omega.{arith}
-use Rattle.lister_lines.proofs.Numerals.{put_signed}
+use Rattle.lister_lines.proofs.Putting.{signed_low, signed_high}
+use borrow.Author.Rules.{rules}
 use Rattle.lister_lines.proofs.put_signed.Goals as goal
 
+pub returns-then-id-lt2147483648 : goal.returns-then-id-lt2147483648
+returns-then-id-lt2147483648 c = (search (signed_low, rules), omega arith)
+
 pub returns : goal.returns
-returns c = (
-  put_signed _ _ _ _ _ c.put_text.ensures _ _ (omega arith) c.cast_signed.ensures (c.as_bytes.ensures.value ∙ c.format.ensures.text),
-  omega (arith, c.put_text.ensures.end, c.as_bytes.ensures.len, c.format.ensures.fits),
-)
+returns c = (search (signed_high, rules), omega arith)
