@@ -50,7 +50,7 @@ pub struct Given {
 // (`None`: it goes to the root list), its first slot in the additions tree, and the bits of its first id.
 #[derive(Clone, Copy)]
 pub struct Decisions {
-    pub drops: [u32; 64],
+    pub drops: [u64; 64],
     pub unders: [Option<u32>; 64],
     pub firsts: [usize; 64],
     pub starts: [u32; 64],

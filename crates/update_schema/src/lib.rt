@@ -87,7 +87,7 @@ impl<'a> Request<'a> {
             let path = path_at(self.trees.request_pool, self.lists.deletions, k);
             let found = look_name(self.trees, self.plan, self.given.base, self.index, path);
             let id = drop_one(found, self.lists.identifiers, k as u32)?;
-            decisions.drops[k] = id.0;
+            decisions.drops[k] = u64::from(id.0);
         }
         Ok(())
     }
