@@ -1,8 +1,21 @@
--- Bytes copied over a part of a row, said as a run that is set there.
-use Rattle.std.proofs.Common.{◌≡◌, ℕ, ◌+◌, ◌≤◌, List, length, append_assoc}
-use Rattle.std.proofs.lemmas.List.Edits.{sets, sets-eq}
-use Rattle.std.proofs.lemmas.List.{drop-drop}
-use borrow.Rule.Slice.PartMut.{put_mid}
+-- Bytes one after another, `search putting`.
+use Prim.Native.Nat.{ℕ, suc, ◌+◌, ◌<◌, ◌≤◌}
+use mathlib.Core.Path.{◌≡◌, sym, ap, ◌∙◌}
+use mathlib.Core.List.{List}
+use native.Mathlib.Nat.{add-zero}
+use native.Mathlib.Numerals.{add-one}
+use native.Mathlib.Omega.{arith}
+use lib.ListN.{length, set, drop, get_or}
+use lib.Seq.{sets, drop-cons, drop-length}
 
-pub mid_set : (at k : ℕ) (out src copy : List ℕ) → copy ≡ src → k ≡ length src → at + length src ≤ length out → put_mid at k out copy ≡ sets out at src
-mid_set at k out src copy e q h = rw (e, q, sets-eq src out at h, append_assoc, drop-drop)
+module _ (W : List ℕ) (at : ℕ) (src : List ℕ) (i : ℕ) (out : List ℕ) (e : W ≡ sets out (at + i) (drop i src)) where
+  pub put_goes : (n : ℕ) → n ≡ length src → i < n → W ≡ sets (set out (at + i) (get_or src i 0)) (at + (i + 1)) (drop (i + 1) src)
+  put_goes n en l = let d : at + (i + 1) ≡ suc (at + i) = omega arith in e ∙ rw (d, add-one i, drop-cons src i 0 (omega arith))
+
+  pub put_ends : (n : ℕ) → n ≡ length src → n ≤ i → i ≤ n → out ≡ W
+  put_ends n en l l' = let d : i ≡ length src = omega arith in sym (e ∙ ap (λ (z : List ℕ). sets out (at + i) z) (ap (λ (z : ℕ). drop z src) d ∙ drop-length src))
+
+pub put_starts : (at : ℕ) (src out : List ℕ) → sets out at src ≡ sets out (at + 0) (drop 0 src)
+put_starts at src out = rw (add-zero at)
+
+pub ruleset putting = (put_starts, put_goes, put_ends)

@@ -2,14 +2,19 @@
 use Prim.Native.Nat.{ℕ}
 use mathlib.Core.Path.{◌≡◌, ◌∙◌}
 use mathlib.Core.List.{List, map}
+use lib.ListN.{length-replicate}
 use lib.Seq.{sets, length-sets}
 use Rattle.paper.specs.Forest.{Forest, preorder, counts}
 use Rattle.paper.specs.Bytes.{kids_at, from}
 use Rattle.tree.specs.Read.{itself}
 use Rattle.plan.specs.Plan.{Source, slot_of, bits_of}
 use Rattle.plan.specs.Sources.{id_bits}
-use Rattle.plan.specs.Table.{sources, numbers, members, Roomy, LaidIn, CopiedIn}
+use Rattle.plan.specs.Table.{sources, numbers, members, Roomy, no_rows, LaidIn, CopiedIn}
 use Rattle.plan.specs.declared.PlanRows.{PlanRows}
+
+pub roomy_fresh : Roomy no_rows
+unfolding no_rows
+roomy_fresh = let e = length-replicate {A = ℕ} 1024 0 in record { sources_room = e; numbers_room = e; members_room = e }
 
 module _ (i : ℕ) (plan plan' : PlanRows) where
   stored_roomy : (xs is ks : List ℕ) → sources plan' ≡ sets (sources plan) i xs → numbers plan' ≡ sets (numbers plan) i is → members plan' ≡ sets (members plan) i ks → Roomy plan → Roomy plan'

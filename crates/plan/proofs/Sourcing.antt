@@ -1,7 +1,7 @@
 -- A planned record is the base's, the additions' or the base's as edits leave it.
-use Prim.Native.Nat.{ℕ, ◌+◌, ◌-◌, ◌/◌, ◌<◌, ◌≤◌}
-use mathlib.Core.Path.{◌≡◌}
-use mathlib.Core.Bool.{true, false}
+use Prim.Native.Nat.{ℕ, zero, suc, ◌+◌, ◌-◌, ◌/◌, ◌<◌, ◌≤◌}
+use mathlib.Core.Path.{◌≡◌, sym, ◌∙◌}
+use mathlib.Core.Bool.{Bool, true, false, true≢false}
 use mathlib.Core.Logic.{⊎_elim}
 use mathlib.Core.List.{List}
 use native.Mathlib.Omega.{arith}
@@ -11,7 +11,9 @@ use lib.ListN.{length, drop, length-drop}
 use lib.Seq.{length-take-le}
 use denote.Ref.{Bor}
 use Rattle.paper.specs.Bytes.{rec_at, name_of, in_pool, field_at}
+use Rattle.paper.specs.Field.{is_required}
 use Rattle.paper.specs.Lists.{edit_at, edit_in, new_name}
+use Rattle.paper.specs.Edits.{relaxed}
 use Rattle.tree.proofs.Filled.{lt_or_le}
 use Rattle.record.specs.declared.Trees.{Trees as LentTrees}
 use Rattle.record.specs.Trees.{Trees, trees_in}
@@ -103,3 +105,21 @@ module _ (l : Trees) (x : ℕ) where
       (λ b. rw (lt-ltb x 1024 b, name_length l.pool l.records x (h.base_named b)))
       (λ b c. rw (le-ltb x 1024 b, lt-ltb x 2048 c, name_length l.request_pool l.added_records (x - 1024) (h.added_named b c)))
       (λ b c. rw (le-ltb x 1024 b, le-ltb x 2048 c) (marked_length l (mark_of x) (edited_slot x) (h.edited_named c) (h.renamed_what c) (h.renamed_named c)))
+
+-- ---- what a relaxing leaves of the flags
+
+module _ (flags : ℕ) (b : Bool) (e : b ≡ is_required flags) where
+  pub required_some : b ≡ true → 1 ≤ flags
+  required_some q = go flags (sym e ∙ q)
+    where
+      go : (flags : ℕ) → is_required flags ≡ true → 1 ≤ flags
+      go zero h = absurd (true≢false (sym h))
+      go (suc flags) h = omega arith
+
+  pub relaxed_less : b ≡ true → flags - 1 ≡ relaxed flags
+  relaxed_less q = rw (← e, q)
+
+  pub relaxed_same : b ≡ false → flags ≡ relaxed flags
+  relaxed_same q = rw (← e, q)
+
+pub ruleset relaxing = (required_some, relaxed_less, relaxed_same)

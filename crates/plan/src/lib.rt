@@ -266,9 +266,13 @@ pub fn names_fit<'a>(trees: &Trees<'a>, plan: &PlanRows, m: usize) -> bool
 }
 
 // The bytes of `src` into `out` from `at` on; the rest of `out` stays.
+#[tactic(auto, using(crate::proofs::Putting::putting))]
 pub fn put_bytes(out: &mut [u8], at: usize, src: &[u8])
     requires { at + length src.now ≤ length out.old }
     ensures { out.new ≡ sets out.old at src.now }
 {
-    out[at..at + src.len()].copy_from_slice(src);
+    // no `copy_from_slice`: for that the archive would need the C library's memmove
+    for i in 0..src.len() {
+        out[at + i] = src[i];
+    }
 }

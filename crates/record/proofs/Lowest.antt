@@ -1,4 +1,4 @@
--- A loop that looks for the lowest place at which a test fails, i counting up to n. W is the whole answer.
+-- A loop that looks for the lowest place at which a test fails, i counting up to n: `search looking`. W is the whole answer.
 use Rattle.std.proofs.Common.{◌≡◌, ℕ, zero, suc, ◌+◌, ◌-◌, ◌<◌, ◌≤◌, Bool, true, false, not, sym, refl, ap, ◌∙◌, add-zero, suc-add, zero-add, add-one, arith}
 use mathlib.Core.Option.{Option, none, some}
 use borrow.Author.Tests.{not-true, not-false}
@@ -55,3 +55,5 @@ module _ (t : ℕ → Bool) where
   pub look_ends : (number li : ℕ) (W : Option ℕ) (i n : ℕ) → W ≡ lowest t i (n - i) → n ≤ i → (Ok tt) ≡ tested number li W
   unfolding lowest tested
   look_ends number li W i n e l = let d : n - i ≡ 0 = omega arith in rw (e, d)
+
+pub ruleset looking = (look_starts, look_from, look_goes, look_stops, look_ends)

@@ -92,7 +92,7 @@ pub fn verdict_on(agrees: bool) -> Verdict {
 }
 
 // The lines so far, the cases of each operation, and how many agree and differ.
-#[derive(Drop)]
+#[derive(Clone, Copy)]
 pub struct Tally {
     lines: u64,
     cases: [u64; 9],

@@ -33,4 +33,3 @@ pub mod Many
 pub mod Sites
 pub mod Folds
 pub mod Promises
-pub mod Rows

@@ -91,7 +91,7 @@ pub fn place_at_root(
     found: Option<(FieldId, Slot)>,
     place: u32,
     dropped: &Dropped,
-) -> Result<Option<u32>, Refusal>
+) -> Result<Option<u64>, Refusal>
     ensures { AtRoot found (dropped_ids dropped.now) place result }
 {
     let Some((id, _)) = found else {
@@ -132,7 +132,7 @@ impl<'a> Base<'a> {
 
     // The struct at a slot takes an addition unless it goes (refusal 22), or the name is taken in it (17).
     #[tactic(auto, using(crate::proofs::Placing::joining))]
-    fn join(&self, slot: usize, name: &[u8], place: u32) -> Result<Option<u32>, Refusal>
+    fn join(&self, slot: usize, name: &[u8], place: u32) -> Result<Option<u64>, Refusal>
         requires { Sited self.now.pool.now self.now.records.now self.now.n slot
             × Rises self.now.records.now self.now.n (ups_in self.now.index.now) }
         ensures { result ≡ goes (under_place self.now.pool.now self.now.records.now self.now.n slot
@@ -154,7 +154,7 @@ impl<'a> Base<'a> {
                 place,
             });
         }
-        Ok(Some(id_bits_at(self.records, slot)))
+        Ok(Some(u64::from(id_bits_at(self.records, slot))))
     }
 
     // An addition under a parent goes to the struct that its path leads to by one step, told by the bits of its id: refusals 15 (no
@@ -164,7 +164,7 @@ impl<'a> Base<'a> {
         found: Option<(FieldId, Slot)>,
         name: &[u8],
         place: u32,
-    ) -> Result<Option<u32>, Refusal>
+    ) -> Result<Option<u64>, Refusal>
         requires { FoundSited self.now.pool.now self.now.records.now self.now.n found
             × Rises self.now.records.now self.now.n (ups_in self.now.index.now) }
         ensures { UnderParent found self.now.pool.now self.now.records.now self.now.n

@@ -63,6 +63,7 @@ pub fn edit_columns<'a>(
     if given.edits == 0 {
         return Ok(());
     }
-    let dropped = Dropped::gather(&decisions.drops, given.deletions);
+    let mut dropped = Dropped::none();
+    dropped.fill(&decisions.drops, given.deletions);
     edit_all(trees, given, plan, index, &dropped, marks)
 }

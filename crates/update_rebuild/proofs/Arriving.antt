@@ -2,7 +2,7 @@
 use mathlib.Core.Path.{◌≡◌, refl, sym, ap, ◌∙◌}
 use mathlib.Core.Bool.{Bool, true, false, not}
 use mathlib.Core.List.{List}
-use Prim.Native.Nat.{ℕ, ◌+◌, ◌-◌, ◌<◌, ◌≤◌}
+use Prim.Native.Nat.{ℕ, ◌+◌, ◌-◌, ◌%◌, ◌<◌, ◌≤◌}
 use native.Mathlib.Omega.{arith}
 use borrow.Author.Tests.{eq-eqb, eqb-true, ne_eqb, not-true, not-false}
 use lib.Dec.{eqb}
@@ -35,6 +35,11 @@ same_as (Some x) (Some y) h g = go (eqb x y) refl
     go : (b : Bool) → eqb x y ≡ b → eqb (turned x) (turned y) ≡ b
     go true e = let z = eqb-true x y e in eq-eqb (turned x) (turned y) (ap turned z)
     go false e = ne_eqb (turned x) (turned y) (λ d. let z : eqb x y ≡ true = eq-eqb x y (sym (turned_twice x (h x refl)) ∙ ap turned d ∙ turned_twice y (g y refl)) in let t : true ≡ false = sym z ∙ e in let w : ◌≡◌ {A = ℕ} 0 1 = cc in omega arith)
+
+-- Of a first id the low 32 bits count.
+low_tree : (added : List ℕ) (n k x : ℕ) → added_tree added n k (x % 4294967296) ≡ added_tree added n k x
+unfolding added_tree turned
+low_tree added n k x = let e : (x % 4294967296 + 2147483648) % 4294967296 ≡ (x + 2147483648) % 4294967296 = omega arith in rw e
 
 module _ (added : List ℕ) (n : ℕ) (unders : List Under) (firsts starts : List ℕ) (total : ℕ) (q : Under) where
   abbrev at_place : ℕ → Addition Source
@@ -79,9 +84,9 @@ module _ (added : List ℕ) (n : ℕ) (unders : List Under) (firsts starts : Lis
       pub all_done : total ≤ j → Planned all 0 past lv i c v plan (Some here) p₁
       all_done l = onward_done h.on (rest_none j l) refl
 
-      module _ (k id : ℕ) (r : Step) (p₂ : PlanRows) (f : Resolved added n unders firsts total) (hq : Word q) (l : j < total) {b : Bool} (eb : b ≡ not (option_eq eqb (get_or unders j None) q)) (e : b ≡ false) (ek : k ≡ get_or firsts j 0) (ei : id ≡ get_or starts j 0) (p : Planned (added_tree added n k id) 0 here.next lv here.at here.count here.visited p₁ r p₂) where
+      module _ (k id : ℕ) (r : Step) (p₂ : PlanRows) (f : Resolved added n unders firsts total) (hq : Word q) (l : j < total) {b : Bool} (eb : b ≡ not (option_eq eqb (get_or unders j None) q)) (e : b ≡ false) (ek : k ≡ get_or firsts j 0) (ei : id ≡ get_or starts j 0 % 4294967296) (p : Planned (added_tree added n k id) 0 here.next lv here.at here.count here.visited p₁ r p₂) where
         first : arriving_from j ≡ added_tree added n k id then arriving_from (j + 1)
-        first = rw (ek, ei) (rest_here j l (f.under j l) hq (not-false _ (sym eb ∙ e)))
+        first = rw (ek, ei, low_tree added n (get_or firsts j 0) (get_or starts j 0)) (rest_here j l (f.under j l) hq (not-false _ (sym eb ∙ e)))
 
         pub all_goes : (w : Place) → r ≡ Some w → Rest (j + 1) w p₂
         all_goes w er =

@@ -29,7 +29,7 @@ ghost use Rattle.update_rebuild.specs.Planned.{
 
 use paper::is_struct;
 use plan::{PlanRows, put_planned};
-use record::{Siblings, id_bits_at, kids_at, kind_at};
+use record::{Siblings, id_bits_at, kids_at, kind_at, low_32};
 use tree::{row_end, tree_end};
 use update_dropped::Dropped;
 
@@ -51,9 +51,9 @@ pub struct Given {
 #[derive(Clone, Copy)]
 pub struct Decisions {
     pub drops: [u64; 64],
-    pub unders: [Option<u32>; 64],
+    pub unders: [Option<u64>; 64],
     pub firsts: [usize; 64],
-    pub starts: [u32; 64],
+    pub starts: [u64; 64],
 }
 
 impl Decisions {
@@ -97,7 +97,7 @@ pub struct Place {
 #[derive(Clone, Copy)]
 pub struct Under {
     pub opens: bool,
-    pub q: Option<u32>,
+    pub q: Option<u64>,
 }
 
 // What the rebuild asks of a record: its id, how many members it has, and what they stand under.
@@ -118,7 +118,7 @@ fn head_at(recs: &[u8], slot: usize) -> Head
         members: kids_at(recs, slot),
         under: Under {
             opens: is_struct(kind_at(recs, slot)),
-            q: Some(id),
+            q: Some(u64::from(id)),
         },
     }
 }
@@ -217,7 +217,7 @@ impl<'a> Rebuilder<'a> {
     // The additions under q, in entry order.
     fn add_all(
         &self,
-        q: Option<u32>,
+        q: Option<u64>,
         levels: usize,
         plan: &mut PlanRows,
         place: Place,
@@ -234,7 +234,7 @@ impl<'a> Rebuilder<'a> {
                 continue;
             }
             let first = self.decisions.firsts[j];
-            let start = self.decisions.starts[j];
+            let start = low_32(self.decisions.starts[j]);
             here = add_tree(
                 self.added,
                 self.given.added,

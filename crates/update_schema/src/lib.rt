@@ -35,7 +35,7 @@ use update_rebuild::{Decisions, Given};
 // An addition that is accepted: where it goes, the bits of its first id, the last id consumed, and the slot behind its column.
 #[derive(Clone, Copy)]
 pub struct Spot {
-    pub under: Option<u32>,
+    pub under: Option<u64>,
     pub start: u32,
     pub last: u64,
     pub next: usize,
@@ -56,7 +56,7 @@ fn number(
     added: &[u8],
     m: usize,
     slot: usize,
-    under: Option<u32>,
+    under: Option<u64>,
     place: u32,
     last: u64,
 ) -> Result<Spot, Refusal>
@@ -93,7 +93,7 @@ impl<'a> Request<'a> {
     }
 
     // Where the addition k goes, whose column is at a slot of the additions tree: refusals 15, 16, 22, 17.
-    fn find_place(&self, k: usize, slot: usize, dropped: &Dropped) -> Result<Option<u32>, Refusal>
+    fn find_place(&self, k: usize, slot: usize, dropped: &Dropped) -> Result<Option<u64>, Refusal>
         requires { Asked (trees_in self.now.trees.now) (lists_in self.now.lists.now)
             self.now.given self.now.plan.now self.now.index.now
             × AdditionIn (trees_in self.now.trees.now)
@@ -167,7 +167,7 @@ impl<'a> Request<'a> {
             let spot = self.place_one(last, k, slot, dropped)?;
             decisions.unders[k] = spot.under;
             decisions.firsts[k] = slot;
-            decisions.starts[k] = spot.start;
+            decisions.starts[k] = u64::from(spot.start);
             slot = spot.next;
             last = spot.last;
         }
@@ -198,6 +198,7 @@ pub fn decide_changes<'a>(
         index,
     };
     request.drop_columns(decisions)?;
-    let dropped = Dropped::gather(&decisions.drops, given.deletions);
+    let mut dropped = Dropped::none();
+    dropped.fill(&decisions.drops, given.deletions);
     request.place_columns(&dropped, decisions)
 }

@@ -80,7 +80,8 @@ pub fn write_rebuilt<'a, 'b>(
         place: 0,
     };
     // plan
-    let dropped = Dropped::gather(&changes.decisions.drops, given.deletions);
+    let mut dropped = Dropped::none();
+    dropped.fill(&changes.decisions.drops, given.deletions);
     let rebuilder = Rebuilder {
         records: trees.records,
         added: trees.added_records,

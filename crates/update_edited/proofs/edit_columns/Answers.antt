@@ -6,4 +6,4 @@ pub returns-then-given-eq0 : goal.returns-then-given-eq0
 returns-then-given-eq0 c = none_asked _ _ _ _ _ c.requires _ c.if-given-eq0.true
 
 pub returns : goal.returns
-returns c = behind _ _ _ _ _ c.requires _ _ _ _ c.if-given-eq0.false c.gather-dropped.ensures c.edit_all.ensures
+returns c = behind _ _ _ _ _ c.requires _ _ _ _ c.if-given-eq0.false c.fill.ensures c.edit_all.ensures

@@ -15,7 +15,7 @@ pub returns-in_err-spot : goal.returns-in_err-spot
 returns-in_err-spot c = let p = err_from_is_err_and c.from_residual.result c.from_residual.ensures.1 in rw (p.1, p.2) record { places = place_stops _ _ _ _ _ _ _ _ _ _ _ _ _ _ c.loop-k.invariant.holds c.loop-k-test.true _ _ _ _ _ c.place_one.ensures c.in_err-spot.was; same_drops = c.loop-k.invariant.same_drops }
 
 pub loop-k-preserved : goal.loop-k-preserved
-loop-k-preserved c = let o = c.loop-k in let v = o.invariant in let r = v.room in place_stored (Placing _ _ _ _ _ _ _ _ _ _ _) _ o.decisions o.k c.in_ok-spot.spot.under _ _ r v.same_drops (place_goes _ _ _ _ _ _ _ _ _ _ _ _ _ _ v.holds c.loop-k-test.true _ _ _ (r.unders_room, r.firsts_room, r.starts_room) c.requires.0.columns c.place_one.ensures c.in_ok-spot.was refl)
+loop-k-preserved c = let o = c.loop-k in let v = o.invariant in let r = v.room in place_stored (Placing _ _ _ _ _ _ _ _ _ _ _) _ o.decisions o.k c.in_ok-spot.spot.under _ _ r v.same_drops (place_goes _ _ _ _ _ _ _ _ _ _ _ _ _ _ v.holds c.loop-k-test.true _ _ _ (r.unders_room, r.firsts_room, r.starts_room) c.requires.0.columns c.place_one.ensures c.in_ok-spot.was c.from.ensures)
 
 pub returns : goal.returns
 returns c = record { places = place_ends _ _ _ _ _ _ _ _ _ _ _ _ _ _ c.loop-k.invariant.holds c.loop-k-test.false; same_drops = c.loop-k.invariant.same_drops }
