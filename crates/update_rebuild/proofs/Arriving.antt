@@ -37,7 +37,7 @@ same_as (Some x) (Some y) h g = go (eqb x y) refl
     go false e = ne_eqb (turned x) (turned y) (λ d. let z : eqb x y ≡ true = eq-eqb x y (sym (turned_twice x (h x refl)) ∙ ap turned d ∙ turned_twice y (g y refl)) in let t : true ≡ false = sym z ∙ e in let w : ◌≡◌ {A = ℕ} 0 1 = cc in omega arith)
 
 -- Of a first id the low 32 bits count.
-low_tree : (added : List ℕ) (n k x : ℕ) → added_tree added n k (x % 4294967296) ≡ added_tree added n k x
+pub low_tree : (added : List ℕ) (n k x : ℕ) → added_tree added n k (x % 4294967296) ≡ added_tree added n k x
 unfolding added_tree turned
 low_tree added n k x = let e : (x % 4294967296 + 2147483648) % 4294967296 ≡ (x + 2147483648) % 4294967296 = omega arith in rw e
 
@@ -84,9 +84,9 @@ module _ (added : List ℕ) (n : ℕ) (unders : List Under) (firsts starts : Lis
       pub all_done : total ≤ j → Planned all 0 past lv i c v plan (Some here) p₁
       all_done l = onward_done h.on (rest_none j l) refl
 
-      module _ (k id : ℕ) (r : Step) (p₂ : PlanRows) (f : Resolved added n unders firsts total) (hq : Word q) (l : j < total) {b : Bool} (eb : b ≡ not (option_eq eqb (get_or unders j None) q)) (e : b ≡ false) (ek : k ≡ get_or firsts j 0) (ei : id ≡ get_or starts j 0 % 4294967296) (p : Planned (added_tree added n k id) 0 here.next lv here.at here.count here.visited p₁ r p₂) where
+      module _ (k id : ℕ) (r : Step) (p₂ : PlanRows) (f : Resolved added n unders firsts total) (hq : Word q) (l : j < total) {b : Bool} (eb : b ≡ not (option_eq eqb (get_or unders j None) q)) (e : b ≡ false) (ek : k ≡ get_or firsts j 0) (ei : id ≡ get_or starts j 0) (p : Planned (added_tree added n k id) 0 here.next lv here.at here.count here.visited p₁ r p₂) where
         first : arriving_from j ≡ added_tree added n k id then arriving_from (j + 1)
-        first = rw (ek, ei, low_tree added n (get_or firsts j 0) (get_or starts j 0)) (rest_here j l (f.under j l) hq (not-false _ (sym eb ∙ e)))
+        first = rw (ek, ei) (rest_here j l (f.under j l) hq (not-false _ (sym eb ∙ e)))
 
         pub all_goes : (w : Place) → r ≡ Some w → Rest (j + 1) w p₂
         all_goes w er =
@@ -96,10 +96,21 @@ module _ (added : List ℕ) (n : ℕ) (unders : List Under) (firsts starts : Lis
         pub all_stops : r ≡ None → Planned all 0 past lv i c v plan None p₂
         all_stops er = onward_stops h.on (added_tree added n k id) (arriving_from (j + 1)) first (full_over p er)
 
+      -- the same of an addition that begins at the low 32 bits of its first id
+      module _ (k id : ℕ) (r : Step) (p₂ : PlanRows) (f : Resolved added n unders firsts total) (hq : Word q) (l : j < total) {b : Bool} (eb : b ≡ not (option_eq eqb (get_or unders j None) q)) (e : b ≡ false) (ek : k ≡ get_or firsts j 0) (ei : id ≡ get_or starts j 0 % 4294967296) (p : Planned (added_tree added n k id) 0 here.next lv here.at here.count here.visited p₁ r p₂) where
+        whole : Planned (added_tree added n k (get_or starts j 0)) 0 here.next lv here.at here.count here.visited p₁ r p₂
+        whole = rw (← low_tree added n k (get_or starts j 0), ← ei) p
+
+        pub low_goes : (w : Place) → r ≡ Some w → Rest (j + 1) w p₂
+        low_goes = all_goes k (get_or starts j 0) r p₂ f hq l eb e ek refl whole
+
+        pub low_stops : r ≡ None → Planned all 0 past lv i c v plan None p₂
+        low_stops = all_stops k (get_or starts j 0) r p₂ f hq l eb e ek refl whole
+
 pub resolved_first : (added : List ℕ) (n : ℕ) (unders : List Under) (firsts : List ℕ) (total j k : ℕ) → Resolved added n unders firsts total → j < total → k ≡ get_or firsts j 0 → k ≤ n
 resolved_first added n unders firsts total j k h l e = rw e (h.first j l)
 
 pub resolved_tree : (added : List ℕ) (n : ℕ) (unders : List Under) (firsts : List ℕ) (total j k : ℕ) → Resolved added n unders firsts total → j < total → k ≡ get_or firsts j 0 → reads 1 (kids_at added) n 16 1 k ≡ true
 resolved_tree added n unders firsts total j k h l e = rw e (h.tree j l)
 
-pub ruleset arrivals = (resolved_first, resolved_tree, all_starts, all_skips, all_done, all_goes, all_stops)
+pub ruleset arrivals = (resolved_first, resolved_tree, all_starts, all_skips, all_done, all_goes, all_stops, low_goes, low_stops)
